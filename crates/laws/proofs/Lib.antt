@@ -1,0 +1,4 @@
+pub mod Xor
+pub mod Bits
+pub mod Shifts
+pub mod Tables

@@ -1,0 +1,14 @@
+-- What the machine's shifts give where nothing is lost.
+-- Assumes nothing.
+use mathlib.Core.Path.{_≡_, ap, _∙_}
+use Prim.Native.Nat.{ℕ, _+_, _*_, _%_, _^_, _≤_, _<_}
+use native.Mathlib.Nat.{one-mul, mod-eq-of-lt, lt-of-lt-of-le}
+use lib.Pow.{pow-lt, pow-mono, shl-lt}
+
+-- `1 << w` in a word of n bits
+pub power : (n : ℕ) {w : ℕ} → w < n → 1 * 2 ^ w % 2 ^ n ≡ 2 ^ w
+power n {w} h = ap (λ (x : ℕ). x % 2 ^ n) (one-mul (2 ^ w)) ∙ mod-eq-of-lt (pow-lt h)
+
+-- a number of w bits moved up k places, in a word of n bits
+pub up-fits : (w k n : ℕ) {r : ℕ} → w + k ≤ n → r < 2 ^ w → r * 2 ^ k < 2 ^ n
+up-fits w k n h hr = lt-of-lt-of-le (shl-lt w k hr) (pow-mono h)

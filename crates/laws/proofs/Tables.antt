@@ -1,0 +1,18 @@
+-- What stands at each place of a table of a function's values: one law, where the table itself is compared whole.
+-- Assumes nothing.
+use mathlib.Core.Path.{_≡_, refl, sym, ap, _∙_}
+use mathlib.Core.List.{List, [], _∷_}
+use Prim.Native.Nat.{ℕ, zero, suc, _+_, _<_}
+use native.Mathlib.Nat.{add-zero, zero-add, add-suc, suc-add}
+use native.Mathlib.Omega.{arith}
+use lib.ListN.{length, getD}
+use Rattle.laws.specs.Tables.{tabulate}
+
+from : (f : ℕ → ℕ) (i n k : ℕ) → k < n → getD (tabulate f i n) k 0 ≡ f (i + k)
+unfolding tabulate
+from f i zero k h = absurd (omega arith)
+from f i (suc n) zero h = ap f (sym (add-zero i))
+from f i (suc n) (suc k) h = from f (suc i) n k (omega arith) ∙ ap f (suc-add i k ∙ sym (add-suc i k))
+
+pub at-each : (f : ℕ → ℕ) (n k : ℕ) → k < n → getD (tabulate f 0 n) k 0 ≡ f k
+at-each f n k h = from f 0 n k h ∙ ap f (zero-add k)

@@ -1,0 +1,32 @@
+-- Bits: of a number, of a byte string, and exclusive or. A bit is a Bool, true for 1.
+-- Assumes nothing.
+use mathlib.Core.Bool.{Bool, xor}
+use mathlib.Core.List.{List, [], _∷_, _++_}
+use Prim.Native.Nat.{ℕ, zero, suc, _/_, _%_, _^_}
+use lib.Bits.{bitXor}
+use lib.Dec.{eqb}
+
+infixl 60 _⊕_
+-- exclusive or, place by place: what the code's `^` does
+unfoldable pub _⊕_ : ℕ → ℕ → ℕ
+a ⊕ b = bitXor a b
+
+-- the last bit of a number
+unfoldable pub odd : ℕ → Bool
+odd n = eqb (n % 2) 1
+
+-- the k low bits of a number, most significant first
+unfoldable pub bitsOf : ℕ → ℕ → List Bool
+bitsOf zero n = []
+bitsOf (suc k) n = odd (n / 2 ^ k) ∷ bitsOf k n
+
+-- the bits of a byte string: eight for each byte, the first byte's first
+unfoldable pub bitsOfBytes : List ℕ → List Bool
+bitsOfBytes [] = []
+bitsOfBytes (b ∷ bs) = bitsOf 8 b ++ bitsOfBytes bs
+
+-- two strings of bits, of one length, added place by place
+unfoldable pub xorBits : List Bool → List Bool → List Bool
+xorBits [] cs = []
+xorBits (b ∷ bs) [] = []
+xorBits (b ∷ bs) (c ∷ cs) = xor b c ∷ xorBits bs cs

@@ -1,0 +1,6 @@
+pub mod Remainder
+pub mod Along
+pub mod ManyBits
+pub mod Undone
+pub mod ByTable
+pub mod CheckWords

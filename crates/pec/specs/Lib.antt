@@ -1,0 +1,3 @@
+pub mod Remainder
+pub mod ByTable
+pub mod Words

@@ -1,0 +1,131 @@
+// The two check words of document 01, and what is sent of them.
+ghost use mathlib.Core.Path.{_≡_};
+ghost use mathlib.Core.List.{_++_};
+ghost use Prim.Native.Nat.{_+_, _^_, _≤_, _<_};
+ghost use lib.ListN.{length};
+ghost use Rattle.laws.specs.Bits.{bitsOf, bitsOfBytes};
+ghost use Rattle.pec.specs.Remainder.{remainder};
+ghost use Rattle.pec.specs.Words.{
+  twoBytes,
+  wordAt,
+  pec15,
+  commandCheck,
+  commandRight,
+  polynomial10,
+  pec10,
+  dataPec,
+  seal,
+  payloadRight,
+};
+use crate::bit_by_bit;
+use crate::tables::PEC10;
+use crate::tables::PEC15;
+use crate::through_table;
+
+const POLYNOMIAL_15: u16 = 0x4599;
+
+const POLYNOMIAL_10: u16 = 0x08f;
+
+const START: u16 = 16;
+
+// A 16-bit number as it is sent, the high byte first.
+fn two_bytes(n: u16) -> [u8; 2]
+    ensures { λ r. ⌜ r ≡ twoBytes n ⌝ }
+{
+    [(n / 256) as u8, (n % 256) as u8]
+}
+
+// The 16-bit number that stands at i, the high byte first.
+fn word_at(bytes: &[u8], i: usize) -> u16
+    requires { ⌜ i + 1 < length (now bytes) ⌝ }
+    ensures { λ r. ⌜ r ≡ wordAt (now (bytes .entry)) i ⌝ }
+{
+    (bytes[i] as u16) * 256 + (bytes[i + 1] as u16)
+}
+
+// The 15-bit remainder of a byte string, bit by bit.
+pub fn pec15_bitwise(bytes: &[u8]) -> u16
+    ensures { λ r. ⌜ r ≡ pec15 (now (bytes .entry)) ⌝ }
+{
+    bit_by_bit::over_bytes(15, POLYNOMIAL_15, START, bytes)
+}
+
+// The 15-bit remainder of a byte string, through the table.
+pub fn pec15_by_table(bytes: &[u8]) -> u16
+    ensures { λ r. ⌜ r ≡ pec15 (now (bytes .entry)) ⌝ }
+{
+    through_table::over_bytes(15, POLYNOMIAL_15, &PEC15, START, bytes)
+}
+
+// The 10-bit remainder of a byte string, bit by bit.
+pub fn pec10_bitwise(bytes: &[u8]) -> u16
+    ensures { λ r. ⌜ r ≡ pec10 (now (bytes .entry)) ⌝ }
+{
+    bit_by_bit::over_bytes(10, POLYNOMIAL_10, START, bytes)
+}
+
+// The 10-bit remainder of a byte string and then of k bits x, through the table. A table is copied where it is named,
+// so it is named once and lent to both steps.
+fn pec10_and_bits(bytes: &[u8], k: u16, x: u16) -> u16
+    requires { ⌜ (k ≤ 8) × (x < 2 ^ k) ⌝ }
+    ensures { λ r. ⌜ r ≡ remainder 10 polynomial10 16 (bitsOfBytes (now (bytes .entry)) ++ bitsOf k x) ⌝ }
+{
+    let table = &PEC10;
+    let r = through_table::over_bytes(10, POLYNOMIAL_10, table, START, bytes);
+    through_table::step_bits(10, POLYNOMIAL_10, table, k, r, x)
+}
+
+// The 10-bit remainder of a byte string, through the table.
+pub fn pec10_by_table(bytes: &[u8]) -> u16
+    ensures { λ r. ⌜ r ≡ pec10 (now (bytes .entry)) ⌝ }
+{
+    pec10_and_bits(bytes, 0, 0)
+}
+
+// The two bytes sent after a command code.
+pub fn command_check(code: u16) -> [u8; 2]
+    ensures { λ r. ⌜ r ≡ commandCheck code ⌝ }
+{
+    let command = two_bytes(code);
+    let check = pec15_by_table(&command);
+    two_bytes(check * 2)
+}
+
+// Are four bytes a command and its check?
+pub fn command_right(four: &[u8]) -> bool
+    ensures { λ r. ⌜ r ≡ commandRight (now (four .entry)) ⌝ }
+{
+    if four.len() != 4 {
+        return false;
+    }
+    let sent = word_at(four, 2);
+    let check = pec15_by_table(&four[..2]);
+    sent == check * 2
+}
+
+// The 10-bit remainder of a byte string and then the six bits of a counter.
+pub fn data_pec(bytes: &[u8], counter: u8) -> u16
+    ensures { λ r. ⌜ r ≡ dataPec (now (bytes .entry)) counter ⌝ }
+{
+    pec10_and_bits(bytes, 6, (counter % 64) as u16)
+}
+
+// Bytes seven and eight of a payload.
+pub fn seal(bytes: &[u8], counter: u8) -> [u8; 2]
+    ensures { λ r. ⌜ r ≡ seal (now (bytes .entry)) counter ⌝ }
+{
+    let check = data_pec(bytes, counter);
+    two_bytes((counter % 64) as u16 * 1024 + check)
+}
+
+// Are eight bytes a payload and its check, over the six counter bits as they stand?
+pub fn payload_right(eight: &[u8]) -> bool
+    ensures { λ r. ⌜ r ≡ payloadRight (now (eight .entry)) ⌝ }
+{
+    if eight.len() != 8 {
+        return false;
+    }
+    let sent = word_at(eight, 6);
+    let check = data_pec(&eight[..6], (sent / 1024) as u8);
+    sent % 1024 == check
+}
