@@ -1,10 +1,20 @@
--- The two check words stay below 2^15 and 2^10.
+-- The two check words stay below 2^15 and 2^10; what is sent is right; a command whose last bit is 1 is not.
 -- Assumes nothing.
-use mathlib.Core.List.{List, _++_}
-use Prim.Native.Nat.{ℕ, _^_, _<_}
-use lib.Dec.{lit<}
-use Rattle.laws.specs.Bits.{bitsOf, bitsOfBytes}
-use Rattle.pec.specs.Words.{polynomial15, polynomial10, pec15, dataPec}
+use mathlib.Core.Path.{_≡_, refl, sym, ap, ap₂, _∙_}
+use mathlib.Core.Bool.{Bool, true, false, _&&_}
+use mathlib.Core.List.{List, [], _∷_, _++_}
+use Prim.Native.Nat.{ℕ, _+_, _*_, _/_, _%_, _^_, _<_}
+use native.Mathlib.Nat.{div-add-mod', mod-lt, mod-eq-of-lt}
+use native.Mathlib.Omega.{arith}
+use lib.Arith.{digits-div, digits-mod}
+use lib.Dec.{eqb, lit<}
+use lib.ListN.{length, length-append, take, getD}
+use lib.Seq.{take-at, getD-append-add, getD-append-seam}
+use borrow.Author.Tests.{eq-eqb, ne-eqb, eqb-true}
+use Rattle.laws.specs.Bits.{odd, bitsOf, bitsOfBytes}
+use Rattle.laws.proofs.Bits.{bits-mod}
+use Rattle.pec.specs.Words.{twoBytes, wordAt, polynomial15, polynomial10, pec15, commandCheck, commandRight, dataPec, seal, counterOf, payloadRight}
+use Rattle.pec.specs.Remainder.{remainder}
 use Rattle.pec.proofs.Remainder.{remainder-below}
 
 pub pec15-below : (bytes : List ℕ) → pec15 bytes < 2 ^ 15
@@ -14,3 +24,71 @@ pec15-below bytes = remainder-below 15 (bitsOfBytes bytes) (lit< tt) (lit< tt)
 pub dataPec-below : (bytes : List ℕ) (counter : ℕ) → dataPec bytes counter < 2 ^ 10
 unfolding dataPec
 dataPec-below bytes counter = remainder-below 10 (bitsOfBytes bytes ++ bitsOf 6 counter) (lit< tt) (lit< tt)
+
+-- ---- what is sent is right
+
+-- a 16-bit number that was sent after a byte string stands there
+word-after : (xs : List ℕ) (n : ℕ) → wordAt (xs ++ twoBytes n) (length xs) ≡ n
+unfolding wordAt twoBytes
+word-after xs n =
+    ap₂ (λ (a b : ℕ). a * 256 + b) (getD-append-seam xs (n / 256) (n % 256 ∷ []) 0) (getD-append-add xs (n / 256 ∷ n % 256 ∷ []) 1 0)
+    ∙ div-add-mod' n 256
+
+length-two : (xs : List ℕ) (n : ℕ) → length (xs ++ twoBytes n) ≡ length xs + 2
+unfolding twoBytes
+length-two xs n = length-append xs (n / 256 ∷ n % 256 ∷ [])
+
+pub command-check-right : (code : ℕ) → commandRight (twoBytes code ++ commandCheck code) ≡ true
+unfolding commandRight commandCheck
+command-check-right code =
+    ap₂ _&&_ (eq-eqb _ 4 (length-two (twoBytes code) check ∙ ap (λ (n : ℕ). n + 2) two))
+    (eq-eqb _ _ (ap (wordAt (twoBytes code ++ twoBytes check)) (sym two) ∙ word-after (twoBytes code) check
+    ∙ ap (λ (bytes : List ℕ). pec15 bytes * 2) (sym (take-at (twoBytes code) (twoBytes check) 2 two))))
+  where
+    check : ℕ
+    check = pec15 (twoBytes code) * 2
+
+    two : length (twoBytes code) ≡ 2
+    two = length-two [] code
+
+module _ (six : List ℕ) (counter : ℕ) (h : length six ≡ 6) where
+  sent : ℕ
+  sent = counter % 64 * 1024 + dataPec six counter
+
+  word : wordAt (six ++ seal six counter) 6 ≡ sent
+  unfolding seal sent
+  word = ap (wordAt (six ++ twoBytes sent)) (sym h) ∙ word-after six sent
+
+  pub seal-counter : counterOf (six ++ seal six counter) ≡ counter % 64
+  unfolding counterOf sent
+  seal-counter = ap (λ (n : ℕ). n / 1024) word ∙ digits-div (counter % 64) (dataPec-below six counter)
+
+  check : wordAt (six ++ seal six counter) 6 % 1024 ≡ dataPec six counter
+  unfolding sent
+  check = ap (λ (n : ℕ). n % 1024) word ∙ digits-mod (counter % 64) (dataPec-below six counter)
+
+  same-bits : dataPec six (counter % 64) ≡ dataPec six counter
+  unfolding dataPec
+  same-bits = ap (λ (bs : List Bool). remainder 10 polynomial10 16 (bitsOfBytes six ++ bs)) (bits-mod 6 counter)
+
+  pub seal-right : payloadRight (six ++ seal six counter) ≡ true
+  unfolding payloadRight seal sent
+  seal-right =
+      ap₂ _&&_ (eq-eqb _ 8 (length-two six sent ∙ ap (λ (n : ℕ). n + 2) h))
+      (eq-eqb _ _ (check ∙ sym (ap₂ dataPec (take-at six (seal six counter) 6 h) seal-counter ∙ same-bits)))
+
+-- ---- a 1 in the last place
+
+pub last-place-wrong : (four : List ℕ) → odd (getD four 3 0) ≡ true → commandRight four ≡ false
+unfolding commandRight wordAt odd
+last-place-wrong four h =
+    let ends : getD four 3 0 % 2 ≡ 1 = eqb-true _ _ h in
+    ap (λ (b : Bool). eqb (length four) 4 && b) (ne-eqb _ _ (apart (getD four 2 0) (getD four 3 0) (pec15 (take 2 four)) ends))
+    ∙ none (eqb (length four) 4)
+  where
+    apart : (a b n : ℕ) → b % 2 ≡ 1 → a * 256 + b ≡ n * 2 → ⊥
+    apart a b n o e = omega arith
+
+    none : (b : Bool) → b && false ≡ false
+    none true = refl
+    none false = refl
