@@ -4,3 +4,6 @@ pub mod Shifts
 pub mod Tables
 pub mod Lists
 pub mod Rows
+pub mod Filling
+pub mod LentParts
+pub mod Counts

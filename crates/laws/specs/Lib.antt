@@ -1,3 +1,4 @@
 pub mod Bits
 pub mod Tables
 pub mod Rows
+pub mod Counts

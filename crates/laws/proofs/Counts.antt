@@ -1,0 +1,45 @@
+-- Counting and testing along a list: one element more, and one element that fails.
+-- Assumes nothing.
+use mathlib.Core.Path.{_≡_, refl, sym, ap, ap₂, _∙_}
+use mathlib.Core.Bool.{Bool, true, false, cond, _&&_}
+use mathlib.Core.List.{List, [], _∷_, _++_}
+use Prim.Native.Nat.{ℕ, zero, suc, _+_, _<_}
+use native.Mathlib.Nat.{add-zero, zero-add, add-assoc}
+use native.Mathlib.Numerals.{one-add}
+use native.Mathlib.Omega.{arith}
+use lib.ListN.{length, getD}
+use Rattle.laws.specs.Counts.{all, count}
+
+pub and-true : (b : Bool) → b && true ≡ b
+and-true true = refl
+and-true false = refl
+
+pub and-false : (b : Bool) → b && false ≡ false
+and-false true = refl
+and-false false = refl
+
+and-assoc : (a b c : Bool) → a && b && c ≡ a && (b && c)
+and-assoc true b c = refl
+and-assoc false b c = refl
+
+module _ {A : Type 0} (test : A → Bool) where
+  pub all-snoc : (xs : List A) (x : A) → all test (xs ++ x ∷ []) ≡ all test xs && test x
+  unfolding all
+  all-snoc [] x = and-true (test x)
+  all-snoc (y ∷ ys) x = ap (λ (b : Bool). test y && b) (all-snoc ys x) ∙ sym (and-assoc (test y) (all test ys) (test x))
+
+  pub all-fails : (xs : List A) (k : ℕ) (d : A) → k < length xs → test (getD xs k d) ≡ false → all test xs ≡ false
+  unfolding all
+  all-fails [] k d h e = absurd (omega arith)
+  all-fails (x ∷ xs) zero d h e = ap (λ (b : Bool). b && all test xs) e
+  all-fails (x ∷ xs) (suc k) d h e = ap (λ (b : Bool). test x && b) (all-fails xs k d (omega arith) e) ∙ and-false (test x)
+
+  pub count-snoc : (xs : List A) (x : A) → count test (xs ++ x ∷ []) ≡ count test xs + cond (test x) 1 0
+  unfolding count
+  count-snoc [] x = add-zero (cond (test x) 1 0) ∙ sym (zero-add (cond (test x) 1 0))
+  count-snoc (y ∷ ys) x = ap (λ (n : ℕ). cond (test y) 1 0 + n) (count-snoc ys x) ∙ sym (add-assoc (cond (test y) 1 0) (count test ys) (cond (test x) 1 0))
+
+  pub count-all : ((x : A) → test x ≡ true) → (xs : List A) → count test xs ≡ length xs
+  unfolding count
+  count-all h [] = refl
+  count-all h (x ∷ xs) = ap₂ _+_ (ap (λ (b : Bool). cond b 1 0) (h x)) (count-all h xs) ∙ one-add (length xs)

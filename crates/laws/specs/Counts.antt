@@ -1,0 +1,15 @@
+-- Counting and testing the elements of a list.
+-- Assumes nothing.
+use mathlib.Core.Bool.{Bool, true, cond, _&&_}
+use mathlib.Core.List.{List, [], _∷_}
+use Prim.Native.Nat.{ℕ, _+_}
+
+-- every element passes
+unfoldable pub all : {A : Type 0} → (A → Bool) → List A → Bool
+all test [] = true
+all test (x ∷ xs) = test x && all test xs
+
+-- how many elements pass
+unfoldable pub count : {A : Type 0} → (A → Bool) → List A → ℕ
+count test [] = 0
+count test (x ∷ xs) = cond (test x) 1 0 + count test xs

@@ -1,0 +1,12 @@
+pub mod Anew
+pub mod Making
+pub mod Answers
+pub mod CommandList
+pub mod Keeping
+pub mod Sound
+pub mod Showing
+pub mod Parts
+pub mod Flags
+pub mod TwosComplement
+pub mod Loaded
+pub mod Examples

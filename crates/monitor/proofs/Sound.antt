@@ -1,0 +1,171 @@
+-- A sound record stays sound, whatever a monitor keeps: the counter's byte and the retention's change by their own rules alone,
+-- and no other change reaches them. Lengths stay too.
+-- Assumes nothing.
+use mathlib.Core.Path.{_≡_, refl, sym, ap, ap₂, _∙_, subst⁻¹}
+use mathlib.Core.Bool.{Bool, true, false, cond, _&&_, false≢true}
+use mathlib.Core.List.{List}
+use Prim.Native.Nat.{ℕ, _+_, _≤_, _<_}
+use native.Mathlib.Omega.{arith}
+use lib.Dec.{leb, ltb, lit<, lit≤}
+use lib.ListN.{length, getD}
+use borrow.Author.Tests.{leb-true, le-leb, ltb-true}
+use Rattle.laws.specs.Tables.{tabulate}
+use Rattle.pec.specs.Words.{payloadRight, twoBytes, seal}
+use Rattle.monitor.specs.declared.commands.Write.{Write}
+use Rattle.monitor.specs.declared.commands.Write.the-variants.{Wrcfga, Wrcfgb, Wrrr, Clrflag, Clovuv}
+use Rattle.monitor.specs.declared.commands.Bare.{Bare}
+use Rattle.monitor.specs.declared.commands.Bare.the-variants.{Mute, Unmute, Rstcc, Ulrr, Clrcell}
+use Rattle.monitor.specs.declared.commands.Command.{Command}
+use Rattle.monitor.specs.declared.commands.Command.the-variants.{Reads, Writes, Bares, Unlisted}
+use Rattle.monitor.specs.declared.record.Part.{Part}
+use Rattle.monitor.specs.Record.{counter, unlocked, recordSize, byteOf, anew, onBytes, recordSound}
+use Rattle.monitor.specs.Effects.{locked, nextCount, counted, rulesOf, changed, byRules, opens, written, done, keeps}
+use Rattle.monitor.specs.Reply.{register, reply}
+use Rattle.monitor.proofs.Anew.{length-anew, anew-below, anew-above, anew-inside}
+
+-- ---- lengths
+
+length-locked : (r : List ℕ) → length (locked r) ≡ length r
+unfolding locked onBytes
+length-locked r = length-anew _ _ _ r
+
+length-counted : (r : List ℕ) → length (counted r) ≡ length r
+unfolding counted onBytes
+length-counted r = length-anew _ _ _ r
+
+length-cond : (b : Bool) (xs ys : List ℕ) (n : ℕ) → length xs ≡ n → length ys ≡ n → length (cond b xs ys) ≡ n
+length-cond true xs ys n h k = h
+length-cond false xs ys n h k = k
+
+length-written : (c : Write) (was : ℕ) (sent r : List ℕ) → length (written c was sent r) ≡ length r
+unfolding written byRules
+length-written c was sent r = length-cond (opens (rulesOf c) was) _ r (length r) (length-anew _ _ _ r) refl
+
+length-done : (c : Bare) (r : List ℕ) → length (done c r) ≡ length r
+unfolding done onBytes
+length-done Mute r = length-anew _ _ _ r
+length-done Unmute r = length-anew _ _ _ r
+length-done Rstcc r = length-anew _ _ _ r
+length-done Ulrr r = length-anew _ _ _ r
+length-done Clrcell r = length-anew _ _ _ r
+
+pub length-keeps : (c : Command) (eight r : List ℕ) → length (keeps c eight r) ≡ length r
+unfolding keeps
+length-keeps (Reads p) eight r = length-locked r
+length-keeps (Writes c) eight r =
+    length-cond (payloadRight eight) _ _ (length r)
+    (length-written c (byteOf unlocked r) eight (counted (locked r)) ∙ length-counted (locked r) ∙ length-locked r)
+    (length-locked r)
+length-keeps (Bares c) eight r = length-done c (counted (locked r)) ∙ length-counted (locked r) ∙ length-locked r
+length-keeps Unlisted eight r = refl
+
+pub length-reply : (part : Part) (r : List ℕ) → length (reply part r) ≡ 8
+unfolding reply register tabulate seal twoBytes
+length-reply part r = refl
+
+-- ---- the two bytes that make a record sound
+
+record Fine (r : List ℕ) : Type 0 where
+  whole : length r ≡ recordSize
+  count : byteOf counter r ≤ 63
+  lock : byteOf unlocked r ≤ 1
+
+-- a change elsewhere leaves both
+elsewhere : (f : ℕ → ℕ → ℕ) (at n : ℕ) (r : List ℕ) → at + n ≤ 68 → Fine r → Fine (anew f at n r)
+unfolding byteOf
+elsewhere f at n r h s =
+    record {
+      whole = length-anew f at n r ∙ s .whole;
+      count = subst⁻¹ (λ (x : ℕ). x ≤ 63) (anew-above f at n r {j = 68} h) (s .count);
+      lock = subst⁻¹ (λ (x : ℕ). x ≤ 1) (anew-above f at n r {j = 69} (omega arith)) (s .lock);
+    }
+
+fine-lock : (v : ℕ) (r : List ℕ) → v ≤ 1 → Fine r → Fine (onBytes unlocked (λ i old. v) r)
+unfolding byteOf onBytes
+fine-lock v r h s =
+    record {
+      whole = length-anew _ _ _ r ∙ s .whole;
+      count = subst⁻¹ (λ (x : ℕ). x ≤ 63) (anew-below (λ i old. v) 69 1 r {j = 68} (lit< tt)) (s .count);
+      lock = subst⁻¹ (λ (x : ℕ). x ≤ 1) (anew-inside (λ i old. v) 69 1 r 0 (lit< tt) (omega (arith, s .whole))) h;
+    }
+
+fine-count : (f : ℕ → ℕ → ℕ) (r : List ℕ) → ((n : ℕ) → f 0 n ≤ 63) → Fine r → Fine (onBytes counter f r)
+unfolding byteOf onBytes
+fine-count f r h s =
+    record {
+      whole = length-anew _ _ _ r ∙ s .whole;
+      count = subst⁻¹ (λ (x : ℕ). x ≤ 63) (anew-inside f 68 1 r 0 (lit< tt) (omega (arith, s .whole))) (h (getD r 68 0));
+      lock = subst⁻¹ (λ (x : ℕ). x ≤ 1) (anew-above f 68 1 r {j = 69} (lit≤ tt)) (s .lock);
+    }
+
+next-fine : (n : ℕ) → nextCount n ≤ 63
+unfolding nextCount
+next-fine n = below (ltb n 63) refl
+  where
+    below : (b : Bool) → ltb n 63 ≡ b → cond b (n + 1) 1 ≤ 63
+    below true e = omega (arith, ltb-true n 63 e)
+    below false e = lit≤ tt
+
+fine-locked : (r : List ℕ) → Fine r → Fine (locked r)
+unfolding locked
+fine-locked r s = fine-lock 0 r (lit≤ tt) s
+
+fine-counted : (r : List ℕ) → Fine r → Fine (counted (locked r))
+unfolding counted
+fine-counted r s = fine-count (λ i old. nextCount old) (locked r) next-fine (fine-locked r s)
+
+rules-elsewhere : (w : Write) → rulesOf w .at + 6 ≤ 68
+rules-elsewhere Wrcfga = lit≤ tt
+rules-elsewhere Wrcfgb = lit≤ tt
+rules-elsewhere Wrrr = lit≤ tt
+rules-elsewhere Clrflag = lit≤ tt
+rules-elsewhere Clovuv = lit≤ tt
+
+fine-cond : (b : Bool) (xs ys : List ℕ) → Fine xs → Fine ys → Fine (cond b xs ys)
+fine-cond true xs ys h k = h
+fine-cond false xs ys h k = k
+
+fine-written : (c : Write) (was : ℕ) (sent r : List ℕ) → Fine r → Fine (written c was sent r)
+unfolding written byRules
+fine-written c was sent r s = fine-cond (opens (rulesOf c) was) _ r (elsewhere _ (rulesOf c .at) 6 r (rules-elsewhere c) s) s
+
+fine-done : (c : Bare) (r : List ℕ) → Fine r → Fine (done c r)
+unfolding done onBytes
+fine-done Mute r s = elsewhere _ 5 1 r (lit≤ tt) s
+fine-done Unmute r s = elsewhere _ 5 1 r (lit≤ tt) s
+fine-done Rstcc r s = fine-count (λ i old. 0) r (λ n. lit≤ tt) s
+fine-done Ulrr r s = fine-lock 1 r (lit≤ tt) s
+fine-done Clrcell r s = elsewhere _ 12 32 r (lit≤ tt) s
+
+fine-keeps : (c : Command) (eight r : List ℕ) → Fine r → Fine (keeps c eight r)
+unfolding keeps
+fine-keeps (Reads p) eight r s = fine-locked r s
+fine-keeps (Writes c) eight r s =
+    fine-cond (payloadRight eight) _ _ (fine-written c (byteOf unlocked r) eight (counted (locked r)) (fine-counted r s)) (fine-locked r s)
+fine-keeps (Bares c) eight r s = fine-done c (counted (locked r)) (fine-counted r s)
+fine-keeps Unlisted eight r s = s
+
+-- ---- the test
+
+both : (a b : Bool) → a && b ≡ true → (a ≡ true) × (b ≡ true)
+both true b h = (refl, h)
+both false b h = absurd (false≢true h)
+
+to-fine : (r : List ℕ) → length r ≡ recordSize → recordSound r ≡ true → Fine r
+unfolding recordSound
+to-fine r w s =
+    let two = both (leb (byteOf counter r) 63) (leb (byteOf unlocked r) 1) s in
+    record { whole = w; count = leb-true _ _ (two .0); lock = leb-true _ _ (two .1) }
+
+from-fine : (r : List ℕ) → Fine r → recordSound r ≡ true
+unfolding recordSound
+from-fine r s = ap₂ _&&_ (le-leb _ _ (s .count)) (le-leb _ _ (s .lock))
+
+pub sound-keeps : (c : Command) (eight r : List ℕ) → length r ≡ recordSize → recordSound r ≡ true → recordSound (keeps c eight r) ≡ true
+sound-keeps c eight r w s = from-fine (keeps c eight r) (fine-keeps c eight r (to-fine r w s))
+
+-- a change of bytes before the counter leaves a record as sound as it was
+pub sound-elsewhere : (f : ℕ → ℕ → ℕ) (at n : ℕ) (r : List ℕ) → at + n ≤ counter .at → recordSound (anew f at n r) ≡ recordSound r
+unfolding recordSound byteOf
+sound-elsewhere f at n r h =
+    ap₂ (λ (x y : ℕ). leb x 63 && leb y 1) (anew-above f at n r {j = 68} h) (anew-above f at n r {j = 69} (omega arith))

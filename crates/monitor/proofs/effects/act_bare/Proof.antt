@@ -1,0 +1,110 @@
+-- `monitor::effects::act_bare` meets its contract, command by command.
+-- Assumes nothing.
+use mathlib.Core.Path.{_≡_, refl, sym, ap, _∙_}
+use Prim.Native.Nat.{ℕ}
+use mathlib.Core.List.{List}
+use Rattle.monitor.specs.declared.commands.Bare.{Bare}
+use Rattle.monitor.specs.Record.{anew, onBytes}
+use Rattle.monitor.specs.Effects.{done}
+use borrow.Author.Needs.{needs}
+use Rattle.monitor.proofs.effects.act_bare.Statement.{statement}
+use Rattle.monitor.proofs.effects.act_bare.Tie as tie
+
+enum-told : tie.Need-enum-told
+enum-told c = search needs
+
+slice-read-rec : tie.Need-slice-read-rec
+slice-read-rec c = search needs
+
+slice-write-rec : tie.Need-slice-write-rec
+slice-write-rec c = search needs
+
+enum-told-2 : tie.Need-enum-told-2
+enum-told-2 c = search needs
+
+slice-read-rec-2 : tie.Need-slice-read-rec-2
+slice-read-rec-2 c = search needs
+
+slice-write-rec-2 : tie.Need-slice-write-rec-2
+slice-write-rec-2 c = search needs
+
+enum-told-3 : tie.Need-enum-told-3
+enum-told-3 c = search needs
+
+slice-write-rec-3 : tie.Need-slice-write-rec-3
+slice-write-rec-3 c = search needs
+
+enum-told-4 : tie.Need-enum-told-4
+enum-told-4 c = search needs
+
+slice-write-rec-4 : tie.Need-slice-write-rec-4
+slice-write-rec-4 c = search needs
+
+enum-told-5 : tie.Need-enum-told-5
+enum-told-5 c = search needs
+
+clear-cells-requires : tie.Need-clear-cells-requires
+clear-cells-requires c κs = search needs
+
+same-length : tie.Need-same-length
+same-length c = search needs
+
+returns : tie.Need-returns
+unfolding done onBytes anew
+returns c = ap (λ (b : Bare). done b (c .before .before .before .before .args .rec .now)) (sym (c .before .enum-told .given .1))
+
+same-length-2 : tie.Need-same-length-2
+same-length-2 c = search needs
+
+returns-2 : tie.Need-returns-2
+unfolding done onBytes anew
+returns-2 c = ap (λ (b : Bare). done b (c .before .before .before .before .args .rec .now)) (sym (c .before .enum-told2 .given .1))
+
+same-length-3 : tie.Need-same-length-3
+same-length-3 c = search needs
+
+returns-3 : tie.Need-returns-3
+unfolding done onBytes anew
+returns-3 c = ap (λ (b : Bare). done b (c .before .before .before .args .rec .now)) (sym (c .enum-told3 .given .1))
+
+same-length-4 : tie.Need-same-length-4
+same-length-4 c = search needs
+
+returns-4 : tie.Need-returns-4
+unfolding done onBytes anew
+returns-4 c = ap (λ (b : Bare). done b (c .before .before .before .args .rec .now)) (sym (c .enum-told4 .given .1))
+
+same-length-5 : tie.Need-same-length-5
+same-length-5 c = search needs
+
+returns-5 : tie.Need-returns-5
+returns-5 c =
+    c .before .before .clear-cells .ensures
+    ∙ ap (λ (b : Bare). done b (c .before .before .before .before .before .before .before .args .rec .now)) (sym (c .before .before .before .before .enum-told5 .given .1))
+
+pub act-bare-spec : {M : Type 1} → statement M
+act-bare-spec =
+    tie.close
+    (tie.spec
+    enum-told
+    slice-read-rec
+    slice-write-rec
+    enum-told-2
+    slice-read-rec-2
+    slice-write-rec-2
+    enum-told-3
+    slice-write-rec-3
+    enum-told-4
+    slice-write-rec-4
+    enum-told-5
+    clear-cells-requires
+    same-length
+    returns
+    same-length-2
+    returns-2
+    same-length-3
+    returns-3
+    same-length-4
+    returns-4
+    same-length-5
+    returns-5)

@@ -1,0 +1,37 @@
+-- `monitor::replies::shown_byte` meets its contract, by its tests.
+-- Assumes nothing.
+use native.Mathlib.Omega.{arith}
+use Rattle.monitor.proofs.Showing.{shows, shows-past, past-part, past-slice}
+use borrow.Author.Needs.{needs}
+use Rattle.monitor.proofs.replies.shown_byte.Statement.{statement}
+use Rattle.monitor.proofs.replies.shown_byte.Tie as tie
+
+sub-if3 : tie.Need-sub-if3
+sub-if3 c = search needs
+
+add-result : tie.Need-add-result
+add-result c = search needs
+
+shared-slice-read-result : tie.Need-shared-slice-read-result
+shared-slice-read-result c = search needs
+
+returns : tie.Need-returns
+returns c =
+    shows (c .before .before .before .before .args .part) (c .before .before .before .before .args .rec .now) (c .before .before .before .before .args .i) (c .before .before .before .if1 .taken) (omega arith)
+
+returns-2 : tie.Need-returns-2
+returns-2 c =
+    shows-past (c .before .before .before .args .part) (c .before .before .before .args .rec .now) (c .before .before .before .args .i) (past-slice (c .before .before .before .args .part) (c .before .before .before .args .rec .now) (c .before .before .before .args .i) (c .if3 .left))
+
+returns-3 : tie.Need-returns-3
+returns-3 c =
+    shows-past (c .before .before .args .part) (c .before .before .args .rec .now) (c .before .before .args .i) (past-slice (c .before .before .args .part) (c .before .before .args .rec .now) (c .before .before .args .i) (omega arith))
+
+returns-4 : tie.Need-returns-4
+returns-4 c =
+    shows-past (c .before .args .part) (c .before .args .rec .now) (c .before .args .i) (past-part (c .before .args .part) (c .before .args .rec .now) (c .before .args .i) (c .if1 .left))
+
+pub shown-byte-spec : {M : Type 1} → statement M
+shown-byte-spec =
+    tie.close
+    (tie.spec sub-if3 add-result shared-slice-read-result returns returns-2 returns-3 returns-4)

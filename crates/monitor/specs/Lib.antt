@@ -1,0 +1,6 @@
+pub mod Record
+pub mod Commands
+pub mod Effects
+pub mod Reply
+pub mod Thresholds
+pub mod Cells

@@ -1,0 +1,103 @@
+// One monitor's record: the code's names for what specs/Record.antt lays out. Sizes and offsets stand here and nowhere else.
+ghost use mathlib.Core.Path.{_≡_};
+ghost use lib.ListN.{getD};
+
+pub const RECORD_SIZE: usize = 70;
+
+pub(crate) const CONFIGURATION_A: usize = 0;
+// Byte 5 of configuration A, with SNAP_ST at bit 5 and MUTE_ST at bit 4.
+pub(crate) const STATUS_BITS: usize = CONFIGURATION_A + 5;
+
+pub(crate) const CONFIGURATION_B: usize = 6;
+// Cells 1 to 16, two bytes each, low byte first.
+pub(crate) const CELLS: usize = 12;
+
+pub(crate) const CELL_COUNT: usize = 16;
+
+pub(crate) const CELLS_SIZE: usize = 32;
+
+pub(crate) const STATUS_C: usize = 44;
+
+pub(crate) const STATUS_D: usize = 50;
+
+// The bytes of status D, from its first on, that hold the cells' flags.
+pub(crate) const FLAG_BYTES: usize = 4;
+
+pub(crate) const RETENTION: usize = 56;
+
+pub(crate) const SERIAL_ID: usize = 62;
+
+pub(crate) const COUNTER: usize = 68;
+
+pub(crate) const UNLOCKED: usize = 69;
+
+// Where a part of the record begins, and how many bytes it has.
+pub struct Part {
+    pub at: usize,
+    pub size: usize,
+}
+
+// What each read shows. The cells' registers A to E have three cells each, and F has cell 16.
+pub(crate) const RDCFGA: Part = Part {
+    at: CONFIGURATION_A,
+    size: 6,
+};
+
+pub(crate) const RDCFGB: Part = Part {
+    at: CONFIGURATION_B,
+    size: 6,
+};
+
+pub(crate) const RDCVA: Part = Part { at: CELLS, size: 6 };
+
+pub(crate) const RDCVB: Part = Part {
+    at: CELLS + 6,
+    size: 6,
+};
+
+pub(crate) const RDCVC: Part = Part {
+    at: CELLS + 12,
+    size: 6,
+};
+
+pub(crate) const RDCVD: Part = Part {
+    at: CELLS + 18,
+    size: 6,
+};
+
+pub(crate) const RDCVE: Part = Part {
+    at: CELLS + 24,
+    size: 6,
+};
+
+pub(crate) const RDCVF: Part = Part {
+    at: CELLS + 30,
+    size: 2,
+};
+
+pub(crate) const RDSTATC: Part = Part {
+    at: STATUS_C,
+    size: 6,
+};
+
+pub(crate) const RDSTATD: Part = Part {
+    at: STATUS_D,
+    size: 6,
+};
+
+pub(crate) const RDSID: Part = Part {
+    at: SERIAL_ID,
+    size: 6,
+};
+
+pub(crate) const RDRR: Part = Part {
+    at: RETENTION,
+    size: 6,
+};
+
+// A byte of a slice, and 0 past its end.
+pub(crate) fn byte_at(bytes: &[u8], i: usize) -> u8
+    ensures { λ b. ⌜ b ≡ getD (now (bytes .entry)) i 0 ⌝ }
+{
+    if i < bytes.len() { bytes[i] } else { 0 }
+}

@@ -1,0 +1,57 @@
+// What one monitor replies to a read.
+ghost use mathlib.Core.Path.{_≡_};
+ghost use lib.ListN.{getD};
+ghost use Rattle.monitor.specs.Record.{bytesOf};
+ghost use Rattle.monitor.specs.Reply.{register, reply};
+use crate::record::COUNTER;
+use crate::record::Part;
+use crate::record::byte_at;
+
+// Byte i of a part, and FF past the end of the part or of the slice.
+fn shown_byte(rec: &[u8], part: Part, i: usize) -> u8
+    ensures { λ b. ⌜ b ≡ getD (bytesOf part (now (rec .entry))) i 0xFF ⌝ }
+{
+    let at = part.at;
+    let size = part.size;
+    if i < size {
+        if at < rec.len() {
+            if i < rec.len() - at {
+                return rec[at + i];
+            }
+        }
+    }
+    0xff
+}
+
+// The six bytes of a register.
+fn register_of(part: Part, rec: &[u8]) -> [u8; 6]
+    ensures { λ r. ⌜ r ≡ register part (now (rec .entry)) ⌝ }
+{
+    [
+        shown_byte(rec, part, 0),
+        shown_byte(rec, part, 1),
+        shown_byte(rec, part, 2),
+        shown_byte(rec, part, 3),
+        shown_byte(rec, part, 4),
+        shown_byte(rec, part, 5),
+    ]
+}
+
+// The eight bytes that one monitor replies: the register, the counter as it stands, the check over both.
+pub fn reply_of(part: Part, rec: &[u8]) -> [u8; 8]
+    ensures { λ r. ⌜ r ≡ reply part (now (rec .entry)) ⌝ }
+{
+    let six = register_of(part, rec);
+    let counter = byte_at(rec, COUNTER);
+    let check = pec::seal(&six, counter);
+    [
+        six[0],
+        six[1],
+        six[2],
+        six[3],
+        six[4],
+        six[5],
+        check[0],
+        check[1],
+    ]
+}
