@@ -1,0 +1,14 @@
+pub mod Payloads
+pub mod Serving
+pub mod Soundness
+pub mod Judging
+pub mod Turns
+pub mod Outcome
+pub mod Codes
+pub mod Loading
+pub mod LoadJudging
+pub mod Refused
+pub mod Keeps
+pub mod OwnBytes
+pub mod Taken
+pub mod OwnLoad

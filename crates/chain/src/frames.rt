@@ -1,0 +1,187 @@
+// The engine that handles a whole frame.
+ghost use mathlib.Core.Path.{_≡_};
+ghost use mathlib.Core.List.{_++_, map};
+ghost use Prim.Native.Nat.{suc, _+_, _-_, _*_, _<_, _≤_};
+ghost use lib.ListN.{length, take, drop};
+ghost use Rattle.laws.specs.Rows.{rows, rowAt};
+ghost use Rattle.wire.specs.Order.{replyData};
+ghost use Rattle.monitor.specs.Record.{recordSize};
+ghost use Rattle.monitor.specs.Commands.{mostMonitors, payloadSize};
+ghost use Rattle.monitor.specs.Effects.{takes, keeps};
+ghost use Rattle.monitor.specs.Reply.{reply};
+ghost use Rattle.chain.specs.Frame.{commandIn, payloadsIn, replyLength, takenBy, kept, replied, answer, tableAfter, replyAfter};
+ghost use Rattle.chain.specs.Judged.{judged, ReadyIf, Ready};
+use crate::tables::sound_count;
+use monitor::Command;
+use monitor::PAYLOAD_SIZE;
+use monitor::Part;
+use monitor::RECORD_SIZE;
+use refusals::Refusal;
+
+// What comes of a frame: its refusal, or how many monitors took it and how long the reply is.
+pub enum Answer {
+    Refused(Refusal),
+    Accepted { taken: usize, reply: usize },
+}
+
+// What the refusals say of a frame: the first that holds, or the command and the number of monitors.
+pub enum Judged {
+    Bad(Refusal),
+    Good(Command, usize),
+}
+
+// The command of a frame.
+fn command_in(frame: &[u8]) -> Command
+    requires { ⌜ 4 ≤ length (now frame) ⌝ }
+    ensures { λ r. ⌜ r ≡ commandIn (now (frame .entry)) ⌝ }
+{
+    let code = (frame[0] as u16) * 256 + (frame[1] as u16);
+    monitor::command_of(code)
+}
+
+// The length of the reply of n monitors.
+fn reply_length(command: Command, n: usize) -> usize
+    requires { ⌜ n ≤ mostMonitors ⌝ }
+    ensures { λ r. ⌜ r ≡ replyLength command n ⌝ }
+{
+    match command {
+        Command::Reads(_) => PAYLOAD_SIZE * n,
+        Command::Writes(_) => 0,
+        Command::Bares(_) => 0,
+        Command::Unlisted => 0,
+    }
+}
+
+// The refusals in the paper's order.
+fn judge(table: &[u8], frame: &[u8], room: usize) -> Judged
+    ensures { λ r. ⌜ r ≡ judged (now (table .entry)) (now (frame .entry)) room ⌝ }
+    ensures { λ r. ⌜ ReadyIf r (now (table .entry)) (now (frame .entry)) room ⌝ }
+{
+    let n = sound_count(table);
+    if n == 0 {
+        return Judged::Bad(Refusal::TableNotSound);
+    }
+    if frame.len() < 4 {
+        return Judged::Bad(Refusal::FrameShort);
+    }
+    if !pec::command_right(&frame[..4]) {
+        return Judged::Bad(Refusal::CommandWrong);
+    }
+    let command = command_in(frame);
+    if !monitor::is_listed(command) {
+        return Judged::Bad(Refusal::CodeNotListed);
+    }
+    if frame.len() != monitor::frame_length(command, n) {
+        return Judged::Bad(Refusal::LengthWrong);
+    }
+    if room < reply_length(command, n) {
+        return Judged::Bad(Refusal::NoRoom);
+    }
+    Judged::Good(command, n)
+}
+
+// Bytes laid into a buffer from a place on.
+fn put(buffer: &mut [u8], at: usize, bytes: &[u8])
+    requires { ⌜ at + length (now bytes) ≤ length (now buffer) ⌝ }
+    ensures { λ _. ⌜ now (buffer .exit) ≡ take at (now (buffer .entry)) ++ now (bytes .entry) ++ drop (at + length (now (bytes .entry))) (now (buffer .entry)) ⌝ }
+{
+    let mut i = 0;
+    while i < bytes.len() {
+        buffer[at + i] = bytes[i];
+        i += 1;
+    }
+}
+
+// The replies of n monitors to a read, nearest monitor first.
+fn write_replies(part: Part, table: &[u8], n: usize, buffer: &mut [u8])
+    requires { ⌜ (length (now table) ≡ n * recordSize) × (n ≤ mostMonitors) × (payloadSize * n ≤ length (now buffer)) ⌝ }
+    ensures { λ _. ⌜ now (buffer .exit) ≡ replyData (map (reply part) (rows recordSize n (now (table .entry)))) ++ drop (payloadSize * n) (now (buffer .entry)) ⌝ }
+{
+    let mut k = 0;
+    while k < n {
+        let at = k * RECORD_SIZE;
+        let end = at + RECORD_SIZE;
+        let eight = monitor::reply_of(part, &table[at..end]);
+        put(buffer, k * PAYLOAD_SIZE, &eight);
+        k += 1;
+    }
+}
+
+// The reply to a command, and its length: only a read has one.
+fn write_reply(command: Command, table: &[u8], n: usize, buffer: &mut [u8]) -> usize
+    requires { ⌜ (length (now table) ≡ n * recordSize) × (n ≤ mostMonitors) × (replyLength command n ≤ length (now buffer)) ⌝ }
+    ensures { λ r. ⌜ r ≡ replyLength command n ⌝ }
+    ensures { λ _. ⌜ now (buffer .exit) ≡ replied command n (now (table .entry)) (now (buffer .entry)) ⌝ }
+{
+    match command {
+        Command::Reads(part) => {
+            write_replies(part, table, n, buffer);
+            PAYLOAD_SIZE * n
+        }
+        Command::Writes(_) => 0,
+        Command::Bares(_) => 0,
+        Command::Unlisted => 0,
+    }
+}
+
+// The own eight bytes of the monitor at k, counted from 0; nothing in a bare frame.
+fn payload_in(frame: &[u8], n: usize, k: usize) -> &[u8]
+    requires { ⌜ (k < n) × (n ≤ mostMonitors) ⌝ }
+    ensures { λ r. ⌜ now r ≡ rowAt payloadSize (n - suc k) (drop 4 (now (frame .entry))) ⌝ }
+{
+    let at = 4 + (n - 1 - k) * PAYLOAD_SIZE;
+    let end = at + PAYLOAD_SIZE;
+    if end <= frame.len() {
+        return &frame[at..end];
+    }
+    if at < frame.len() {
+        return &frame[at..];
+    }
+    &frame[..0]
+}
+
+// The monitor at k, counted from 0, acts on its own record and its own eight bytes.
+fn serve_one(table: &mut [u8], command: Command, k: usize, eight: &[u8]) -> bool
+    requires { ⌜ (k < mostMonitors) × (k * recordSize + recordSize ≤ length (now table)) ⌝ }
+    ensures { λ took. ⌜ took ≡ takes command (now (eight .entry)) ⌝ }
+    ensures { λ _. ⌜ now (table .exit) ≡ take (k * recordSize) (now (table .entry)) ++ keeps command (now (eight .entry)) (rowAt recordSize k (now (table .entry))) ++ drop (k * recordSize + recordSize) (now (table .entry)) ⌝ }
+{
+    let at = k * RECORD_SIZE;
+    let end = at + RECORD_SIZE;
+    monitor::act(command, &mut table[at..end], eight)
+}
+
+// Every monitor acts, and those that took the command are counted.
+fn serve(table: &mut [u8], command: Command, n: usize, frame: &[u8]) -> usize
+    requires { ⌜ (length (now table) ≡ n * recordSize) × (n ≤ mostMonitors) × (4 ≤ length (now frame)) ⌝ }
+    ensures { λ r. ⌜ r ≡ takenBy command n (now (frame .entry)) ⌝ }
+    ensures { λ _. ⌜ now (table .exit) ≡ kept command n (now (table .entry)) (now (frame .entry)) ⌝ }
+{
+    let mut taken = 0;
+    let mut k = 0;
+    while k < n {
+        let eight = payload_in(frame, n, k);
+        if serve_one(table, command, k, eight) {
+            taken += 1;
+        }
+        k += 1;
+    }
+    taken
+}
+
+// Handles a frame: the table becomes what the rules say, and the reply to a read goes to the start of the reply buffer. A
+// refusal changes nothing.
+pub fn handle(table: &mut [u8], frame: &[u8], buffer: &mut [u8]) -> Answer
+    ensures { λ r. ⌜ r ≡ answer (now (table .entry)) (now (frame .entry)) (length (now (buffer .entry))) ⌝ }
+    ensures { λ _. ⌜ now (table .exit) ≡ tableAfter (now (table .entry)) (now (frame .entry)) (length (now (buffer .entry))) ⌝ }
+    ensures { λ _. ⌜ now (buffer .exit) ≡ replyAfter (now (table .entry)) (now (frame .entry)) (now (buffer .entry)) ⌝ }
+{
+    match judge(table, frame, buffer.len()) {
+        Judged::Bad(refusal) => Answer::Refused(refusal),
+        Judged::Good(command, n) => {
+            let reply = write_reply(command, table, n, buffer);
+            let taken = serve(table, command, n, frame);
+            Answer::Accepted { taken, reply }
+        }
+    }
+}

@@ -1,0 +1,14 @@
+// The chain: the table of records, the refusals in their order, the engine that handles a whole frame, and the load.
+mod frames;
+mod loads;
+mod numbers;
+mod tables;
+
+pub use frames::Answer;
+pub use frames::handle;
+pub use loads::Loaded;
+pub use loads::load;
+pub use numbers::Numbers;
+pub use numbers::load_number;
+pub use numbers::numbers_of;
+pub use tables::sound;

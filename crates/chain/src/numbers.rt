@@ -1,0 +1,39 @@
+// The paper's numbers and values for the answers.
+ghost use mathlib.Core.Path.{_≡_};
+ghost use Rattle.chain.specs.Numbers.{numbersOf, loadNumber};
+use crate::frames::Answer;
+use crate::loads::Loaded;
+
+// A refusal's number, or 0 with how many monitors took the frame and how long the reply is.
+pub struct Numbers {
+    pub number: u8,
+    pub taken: usize,
+    pub reply: usize,
+}
+
+pub fn numbers_of(answer: Answer) -> Numbers
+    ensures { λ r. ⌜ r ≡ numbersOf answer ⌝ }
+{
+    match answer {
+        Answer::Refused(refusal) => Numbers {
+            number: refusals::number_of(refusal),
+            taken: 0,
+            reply: 0,
+        },
+        Answer::Accepted { taken, reply } => Numbers {
+            number: 0,
+            taken,
+            reply,
+        },
+    }
+}
+
+// A refusal's number, or 0.
+pub fn load_number(loaded: Loaded) -> u8
+    ensures { λ r. ⌜ r ≡ loadNumber loaded ⌝ }
+{
+    match loaded {
+        Loaded::Unloaded(refusal) => refusals::number_of(refusal),
+        Loaded::Done => 0,
+    }
+}

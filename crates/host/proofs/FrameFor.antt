@@ -1,0 +1,164 @@
+-- The frame for a code, n monitors and values: its length; its first four bytes are a command and its right check, and the
+-- command is the code; what follows hands each monitor its own six bytes, sealed, or is filler. And what a request that is
+-- accepted or refused leaves in the buffer.
+-- Assumes nothing.
+use mathlib.Core.Path.{_≡_, refl, sym, ap, _∙_, subst}
+use mathlib.Core.Bool.{true}
+use mathlib.Core.List.{List, [], _++_, map}
+use Prim.Native.Nat.{ℕ, _+_, _*_, _≤_, _<_}
+use native.Mathlib.Nat.{zero-add, div-add-mod'}
+use native.Mathlib.Omega.{arith}
+use lib.ListN.{length, getD, take, drop, replicate, length-append, length-replicate}
+use lib.Seq.{take-at, drop-at}
+use Rattle.refusals.specs.declared.Refusal.{Refusal}
+use Rattle.laws.specs.Rows.{rows}
+use Rattle.laws.proofs.Lists.{getD-map}
+use Rattle.laws.proofs.Rows.{length-rows, rows-lengths}
+use Rattle.pec.specs.Words.{twoBytes, wordAt, commandCheck, commandRight, payloadRight}
+use Rattle.pec.proofs.CheckWords.{command-check-right}
+use Rattle.wire.specs.Order.{writePayloads}
+use Rattle.monitor.specs.declared.commands.Command.{Command}
+use Rattle.monitor.specs.declared.commands.Write.{Write}
+use Rattle.monitor.specs.declared.commands.Command.the-variants.{Reads, Writes, Bares, Unlisted}
+use Rattle.monitor.specs.declared.record.Part.{Part}
+use Rattle.monitor.specs.Commands.{commands, commandOf, payloadSize, frameLength}
+use Rattle.host.specs.declared.frames.Built.the-variants.{Unbuilt, Length}
+use Rattle.host.specs.declared.frames.Judged.{Judged}
+use Rattle.host.specs.declared.frames.Judged.the-variants.{Refused, Accepted}
+use Rattle.host.specs.Frames.{dataSize, sealed, body, valueCount, frameFor, built, bufferAfter}
+use Rattle.host.specs.Placed.{headSize, placed}
+use Rattle.host.specs.Judged.{judged}
+use Rattle.host.proofs.Placed.{placed-more}
+use Rattle.host.proofs.Judging.{Buildable, byJudgement, buildable-accepted, accepted-command, accepted-buildable, built-by, after-by}
+use Rattle.host.proofs.Payloads.{length-data, payloads-round, sealed-right}
+
+-- ---- how long
+
+-- the command and its check
+abbrev pub head : ℕ → List ℕ
+head code = twoBytes code ++ commandCheck code
+
+pub length-head : (code : ℕ) → length (head code) ≡ headSize
+unfolding twoBytes commandCheck
+length-head code = refl
+
+-- what follows them
+pub length-body : (command : Command) (n : ℕ) (values : List ℕ) → length values ≡ valueCount command n
+    → headSize + length (body command n values) ≡ frameLength command n
+unfolding body
+length-body (Reads part) n values e = ap (λ (m : ℕ). headSize + m) (length-replicate (payloadSize * n) 0xFF)
+length-body (Writes w) n values e = ap (λ (m : ℕ). headSize + m) (length-data n values e)
+length-body (Bares b) n values e = refl
+length-body Unlisted n values e = refl
+
+module _ (code n : ℕ) (values : List ℕ) where
+  abbrev frame : List ℕ
+  frame = frameFor code n values
+
+  abbrev command : Command
+  command = commandOf code commands
+
+  pub length-frame : length values ≡ valueCount command n → length frame ≡ frameLength command n
+  unfolding frameFor
+  length-frame e =
+      length-append (head code) (body command n values)
+      ∙ ap (λ (m : ℕ). m + length (body command n values)) (length-head code)
+      ∙ length-body command n values e
+
+  -- ---- the first four bytes
+
+  pub frame-head : take headSize frame ≡ head code
+  unfolding frameFor
+  frame-head = take-at (head code) (body command n values) headSize (length-head code)
+
+  pub frame-right : commandRight (take headSize frame) ≡ true
+  frame-right = ap commandRight frame-head ∙ command-check-right code
+
+  pub frame-code : wordAt frame 0 ≡ code
+  unfolding frameFor twoBytes wordAt
+  frame-code = div-add-mod' code 256
+
+  -- ---- what follows
+
+  pub frame-body : drop headSize frame ≡ body command n values
+  unfolding frameFor
+  frame-body = drop-at (head code) (body command n values) headSize (length-head code)
+
+  -- a read: filler for each monitor's reply
+  pub read-filler : (part : Part) → command ≡ Reads part → drop headSize frame ≡ replicate (payloadSize * n) 0xFF
+  unfolding body
+  read-filler part e = frame-body ∙ ap (λ (c : Command). body c n values) e
+
+  -- a write: each monitor gets its own six bytes, sealed
+  module _ (w : Write) (e : command ≡ Writes w) (count : length values ≡ dataSize * n) where
+    pub write-payloads : writePayloads payloadSize n (drop headSize frame) ≡ map sealed (rows dataSize n values)
+    unfolding body
+    write-payloads =
+        ap (writePayloads payloadSize n) (frame-body ∙ ap (λ (c : Command). body c n values) e) ∙ payloads-round n values count
+
+    -- and each finds them right
+    pub write-right : (k : ℕ) → k < n → payloadRight (getD (writePayloads payloadSize n (drop headSize frame)) k []) ≡ true
+    write-right k h =
+        let l = length-rows dataSize n values in
+        ap (λ (rs : List (List ℕ)). payloadRight (getD rs k [])) write-payloads
+        ∙ ap payloadRight (getD-map sealed (rows dataSize n values) k [] [] (omega arith))
+        ∙ sealed-right (getD (rows dataSize n values) k []) (rows-lengths dataSize n values k [] h (omega arith))
+
+-- ---- what comes of a request
+
+pub head-fits : (command : Command) (n : ℕ) → headSize ≤ frameLength command n
+head-fits (Reads part) n = omega arith
+head-fits (Writes w) n = omega arith
+head-fits (Bares b) n = omega arith
+head-fits Unlisted n = omega arith
+
+module _ (code n : ℕ) (values buffer : List ℕ) where
+  -- by the judgement
+  by-judged : {j : Judged} → judged code n values (length buffer) ≡ j
+      → (built code n values (length buffer) ≡ byJudgement Unbuilt (λ c. Length (frameLength c n)) j)
+      × (bufferAfter code n values buffer ≡ byJudgement (λ r. buffer) (λ c. frameFor code n values ++ drop (frameLength c n) buffer) j)
+  by-judged e = (
+    built-by code n values (length buffer) ∙ ap (byJudgement Unbuilt (λ c. Length (frameLength c n))) e,
+    after-by code n values buffer ∙ ap (byJudgement (λ r. buffer) (λ c. frameFor code n values ++ drop (frameLength c n) buffer)) e,
+  )
+
+  -- refused: nothing changes
+  pub built-refused : (r : Refusal) → judged code n values (length buffer) ≡ Refused r
+      → (built code n values (length buffer) ≡ Unbuilt r) × (bufferAfter code n values buffer ≡ buffer)
+  built-refused r e = by-judged e
+
+  -- accepted: the frame is at the buffer's start, and the bytes past it stay
+  pub built-accepted : (c : Command) → judged code n values (length buffer) ≡ Accepted c
+      → (built code n values (length buffer) ≡ Length (frameLength c n))
+      × (bufferAfter code n values buffer ≡ frameFor code n values ++ drop (frameLength c n) buffer)
+  built-accepted c e = by-judged e
+
+  -- and its length is the frame's
+  pub length-accepted : (c : Command) → judged code n values (length buffer) ≡ Accepted c → length (frameFor code n values) ≡ frameLength c n
+  length-accepted c e =
+      subst (λ (k : Command). length values ≡ valueCount k n → length (frameFor code n values) ≡ frameLength k n)
+      (sym (accepted-command code n values (length buffer) e))
+      (length-frame code n values)
+      (accepted-buildable code n values (length buffer) e .count)
+
+  -- the command and its check put at the start, and then what follows
+  pub placed-accepted : (c : Command) → judged code n values (length buffer) ≡ Accepted c
+      → placed headSize (body c n values) (placed 0 (head code) buffer) ≡ bufferAfter code n values buffer
+  unfolding frameFor
+  placed-accepted c e =
+      let b = accepted-buildable code n values (length buffer) e in
+      placed-more 0 headSize (head code) buffer (zero-add (length (head code)) ∙ length-head code) (omega (arith, b .fits, head-fits c n)) (body c n values)
+      ∙ ap (λ (k : Command). placed 0 (head code ++ body k n values) buffer) (accepted-command code n values (length buffer) e)
+      ∙ unfold placed in ap (λ (m : ℕ). frameFor code n values ++ drop m buffer) (zero-add (length (frameFor code n values)) ∙ length-accepted c e)
+      ∙ sym (built-accepted c e .1)
+
+  -- a request is accepted where no refusal holds
+  pub built-given : Buildable (commandOf code commands) n values (length buffer)
+      → (built code n values (length buffer) ≡ Length (length (frameFor code n values)))
+      × (bufferAfter code n values buffer ≡ frameFor code n values ++ drop (length (frameFor code n values)) buffer)
+  built-given b =
+      let e = buildable-accepted code n values (length buffer) b in
+      let l = sym (length-frame code n values (b .count)) in (
+        built-accepted (commandOf code commands) e .0 ∙ ap Length l,
+        built-accepted (commandOf code commands) e .1 ∙ ap (λ (m : ℕ). frameFor code n values ++ drop m buffer) l,
+      )

@@ -1,0 +1,8 @@
+pub mod Tests
+pub mod Placed
+pub mod Payloads
+pub mod Judging
+pub mod FrameFor
+pub mod TwoPorts
+pub mod BothEnds
+pub mod Handed

@@ -1,0 +1,93 @@
+-- `host::frames::put_body` meets its contract, kind by kind.
+-- Assumes nothing.
+use mathlib.Core.Path.{sym, ap, _∙_}
+use native.Mathlib.Omega.{arith}
+use Rattle.monitor.specs.declared.commands.Command.{Command}
+use Rattle.monitor.specs.Commands.{frameLength}
+use Rattle.host.specs.Frames.{body, valueCount}
+use Rattle.host.specs.Placed.{headSize, placed}
+use Rattle.host.proofs.Placed.{placed-none}
+use borrow.Author.Needs.{needs}
+use Rattle.host.proofs.frames.put_body.Statement.{statement}
+use Rattle.host.proofs.frames.put_body.Tie as tie
+
+enum-told : tie.Need-enum-told
+enum-told c = search needs
+
+mul-put-filler : tie.Need-mul-put-filler
+mul-put-filler c = search needs
+
+put-filler-requires : tie.Need-put-filler-requires
+put-filler-requires c κs =
+    let start = c .before .before .before .before .before in
+    omega (arith, start .pre .2, ap (λ (k : Command). frameLength k (start .args .n)) (c .before .enum-told .given .1))
+
+enum-told-2 : tie.Need-enum-told-2
+enum-told-2 c = search needs
+
+put-payloads-requires : tie.Need-put-payloads-requires
+put-payloads-requires c κs =
+    let start = c .before .before .before .before .before in
+    let told = c .before .enum-told2 .given .1 in (
+      start .pre .0,
+      start .pre .1 ∙ ap (λ (k : Command). valueCount k (start .args .n)) told,
+      omega (arith, start .pre .2, ap (λ (k : Command). frameLength k (start .args .n)) told),
+    )
+
+enum-told-3 : tie.Need-enum-told-3
+enum-told-3 c = search needs
+
+enum-told-4 : tie.Need-enum-told-4
+enum-told-4 c = search needs
+
+same-length : tie.Need-same-length
+same-length c = search needs
+
+returns : tie.Need-returns
+unfolding body
+returns c =
+    let q = c .before .before .before .before .before .before .before .before .args in
+    c .before .before .put-filler .ensures
+    ∙ ap (λ (k : Command). placed headSize (body k (q .n) (q .values .now)) (q .buffer .now)) (sym (c .before .before .before .before .enum-told .given .1))
+
+same-length-2 : tie.Need-same-length-2
+same-length-2 c = search needs
+
+returns-2 : tie.Need-returns-2
+unfolding body
+returns-2 c =
+    let q = c .before .before .before .before .before .before .before .before .args in
+    c .before .before .put-payloads .ensures
+    ∙ ap (λ (k : Command). placed headSize (body k (q .n) (q .values .now)) (q .buffer .now)) (sym (c .before .before .before .before .enum-told2 .given .1))
+
+returns-3 : tie.Need-returns-3
+unfolding body
+returns-3 c =
+    let q = c .before .before .before .before .args in
+    sym (placed-none headSize (q .buffer .now))
+    ∙ ap (λ (k : Command). placed headSize (body k (q .n) (q .values .now)) (q .buffer .now)) (sym (c .enum-told3 .given .1))
+
+returns-4 : tie.Need-returns-4
+unfolding body
+returns-4 c =
+    let q = c .before .before .before .before .args in
+    sym (placed-none headSize (q .buffer .now))
+    ∙ ap (λ (k : Command). placed headSize (body k (q .n) (q .values .now)) (q .buffer .now)) (sym (c .enum-told4 .given .1))
+
+pub put-body-spec : {M : Type 1} → statement M
+put-body-spec =
+    tie.close
+    (tie.spec
+    enum-told
+    mul-put-filler
+    put-filler-requires
+    enum-told-2
+    put-payloads-requires
+    enum-told-3
+    enum-told-4
+    same-length
+    returns
+    same-length-2
+    returns-2
+    returns-3
+    returns-4)

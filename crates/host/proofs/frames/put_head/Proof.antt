@@ -1,0 +1,59 @@
+-- `host::frames::put_head` meets its contract: the code's two bytes, and its check behind them.
+-- Assumes nothing.
+use mathlib.Core.Path.{refl, ap₂, _∙_}
+use mathlib.Core.List.{[], _∷_}
+use Prim.Native.Nat.{_/_, _%_}
+use native.Mathlib.Omega.{arith}
+use Rattle.pec.specs.Words.{twoBytes, commandCheck}
+use Rattle.host.specs.Placed.{placed}
+use Rattle.host.proofs.Placed.{placed-more}
+use borrow.Author.Needs.{needs}
+use Rattle.host.proofs.frames.put_head.Statement.{statement}
+use Rattle.host.proofs.frames.put_head.Tie as tie
+
+cast-t6 : tie.Need-cast-t6
+cast-t6 c = search needs
+
+cast-t8 : tie.Need-cast-t8
+cast-t8 c = search needs
+
+slice-aggregate-put : tie.Need-slice-aggregate-put
+slice-aggregate-put c = search needs
+
+put-requires : tie.Need-put-requires
+put-requires c κs = search needs
+
+command-check-requires : tie.Need-command-check-requires
+command-check-requires c κs = search needs
+
+slice-aggregate-put-2 : tie.Need-slice-aggregate-put-2
+slice-aggregate-put-2 c = search needs
+
+put-requires-2 : tie.Need-put-requires-2
+put-requires-2 c κs = search needs
+
+same-length : tie.Need-same-length
+same-length c = search needs
+
+returns : tie.Need-returns
+unfolding twoBytes
+returns c =
+    let first = c .before .before .before .before .before .before .before .before in
+    let start = first .before .before .before .before in
+    c .before .before .put2 .ensures
+    ∙ ap₂ (placed 2) (c .before .before .before .before .before .command-check .ensures) (first .put .ensures)
+    ∙ placed-more 0 2 (start .args .code / 256 ∷ start .args .code % 256 ∷ []) (start .args .buffer .now) refl (omega (arith, start .pre)) (commandCheck (start .args .code))
+
+pub put-head-spec : {M : Type 1} → statement M
+put-head-spec =
+    tie.close
+    (tie.spec
+    cast-t6
+    cast-t8
+    slice-aggregate-put
+    put-requires
+    command-check-requires
+    slice-aggregate-put-2
+    put-requires-2
+    same-length
+    returns)

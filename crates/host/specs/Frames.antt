@@ -1,0 +1,70 @@
+-- Document 01: the frames that our host writes. Values are nearest monitor first; on the wire the farthest comes first.
+-- Assumes nothing.
+use mathlib.Core.Bool.{Bool, cond, not, _&&_}
+use mathlib.Core.List.{List, [], _∷_, _++_, map}
+use Prim.Native.Nat.{ℕ, _+_, _*_}
+use lib.Dec.{eqb, leb, ltb}
+use lib.ListN.{length, drop, replicate}
+use Rattle.laws.specs.Rows.{rows}
+use Rattle.pec.specs.Words.{twoBytes, commandCheck, seal, payloadRight}
+use Rattle.wire.specs.Order.{writeData}
+use Rattle.refusals.specs.declared.Refusal.{Refusal}
+use Rattle.refusals.specs.declared.Refusal.the-variants.{CodeNotListed, LengthWrong, NoRoom, PositionWrong, CountWrong}
+use Rattle.refusals.specs.Order.{Row, _gives_, decide}
+use Rattle.monitor.specs.declared.commands.Command.{Command}
+use Rattle.monitor.specs.declared.commands.Command.the-variants.{Reads, Writes, Bares, Unlisted}
+use Rattle.monitor.specs.Commands.{commands, commandOf, isListed, mostMonitors, payloadSize, frameLength}
+use Rattle.host.specs.declared.frames.Built.{Built}
+use Rattle.host.specs.declared.frames.Built.the-variants.{Unbuilt, Length}
+use Rattle.host.specs.declared.frames.Checked.{Checked}
+use Rattle.host.specs.declared.frames.Checked.the-variants.{Unchecked, Right, Wrong}
+
+-- the data bytes of a payload
+abbrev pub dataSize : ℕ
+dataSize = 6
+
+-- six bytes as a write sends them: with the counter 0, and the check over both
+unfoldable pub sealed : List ℕ → List ℕ
+sealed six = six ++ seal six 0
+
+-- what follows the command and its check
+unfoldable pub body : Command → ℕ → List ℕ → List ℕ
+body (Reads part) n values = replicate (payloadSize * n) 0xFF
+body (Writes c) n values = writeData (map sealed (rows dataSize n values))
+body (Bares c) n values = []
+body Unlisted n values = []
+
+-- the frame for a code, n monitors and values
+unfoldable pub frameFor : ℕ → ℕ → List ℕ → List ℕ
+frameFor code n values = twoBytes code ++ commandCheck code ++ body (commandOf code commands) n values
+
+-- the value bytes that a command wants: six for each monitor in a write, none otherwise
+abbrev pub valueCount : Command → ℕ → ℕ
+valueCount (Reads part) n = 0
+valueCount (Writes c) n = dataSize * n
+valueCount (Bares c) n = 0
+valueCount Unlisted n = 0
+
+unfoldable pub buildRefusals : ℕ → ℕ → List ℕ → ℕ → List Row
+buildRefusals code n values room =
+    (not (isListed (commandOf code commands)) gives CodeNotListed)
+    ∷ (not (leb 1 n && leb n mostMonitors) gives PositionWrong)
+    ∷ (not (eqb (length values) (valueCount (commandOf code commands) n)) gives CountWrong)
+    ∷ (ltb room (frameLength (commandOf code commands) n) gives NoRoom)
+    ∷ []
+
+-- what comes of building: the frame at the start of the buffer, and its length; bytes past it stay. A refusal changes nothing
+unfoldable pub built : ℕ → ℕ → List ℕ → ℕ → Built
+built code n values room = decide (buildRefusals code n values room) Unbuilt (Length (frameLength (commandOf code commands) n))
+
+unfoldable pub bufferAfter : ℕ → ℕ → List ℕ → List ℕ → List ℕ
+bufferAfter code n values buffer =
+    decide (buildRefusals code n values (length buffer)) (λ r. buffer)
+    (frameFor code n values ++ drop (frameLength (commandOf code commands) n) buffer)
+
+-- the check of one payload
+unfoldable pub checkRefusals : List ℕ → List Row
+checkRefusals payload = (not (eqb (length payload) payloadSize) gives LengthWrong) ∷ []
+
+unfoldable pub checked : List ℕ → Checked
+checked payload = decide (checkRefusals payload) Unchecked (cond (payloadRight payload) Right Wrong)

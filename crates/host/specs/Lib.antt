@@ -1,0 +1,5 @@
+pub mod Frames
+pub mod Judged
+pub mod Placed
+pub mod Ports
+pub mod Parts

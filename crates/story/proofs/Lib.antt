@@ -1,0 +1,3 @@
+pub mod OurHost
+pub mod ReadBack
+pub mod BothEnds

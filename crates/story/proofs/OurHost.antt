@@ -1,0 +1,149 @@
+-- Our host and the chain. For every sound table and every frame that our host builds for its N: the chain accepts it; in a write all
+-- N monitors take it, and each keeps what it would keep of its own six bytes, the k-th six of the list; in a read every
+-- monitor's part of the reply is right.
+-- Assumes nothing.
+use mathlib.Core.Path.{_≡_, refl, sym, ap, ap₂, _∙_, subst, subst⁻¹}
+use mathlib.Core.Bool.{Bool, true, cond}
+use mathlib.Core.List.{List, [], _∷_, map}
+use Prim.Native.Nat.{ℕ, suc, _+_, _-_, _*_, _≤_, _<_}
+use native.Mathlib.Numerals.{one-add}
+use native.Mathlib.Omega.{arith}
+use lib.ListN.{length, length-map, getD, drop}
+use Rattle.laws.specs.Counts.{count}
+use Rattle.laws.specs.Rows.{rows, rowAt}
+use Rattle.laws.specs.Tables.{tabulate}
+use Rattle.laws.proofs.Lists.{getD-map}
+use Rattle.laws.proofs.Rows.{Every, length-rows, every-rows, row-at}
+use Rattle.pec.specs.Words.{payloadRight}
+use Rattle.pec.proofs.CheckWords.{seal-right}
+use Rattle.wire.specs.Order.{writePayloads}
+use Rattle.wire.proofs.Order.{write-at}
+use Rattle.monitor.specs.declared.commands.Command.{Command}
+use Rattle.monitor.specs.declared.commands.Command.the-variants.{Reads, Writes}
+use Rattle.monitor.specs.declared.commands.Write.{Write}
+use Rattle.monitor.specs.declared.record.Part.{Part}
+use Rattle.monitor.specs.Record.{recordSize, counter, byteOf}
+use Rattle.monitor.specs.Commands.{commands, commandOf, isListed, payloadSize, frameLength}
+use Rattle.monitor.specs.Effects.{takes, keeps}
+use Rattle.monitor.specs.Reply.{register, reply}
+use Rattle.chain.specs.declared.frames.Answer.the-variants.{Accepted}
+use Rattle.chain.specs.declared.frames.Judged.the-variants.{Good}
+use Rattle.chain.specs.Table.{monitors, sound}
+use Rattle.chain.specs.Frame.{commandIn, payloadsIn, replyLength, takenBy, kept, replied, answer, tableAfter, replyAfter}
+use Rattle.chain.specs.Judged.{judged}
+use Rattle.chain.proofs.Soundness.{is-sound}
+use Rattle.chain.proofs.Judging.{pass-1, pass-2, pass-3, pass-4, pass-5, pass-6}
+use Rattle.chain.proofs.Outcome.{head, the-answer, the-table, the-buffer}
+use Rattle.chain.proofs.OwnBytes.{own-record, own-reply}
+use Rattle.chain.proofs.Taken.{taken-read}
+use Rattle.host.specs.Frames.{dataSize, sealed, valueCount, frameFor}
+use Rattle.host.proofs.FrameFor.{length-frame, frame-right, frame-code, write-payloads}
+use Rattle.host.proofs.Payloads.{sealed-right}
+
+-- ---- any frame that our host builds for a sound table's N
+
+module _ (table values buffer : List ℕ) (code : ℕ) (c : Command) (its : commandOf code commands ≡ c) (listed : isListed c ≡ true)
+    (is-sound-table : sound table ≡ true) (right-count : length values ≡ valueCount c (monitors table)) (enough : replyLength c (monitors table) ≤ length buffer) where
+  abbrev frame : List ℕ
+  frame = frameFor code (monitors table) values
+
+  command-in : commandIn frame ≡ c
+  unfolding commandIn
+  command-in = ap (λ (x : ℕ). commandOf x commands) (frame-code code (monitors table) values) ∙ its
+
+  frame-length : length frame ≡ frameLength c (monitors table)
+  frame-length =
+      length-frame code (monitors table) values (right-count ∙ ap (λ (k : Command). valueCount k (monitors table)) (sym its))
+      ∙ ap (λ (k : Command). frameLength k (monitors table)) its
+
+  pub judged-good : judged table frame (length buffer) ≡ Good c (monitors table)
+  judged-good =
+      let n = monitors table in
+      let room = length buffer in
+      let four : 4 ≤ length frame = omega (arith, frame-length, head c n) in
+      pass-1 table frame room is-sound-table
+      ∙ pass-2 table frame room four
+      ∙ pass-3 table frame room (frame-right code n values)
+      ∙ pass-4 table frame room (ap isListed command-in ∙ listed)
+      ∙ pass-5 table frame room (frame-length ∙ ap (λ (k : Command). frameLength k n) (sym command-in))
+      ∙ pass-6 table frame room (subst (λ (k : Command). replyLength k n ≤ room) (sym command-in) enough)
+      ∙ ap (λ (k : Command). Good k n) command-in
+
+  pub accepted : answer table frame (length buffer) ≡ Accepted (takenBy c (monitors table) frame) (replyLength c (monitors table))
+  accepted = the-answer table frame buffer judged-good
+
+  pub table-after : tableAfter table frame (length buffer) ≡ kept c (monitors table) table frame
+  table-after = the-table table frame buffer judged-good
+
+  pub reply-after : replyAfter table frame buffer ≡ replied c (monitors table) table buffer
+  reply-after = the-buffer table frame buffer judged-good
+
+-- ---- writes
+
+each-right : (rs : List (List ℕ)) → Every dataSize rs → count payloadRight (map sealed rs) ≡ length rs
+unfolding count
+each-right [] e = refl
+each-right (r ∷ rs) e =
+    ap₂ _+_ (ap (λ (b : Bool). cond b 1 0) (sealed-right r (e .0))) (each-right rs (e .1)) ∙ one-add (length rs)
+
+module _ (table values buffer : List ℕ) (code : ℕ) (w : Write) (its : commandOf code commands ≡ Writes w)
+    (is-sound-table : sound table ≡ true) (right-count : length values ≡ dataSize * monitors table) where
+  abbrev written-frame : List ℕ
+  written-frame = frameFor code (monitors table) values
+
+  own-payloads : payloadsIn written-frame (monitors table) ≡ map sealed (rows dataSize (monitors table) values)
+  unfolding payloadsIn
+  own-payloads = write-payloads code (monitors table) values w its right-count
+
+  all-taken : takenBy (Writes w) (monitors table) written-frame ≡ monitors table
+  unfolding takenBy
+  all-taken =
+      ap (count payloadRight) own-payloads
+      ∙ each-right (rows dataSize (monitors table) values) (every-rows dataSize (monitors table) values (omega arith))
+      ∙ length-rows dataSize (monitors table) values
+
+  -- the chain accepts the frame, and all N monitors take it
+  pub write-taken-by-all : answer table written-frame (length buffer) ≡ Accepted (monitors table) 0
+  write-taken-by-all =
+      accepted table values buffer code (Writes w) its refl is-sound-table right-count (omega arith) ∙ ap (λ (t : ℕ). Accepted t 0) all-taken
+
+  -- the own eight bytes of the monitor at k, counted from 0, are the k-th six of the list, sealed
+  own-eight : (k : ℕ) → k < monitors table → rowAt payloadSize (monitors table - suc k) (drop 4 written-frame) ≡ sealed (rowAt dataSize k values)
+  unfolding payloadsIn
+  own-eight k h =
+      let within = length-rows dataSize (monitors table) values in
+      sym (write-at payloadSize (monitors table) (drop 4 written-frame) k [] h)
+      ∙ ap (λ (ps : List (List ℕ)). getD ps k []) own-payloads
+      ∙ getD-map sealed (rows dataSize (monitors table) values) k [] [] (omega arith)
+      ∙ ap sealed (row-at dataSize (monitors table) values k [] h)
+
+  pub each-keeps-its-own : (k : ℕ) → k < monitors table
+      → rowAt recordSize k (tableAfter table written-frame (length buffer)) ≡ keeps (Writes w) (sealed (rowAt dataSize k values)) (rowAt recordSize k table)
+  each-keeps-its-own k h =
+      ap (rowAt recordSize k) (table-after table values buffer code (Writes w) its refl is-sound-table right-count (omega arith))
+      ∙ own-record (Writes w) (monitors table) table written-frame k h (sym (is-sound table is-sound-table .whole))
+      ∙ ap (λ (eight : List ℕ). keeps (Writes w) eight (rowAt recordSize k table)) (own-eight k h)
+
+-- ---- reads
+
+pub length-register : (part : Part) (r : List ℕ) → length (register part r) ≡ dataSize
+unfolding register tabulate
+length-register part r = refl
+
+pub reply-right : (part : Part) (r : List ℕ) → payloadRight (reply part r) ≡ true
+unfolding reply
+reply-right part r = seal-right (register part r) (byteOf counter r) (length-register part r)
+
+module _ (table buffer : List ℕ) (code : ℕ) (part : Part) (its : commandOf code commands ≡ Reads part)
+    (is-sound-table : sound table ≡ true) (enough : payloadSize * monitors table ≤ length buffer) where
+  pub read-taken-by-all : answer table (frameFor code (monitors table) []) (length buffer) ≡ Accepted (monitors table) (payloadSize * monitors table)
+  read-taken-by-all =
+      accepted table [] buffer code (Reads part) its refl is-sound-table refl enough
+      ∙ ap (λ (t : ℕ). Accepted t (payloadSize * monitors table)) (taken-read part (monitors table) (frameFor code (monitors table) []))
+
+  -- monitor by monitor, from port A
+  pub each-reply-right : (k : ℕ) → k < monitors table → payloadRight (rowAt payloadSize k (replyAfter table (frameFor code (monitors table) []) buffer)) ≡ true
+  each-reply-right k h =
+      ap (λ (b : List ℕ). payloadRight (rowAt payloadSize k b)) (reply-after table [] buffer code (Reads part) its refl is-sound-table refl enough)
+      ∙ ap payloadRight (own-reply part (monitors table) table buffer k h)
+      ∙ reply-right part (rowAt recordSize k table)

@@ -1,0 +1,1 @@
+// What the crates below add up to. No code: all of it is in proofs/.
