@@ -1,5 +1,6 @@
--- A refusal changes nothing: where the answer is a refusal, the table and the reply buffer are as they were; where it is none, they
--- are what the accepted frame makes of them. By going down the refusals: the first that holds is the same for all three.
+-- A refusal changes nothing: where the answer is a refusal, the table and the reply buffer are as they were; where it is none, the
+-- table, the buffer and the two numbers are what the accepted frame makes of them. By going down the refusals: the first that
+-- holds is the same for all of them.
 -- Assumes nothing.
 use mathlib.Core.Path.{_≡_, refl, sym}
 use mathlib.Core.Bool.{Bool, true, false, cond}
@@ -13,7 +14,7 @@ use Rattle.refusals.specs.Order.{Row, decide}
 use Rattle.chain.specs.declared.frames.Answer.the-variants.{Refused, Accepted}
 use Rattle.chain.specs.declared.loads.Loaded.the-variants.{Unloaded, Done}
 use Rattle.chain.specs.Table.{monitors}
-use Rattle.chain.specs.Frame.{commandIn, frameRefusals, kept, replied, answer, tableAfter, replyAfter}
+use Rattle.chain.specs.Frame.{commandIn, frameRefusals, replyLength, takenBy, kept, replied, answer, tableAfter, replyAfter}
 use Rattle.chain.specs.Load.{loadRefusals, loadedAt, loaded, tableAfterLoad}
 
 -- ---- down a list of refusals
@@ -55,6 +56,18 @@ goes-on {A} {B} (row ∷ rows) refused accepted other before after apart e = by 
     by true rest e = absurd (apart (row .refusal) (sym e))
     by false rest e = rest e
 
+-- then the answer is the accepted one
+pub is-accepted : {A : Type 0} (rows : List Row) (refused : Refusal → A) (accepted other : A)
+    → ((r : Refusal) → other ≡ refused r → ⊥) → decide rows refused accepted ≡ other → accepted ≡ other
+unfolding decide
+is-accepted [] refused accepted other apart e = e
+is-accepted {A} (row ∷ rows) refused accepted other apart e = by (row .holds) (is-accepted rows refused accepted other apart) e
+  where
+    by : (b : Bool) → (decide rows refused accepted ≡ other → accepted ≡ other)
+        → cond b (refused (row .refusal)) (decide rows refused accepted) ≡ other → accepted ≡ other
+    by true rest e = absurd (apart (row .refusal) (sym e))
+    by false rest e = rest e
+
 -- ---- a frame
 
 accepted-apart : (taken reply : ℕ) (r : Refusal) → Accepted taken reply ≡ Refused r → ⊥
@@ -78,6 +91,17 @@ module _ (table frame : List ℕ) (taken reply : ℕ) where
       → replyAfter table frame buffer ≡ replied (commandIn frame) (monitors table) table buffer
   unfolding answer replyAfter
   accepted-reply buffer e = goes-on (frameRefusals table frame (length buffer)) Refused _ (Accepted taken reply) buffer _ (accepted-apart taken reply) e
+
+  the-values : (room : ℕ) → answer table frame room ≡ Accepted taken reply
+      → Accepted (takenBy (commandIn frame) (monitors table) frame) (replyLength (commandIn frame) (monitors table)) ≡ Accepted taken reply
+  unfolding answer
+  the-values room e = is-accepted (frameRefusals table frame room) Refused _ (Accepted taken reply) (accepted-apart taken reply) e
+
+  pub accepted-taken : (room : ℕ) → answer table frame room ≡ Accepted taken reply → taken ≡ takenBy (commandIn frame) (monitors table) frame
+  accepted-taken room e = let same = the-values room e in cc
+
+  pub accepted-length : (room : ℕ) → answer table frame room ≡ Accepted taken reply → reply ≡ replyLength (commandIn frame) (monitors table)
+  accepted-length room e = let same = the-values room e in cc
 
 -- ---- a load
 

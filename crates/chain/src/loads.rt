@@ -8,7 +8,7 @@ ghost use Rattle.monitor.specs.Record.{recordSize};
 ghost use Rattle.monitor.specs.Commands.{mostMonitors};
 ghost use Rattle.monitor.specs.Cells.{cellCount, isCleared};
 ghost use Rattle.chain.specs.Load.{loadedAt, loaded, tableAfterLoad};
-ghost use Rattle.chain.specs.LoadJudged.{LoadReadyIf, LoadReady};
+ghost use Rattle.chain.specs.LoadJudged.{LoadReadyIf};
 use crate::tables::sound_count;
 use monitor::RECORD_SIZE;
 use refusals::Refusal;

@@ -1,11 +1,7 @@
 -- `chain::loads::load` meets its contract: a load is judged, and what comes of it is what comes of its judgement.
 -- Assumes nothing.
 use mathlib.Core.Path.{sym, _∙_, subst}
-use Prim.Native.Nat.{_+_, _-_, _*_, _≤_, _<_}
 use native.Mathlib.Omega.{arith}
-use lib.ListN.{length}
-use Rattle.monitor.specs.Record.{recordSize}
-use Rattle.monitor.specs.Commands.{mostMonitors}
 use Rattle.chain.specs.declared.loads.Loaded.{Loaded}
 use Rattle.chain.specs.LoadJudged.{LoadReadyIf}
 use Rattle.chain.proofs.LoadJudging.{the-table}
@@ -26,15 +22,13 @@ sub-load-at : tie.Need-sub-load-at
 sub-load-at c =
     let a = c .before .before .before .before .before .before .args in
     let ready = subst (λ (l : Loaded). LoadReadyIf l (a .table .now) (a .position) (a .codes .now)) (c .before .enum-told .given .1) (c .before .before .before .judge-load .ensures .1) in
-    ready .first
+    omega (arith, ready .first)
 
 load-at-requires : tie.Need-load-at-requires
 load-at-requires c κs =
     let a = c .before .before .before .before .before .before .args in
     let ready = subst (λ (l : Loaded). LoadReadyIf l (a .table .now) (a .position) (a .codes .now)) (c .before .enum-told .given .1) (c .before .before .before .judge-load .ensures .1) in
-    let few : a .position - 1 < mostMonitors = omega (arith, ready .first, ready .few) in
-    let within : (a .position - 1) * recordSize + recordSize ≤ length (a .table .now) = omega (arith, ready .first, ready .within) in
-    (few, within, ready .sixteen)
+    (omega (arith, ready .first, ready .few), omega (arith, ready .first, ready .within), ready .sixteen)
 
 same-length : tie.Need-same-length
 same-length c = search needs
