@@ -18,7 +18,7 @@ use Rattle.monitor.specs.declared.commands.Bare.the-variants.{Mute, Unmu
 use Rattle.monitor.specs.declared.commands.Command.{Command}
 use Rattle.monitor.specs.declared.commands.Command.the-variants.{Reads, Writes, Bares, Unlisted}
 use Rattle.monitor.specs.declared.record.Part.{Part}
-use Rattle.monitor.specs.Record.{counter, unlocked, recordSize, byteOf, anew, onBytes, recordSound}
+use Rattle.monitor.specs.Record.{cells, counter, unlocked, recordSize, byteOf, anew, onBytes, recordSound}
 use Rattle.monitor.specs.Effects.{locked, nextCount, counted, rulesOf, changed, byRules, opens, written, done, keeps}
 use Rattle.monitor.specs.Reply.{register, reply}
 use Rattle.monitor.proofs.Anew.{length-anew, anew-below, anew-above, anew-inside}
@@ -71,13 +71,13 @@ record Fine (r : List ℕ) : Type 0 where
   lock : byteOf unlocked r ≤ 1
 
 -- a change elsewhere leaves both
-elsewhere : (f : ℕ → ℕ → ℕ) (at n : ℕ) (r : List ℕ) → at + n ≤ 68 → Fine r → Fine (anew f at n r)
+elsewhere : (f : ℕ → ℕ → ℕ) (at n : ℕ) (r : List ℕ) → at + n ≤ counter .at → Fine r → Fine (anew f at n r)
 unfolding byteOf
 elsewhere f at n r h s =
     record {
       whole = length-anew f at n r ∙ s .whole;
-      count = subst⁻¹ (λ (x : ℕ). x ≤ 63) (anew-above f at n r {j = 68} h) (s .count);
-      lock = subst⁻¹ (λ (x : ℕ). x ≤ 1) (anew-above f at n r {j = 69} (omega arith)) (s .lock);
+      count = subst⁻¹ (λ (x : ℕ). x ≤ 63) (anew-above f at n r {j = counter .at} h) (s .count);
+      lock = subst⁻¹ (λ (x : ℕ). x ≤ 1) (anew-above f at n r {j = unlocked .at} (omega arith)) (s .lock);
     }
 
 fine-lock : (v : ℕ) (r : List ℕ) → v ≤ 1 → Fine r → Fine (onBytes unlocked (λ i old. v) r)
@@ -85,8 +85,8 @@ unfolding byteOf onBytes
 fine-lock v r h s =
     record {
       whole = length-anew _ _ _ r ∙ s .whole;
-      count = subst⁻¹ (λ (x : ℕ). x ≤ 63) (anew-below (λ i old. v) 69 1 r {j = 68} (lit< tt)) (s .count);
-      lock = subst⁻¹ (λ (x : ℕ). x ≤ 1) (anew-inside (λ i old. v) 69 1 r 0 (lit< tt) (omega (arith, s .whole))) h;
+      count = subst⁻¹ (λ (x : ℕ). x ≤ 63) (anew-below (λ i old. v) (unlocked .at) 1 r {j = counter .at} (lit< tt)) (s .count);
+      lock = subst⁻¹ (λ (x : ℕ). x ≤ 1) (anew-inside (λ i old. v) (unlocked .at) 1 r 0 (lit< tt) (omega (arith, s .whole))) h;
     }
 
 fine-count : (f : ℕ → ℕ → ℕ) (r : List ℕ) → ((n : ℕ) → f 0 n ≤ 63) → Fine r → Fine (onBytes counter f r)
@@ -94,8 +94,8 @@ unfolding byteOf onBytes
 fine-count f r h s =
     record {
       whole = length-anew _ _ _ r ∙ s .whole;
-      count = subst⁻¹ (λ (x : ℕ). x ≤ 63) (anew-inside f 68 1 r 0 (lit< tt) (omega (arith, s .whole))) (h (getD r 68 0));
-      lock = subst⁻¹ (λ (x : ℕ). x ≤ 1) (anew-above f 68 1 r {j = 69} (lit≤ tt)) (s .lock);
+      count = subst⁻¹ (λ (x : ℕ). x ≤ 63) (anew-inside f (counter .at) 1 r 0 (lit< tt) (omega (arith, s .whole))) (h (getD r (counter .at) 0));
+      lock = subst⁻¹ (λ (x : ℕ). x ≤ 1) (anew-above f (counter .at) 1 r {j = unlocked .at} (lit≤ tt)) (s .lock);
     }
 
 next-fine : (n : ℕ) → nextCount n ≤ 63
@@ -114,7 +114,7 @@ fine-counted : (r : List ℕ) → Fine r → Fine (counted (locked r))
 unfolding counted
 fine-counted r s = fine-count (λ i old. nextCount old) (locked r) next-fine (fine-locked r s)
 
-rules-elsewhere : (w : Write) → rulesOf w .at + 6 ≤ 68
+rules-elsewhere : (w : Write) → rulesOf w .at + 6 ≤ counter .at
 rules-elsewhere Wrcfga = lit≤ tt
 rules-elsewhere Wrcfgb = lit≤ tt
 rules-elsewhere Wrrr = lit≤ tt
@@ -135,7 +135,7 @@ fine-done Mute r s = elsewhere _ 5 1 r (lit≤ tt) s
 fine-done Unmute r s = elsewhere _ 5 1 r (lit≤ tt) s
 fine-done Rstcc r s = fine-count (λ i old. 0) r (λ n. lit≤ tt) s
 fine-done Ulrr r s = fine-lock 1 r (lit≤ tt) s
-fine-done Clrcell r s = elsewhere _ 12 32 r (lit≤ tt) s
+fine-done Clrcell r s = elsewhere _ (cells .at) (cells .size) r (lit≤ tt) s
 
 fine-keeps : (c : Command) (eight r : List ℕ) → Fine r → Fine (keeps c eight r)
 unfolding keeps
@@ -168,4 +168,4 @@ sound-keeps c eight r w s = from-fine (keeps c eight r) (fine-keeps c eight r (t
 pub sound-elsewhere : (f : ℕ → ℕ → ℕ) (at n : ℕ) (r : List ℕ) → at + n ≤ counter .at → recordSound (anew f at n r) ≡ recordSound r
 unfolding recordSound byteOf
 sound-elsewhere f at n r h =
-    ap₂ (λ (x y : ℕ). leb x 63 && leb y 1) (anew-above f at n r {j = 68} h) (anew-above f at n r {j = 69} (omega arith))
+    ap₂ (λ (x y : ℕ). leb x 63 && leb y 1) (anew-above f at n r {j = counter .at} h) (anew-above f at n r {j = unlocked .at} (omega arith))

@@ -62,7 +62,7 @@ returns c =
     (toZ-ofZ (record { sfits = c .signed16 .ok })
     ∙ c .signed16 .ensures
     ∙ ap₂ (λ (m n : ℕ). signed 16 (m + n * 256)) (c .before .before .byte-at .ensures ∙ sym low)
-    (c .before .byte-at2 .ensures ∙ ap (λ (n : ℕ). getD (a .rec .now) n 0) (add-assoc 12 (2 * a .c) 1) ∙ sym high))
+    (c .before .byte-at2 .ensures ∙ ap (λ (n : ℕ). getD (a .rec .now) n 0) (add-assoc (cells .at) (2 * a .c) 1) ∙ sym high))
 
 pub code-at-spec : {M : Type 1} → statement M
 code-at-spec =

@@ -6,7 +6,7 @@ use mathlib.Core.Logic.{⊎-elim}
 use Prim.Native.Nat.{ℕ, _-_, _%_}
 use native.Mathlib.Omega.{arith}
 use borrow.Author.Tests.{eq-eqb, ne-eqb}
-use Rattle.monitor.specs.Record.{onBytes}
+use Rattle.monitor.specs.Record.{cells, onBytes}
 use Rattle.monitor.specs.Effects.{clearedByte, done}
 use Rattle.monitor.proofs.Making.{Making, making-start, making-more, making-end}
 use Rattle.monitor.proofs.effects.clear_cells.Statement.{statement}
@@ -21,7 +21,7 @@ unfolding clearedByte
 uneven i h = ap (λ (b : Bool). cond b 0 0x80) (sym (ne-eqb (i % 2) 0 h))
 
 abbrev Inv-loop : tie.InvT-loop
-Inv-loop rec₀ i₀ rec i = Making (λ k old. clearedByte k) 12 32 rec₀ rec i
+Inv-loop rec₀ i₀ rec i = Making (λ k old. clearedByte k) (cells .at) (cells .size) rec₀ rec i
 
 abbrev μ-loop : tie.MeasureT-loop
 μ-loop rec₀ i₀ rec i = 32 - i

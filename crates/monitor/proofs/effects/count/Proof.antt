@@ -3,7 +3,7 @@
 use mathlib.Core.Path.{ap}
 use Prim.Native.Nat.{ℕ}
 use lib.ListN.{set}
-use Rattle.monitor.specs.Record.{anew, onBytes}
+use Rattle.monitor.specs.Record.{counter, anew, onBytes}
 use Rattle.monitor.specs.Effects.{counted}
 use borrow.Author.Needs.{needs}
 use Rattle.monitor.proofs.effects.count.Statement.{statement}
@@ -23,7 +23,7 @@ same-length c = search needs
 
 returns : tie.Need-returns
 unfolding counted onBytes anew
-returns c = ap (λ (n : ℕ). set (c .before .before .before .args .rec .now) 68 n) (c .next-count .ensures)
+returns c = ap (λ (n : ℕ). set (c .before .before .before .args .rec .now) (counter .at) n) (c .next-count .ensures)
 
 pub count-spec : {M : Type 1} → statement M
 count-spec =

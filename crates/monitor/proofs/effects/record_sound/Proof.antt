@@ -3,9 +3,8 @@
 use mathlib.Core.Path.{sym, ap, ap₂, _∙_}
 use mathlib.Core.Bool.{Bool, _&&_}
 use lib.Dec.{leb}
-use lib.ListN.{getD}
 use borrow.Author.Tests.{le-leb, lt-leb}
-use Rattle.monitor.specs.Record.{byteOf, recordSound}
+use Rattle.monitor.specs.Record.{counter, unlocked, byteOf, recordSound}
 use Rattle.monitor.proofs.Answers.{is-record, no-record}
 use borrow.Author.Needs.{needs}
 use Rattle.monitor.proofs.effects.record_sound.Statement.{statement}
@@ -22,7 +21,7 @@ returns-2 : tie.Need-returns-2
 unfolding recordSound byteOf
 returns-2 c =
     let r = c .before .before .before .args .rec .now in
-    sym (ap₂ _&&_ (is-record r (c .before .before .if1 .left)) (ap (λ (b : Bool). b && leb (getD r 69 0) 1) (lt-leb (getD r 68 0) 63 (c .if2 .taken))))
+    sym (ap₂ _&&_ (is-record r (c .before .before .if1 .left)) (ap (λ (b : Bool). b && leb (byteOf unlocked r) 1) (lt-leb (byteOf counter r) 63 (c .if2 .taken))))
 
 shared-slice-read-result : tie.Need-shared-slice-read-result
 shared-slice-read-result c = search needs
@@ -31,7 +30,7 @@ returns-3 : tie.Need-returns-3
 unfolding recordSound byteOf
 returns-3 c =
     let r = c .before .before .before .before .args .rec .now in
-    sym (ap₂ _&&_ (is-record r (c .before .before .before .if1 .left)) (ap (λ (b : Bool). b && leb (getD r 69 0) 1) (le-leb (getD r 68 0) 63 (c .before .if2 .left))))
+    sym (ap₂ _&&_ (is-record r (c .before .before .before .if1 .left)) (ap (λ (b : Bool). b && leb (byteOf unlocked r) 1) (le-leb (byteOf counter r) 63 (c .before .if2 .left))))
 
 pub record-sound-spec : {M : Type 1} → statement M
 record-sound-spec =
