@@ -1,3 +1,4 @@
 pub mod OurHost
 pub mod ReadBack
 pub mod BothEnds
+pub mod OneOutcome
