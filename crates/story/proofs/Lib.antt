@@ -2,3 +2,4 @@ pub mod OurHost
 pub mod ReadBack
 pub mod BothEnds
 pub mod OneOutcome
+pub mod Numbers

@@ -141,9 +141,11 @@ module _ (table buffer : List ℕ) (code : ℕ) (part : Part) (its : commandOf c
       accepted table [] buffer code (Reads part) its refl is-sound-table refl enough
       ∙ ap (λ (t : ℕ). Accepted t (payloadSize * monitors table)) (taken-read part (monitors table) (frameFor code (monitors table) []))
 
-  -- monitor by monitor, from port A
+  -- monitor by monitor: its part of the reply is what it replies, and that is right
+  pub each-reply-its-own : (k : ℕ) → k < monitors table → rowAt payloadSize k (replyAfter table (frameFor code (monitors table) []) buffer) ≡ reply part (rowAt recordSize k table)
+  each-reply-its-own k h =
+      ap (rowAt payloadSize k) (reply-after table [] buffer code (Reads part) its refl is-sound-table refl enough)
+      ∙ own-reply part (monitors table) table buffer k h
+
   pub each-reply-right : (k : ℕ) → k < monitors table → payloadRight (rowAt payloadSize k (replyAfter table (frameFor code (monitors table) []) buffer)) ≡ true
-  each-reply-right k h =
-      ap (λ (b : List ℕ). payloadRight (rowAt payloadSize k b)) (reply-after table [] buffer code (Reads part) its refl is-sound-table refl enough)
-      ∙ ap payloadRight (own-reply part (monitors table) table buffer k h)
-      ∙ reply-right part (rowAt recordSize k table)
+  each-reply-right k h = ap payloadRight (each-reply-its-own k h) ∙ reply-right part (rowAt recordSize k table)

@@ -1,5 +1,5 @@
--- Configuration B written by our host and read back is the list that was written, monitor by monitor; and a reply seen from the
--- other end of the chain is right wherever it is right from this one.
+-- Configuration B written by our host and read back is the list that was written, monitor by monitor: by one frame each, the first
+-- six bytes of monitor k's part of the reply are the k-th six of the list.
 -- Assumes nothing.
 use mathlib.Core.Path.{_≡_, refl, sym, ap, ap₂, _∙_}
 use mathlib.Core.Bool.{true}
@@ -8,8 +8,8 @@ use Prim.Native.Nat.{ℕ, zero, suc, _+_, _-_, _*_, _≤_, _<_}
 use native.Mathlib.Nat.{mod-eq-of-lt, lt-of-lt-of-le}
 use native.Mathlib.Omega.{arith}
 use lib.Bits.{bitAnd, bitOr, and-mask, and-zero-r, or-zero-r}
-use lib.ListN.{length, getD, List·getD-append}
-use lib.Seq.{ext-getD}
+use lib.ListN.{length, getD, take, List·getD-append}
+use lib.Seq.{ext-getD, take-at}
 use Rattle.laws.specs.Rows.{rows, rowAt, joined}
 use Rattle.laws.specs.Tables.{tabulate}
 use Rattle.laws.proofs.Lists.{getD-any}
@@ -17,23 +17,24 @@ use Rattle.laws.proofs.Rows.{length-row-at, row-element}
 use Rattle.laws.proofs.Tables.{at-each}
 use Rattle.pec.specs.Words.{payloadRight}
 use Rattle.wire.specs.Order.{farthestFirst}
-use Rattle.monitor.specs.declared.commands.Command.the-variants.{Writes}
+use Rattle.monitor.specs.declared.commands.Command.the-variants.{Reads, Writes}
 use Rattle.monitor.specs.declared.commands.Write.the-variants.{Wrcfgb}
 use Rattle.monitor.specs.Record.{recordSize, unlocked, byteOf, anew}
 use Rattle.monitor.specs.Commands.{commands, commandOf, rdcfgb, payloadSize}
 use Rattle.monitor.specs.Effects.{locked, counted, rulesOf, changed, byRules, opens, written, keeps}
-use Rattle.monitor.specs.Reply.{register}
+use Rattle.monitor.specs.Reply.{register, reply}
 use Rattle.monitor.proofs.Anew.{length-anew, anew-inside}
 use Rattle.monitor.proofs.Keeping.{keeps-right}
 use Rattle.monitor.proofs.Showing.{shows}
 use Rattle.monitor.proofs.Sound.{length-keeps}
 use Rattle.chain.specs.Table.{monitors, sound}
-use Rattle.chain.specs.Frame.{tableAfter}
+use Rattle.chain.specs.Frame.{tableAfter, replyAfter}
+use Rattle.chain.proofs.Keeps.{sound-after-frame, monitors-after-frame}
 use Rattle.chain.proofs.Serving.{lent-length}
 use Rattle.chain.proofs.Soundness.{is-sound}
 use Rattle.host.specs.Frames.{dataSize, sealed, frameFor}
 use Rattle.host.proofs.Payloads.{sealed-right}
-use Rattle.story.proofs.OurHost.{each-keeps-its-own, length-register}
+use Rattle.story.proofs.OurHost.{each-keeps-its-own, each-reply-its-own, length-register}
 
 -- a byte stored under the mask FF, with nothing kept, is the byte that was sent
 as-sent : (s old : ℕ) → s < 256 → bitOr (bitAnd s 255) (bitAnd old 0) ≡ s
@@ -102,3 +103,19 @@ configuration-b-reads-back table values buffer code its s count bytes k h =
   where
     row-bytes : (i : ℕ) → i < dataSize → getD (rowAt dataSize k values) i 0 < 256
     row-bytes i j = rw (row-element dataSize k values i 0 j) (bytes (k * dataSize + i))
+
+-- and so does the reply to our host's RDCFGB after it
+pub written-and-read-back : (table values buffer replies : List ℕ) (write read : ℕ) → commandOf write commands ≡ Writes Wrcfgb → commandOf read commands ≡ Reads rdcfgb
+    → sound table ≡ true → length values ≡ dataSize * monitors table → ((i : ℕ) → getD values i 0 < 256) → payloadSize * monitors table ≤ length replies
+    → (k : ℕ) → k < monitors table
+    → take dataSize (rowAt payloadSize k (replyAfter (tableAfter table (frameFor write (monitors table) values) (length buffer)) (frameFor read (monitors table) []) replies)) ≡ rowAt dataSize k values
+unfolding reply
+written-and-read-back table values buffer replies write read its its-read s count bytes enough k h =
+    let frame = frameFor write (monitors table) values in
+    let after = tableAfter table frame (length buffer) in
+    let same : monitors after ≡ monitors table = monitors-after-frame table frame (length buffer) s in
+    let its-own = each-reply-its-own after replies read rdcfgb its-read (sound-after-frame table frame (length buffer) s) (omega (arith, same)) k (omega (arith, same)) in
+    ap (λ (n : ℕ). take dataSize (rowAt payloadSize k (replyAfter after (frameFor read n []) replies))) (sym same)
+    ∙ ap (take dataSize) its-own
+    ∙ take-at (register rdcfgb (rowAt recordSize k after)) _ dataSize (length-register rdcfgb (rowAt recordSize k after))
+    ∙ configuration-b-reads-back table values buffer write its s count bytes k h
