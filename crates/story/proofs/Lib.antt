@@ -3,3 +3,4 @@ pub mod ReadBack
 pub mod BothEnds
 pub mod OneOutcome
 pub mod Numbers
+pub mod EitherSide
