@@ -10,9 +10,13 @@ use readings::Reading;
 // Stands for the bits of a reading that is cleared: those of a NaN, which no reading is.
 const CLEARED: u64 = 0x7ff8_0000_0000_0000;
 
-// The bits of a float. A NaN, which no reading is, has none here.
+// The bits of a float. A NaN, which no reading is, gives all ones, which are expected nowhere.
 fn bits_of(x: f64) -> u64 {
-    if x == x { f64::to_bits(x) } else { 0 }
+    if x == x {
+        f64::to_bits(x)
+    } else {
+        0xffff_ffff_ffff_ffff
+    }
 }
 
 // A code's microvolts, which are said where they are as expected, and the bits of its reading.

@@ -1,1 +1,1 @@
-// What the crates below add up to. No code: all of it is in proofs/.
+// What the crates below add up to. No code: all of it is in specs/ and proofs/.
