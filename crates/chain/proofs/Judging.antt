@@ -1,9 +1,9 @@
 -- Going down the refusals of a frame: what passes each, and what stops at it.
 -- Assumes nothing.
-use mathlib.Core.Path.{_≡_, refl, sym, ap, _∙_}
+use mathlib.Core.Path.{_≡_, refl, sym, ap, _∙_, subst⁻¹}
 use mathlib.Core.Bool.{Bool, true, false, cond, not}
 use mathlib.Core.List.{List}
-use Prim.Native.Nat.{ℕ, _≤_, _<_}
+use Prim.Native.Nat.{ℕ, _*_, _≤_, _<_}
 use native.Mathlib.Omega.{arith}
 use lib.Dec.{eqb, leb, ltb}
 use lib.ListN.{length, take, drop}
@@ -12,6 +12,7 @@ use Rattle.pec.specs.Words.{commandRight}
 use Rattle.refusals.specs.declared.Refusal.the-variants.{TableNotSound, FrameShort, CommandWrong, CodeNotListed, LengthWrong, NoRoom}
 use Rattle.refusals.specs.Order.{decide}
 use Rattle.refusals.proofs.Deciding.{holds-here, holds-not, none-left}
+use Rattle.monitor.specs.Record.{recordSize}
 use Rattle.monitor.specs.Commands.{isListed, mostMonitors, frameLength}
 use Rattle.chain.specs.declared.frames.Judged.{Judged}
 use Rattle.chain.specs.declared.frames.Judged.the-variants.{Bad, Good}
@@ -45,6 +46,13 @@ module _ (table : List ℕ) {n : ℕ} (counted : n ≡ cond (sound table) (monit
 
   pub count-is : sound table ≡ true → n ≡ monitors table
   count-is e = by-test true e
+
+  -- a count that is not 0 is one of whole records, and of no more than a chain has
+  pub counts-whole : (n ≡ 0 → ⊥) → length table ≡ n * recordSize
+  counts-whole h = is-sound table (not-none h) .whole ∙ ap (λ (x : ℕ). x * recordSize) (sym (count-is (not-none h)))
+
+  pub counts-few : (n ≡ 0 → ⊥) → n ≤ mostMonitors
+  counts-few h = subst⁻¹ (λ (x : ℕ). x ≤ mostMonitors) (count-is (not-none h)) (is-sound table (not-none h) .few)
 
 -- ---- refusal by refusal
 

@@ -42,14 +42,38 @@ replyLength Unlisted n = 0
 
 -- ---- the refusals, in their order
 
+-- 1: of the table
+abbrev pub tableRow : List ℕ → Row
+tableRow table = not (sound table) gives TableNotSound
+
+-- 2: of how many bytes came
+abbrev pub shortRow : ℕ → Row
+shortRow bytes = ltb bytes 4 gives FrameShort
+
+-- 3: of the first four bytes
+abbrev pub commandRow : List ℕ → Row
+commandRow four = not (commandRight four) gives CommandWrong
+
+-- 4: of the frame
+abbrev pub listedRow : List ℕ → Row
+listedRow frame = not (isListed (commandIn frame)) gives CodeNotListed
+
+-- 5: of how many bytes came, the command and the number of monitors
+abbrev pub lengthRow : ℕ → Command → ℕ → Row
+lengthRow bytes c n = not (eqb bytes (frameLength c n)) gives LengthWrong
+
+-- 6: of the room for a reply, the command and the number of monitors
+abbrev pub roomRow : ℕ → Command → ℕ → Row
+roomRow room c n = ltb room (replyLength c n) gives NoRoom
+
 unfoldable pub frameRefusals : List ℕ → List ℕ → ℕ → List Row
 frameRefusals table frame room =
-    (not (sound table) gives TableNotSound)
-    ∷ (ltb (length frame) 4 gives FrameShort)
-    ∷ (not (commandRight (take 4 frame)) gives CommandWrong)
-    ∷ (not (isListed (commandIn frame)) gives CodeNotListed)
-    ∷ (not (eqb (length frame) (frameLength (commandIn frame) (monitors table))) gives LengthWrong)
-    ∷ (ltb room (replyLength (commandIn frame) (monitors table)) gives NoRoom)
+    tableRow table
+    ∷ shortRow (length frame)
+    ∷ commandRow (take 4 frame)
+    ∷ listedRow frame
+    ∷ lengthRow (length frame) (commandIn frame) (monitors table)
+    ∷ roomRow room (commandIn frame) (monitors table)
     ∷ []
 
 -- ---- what comes of an accepted frame

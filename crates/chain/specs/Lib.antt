@@ -1,5 +1,6 @@
 pub mod Table
 pub mod Frame
+pub mod Alone
 pub mod Judged
 pub mod Load
 pub mod LoadJudged

@@ -40,7 +40,7 @@ fn command_in(frame: &[u8]) -> Command
 }
 
 // The length of the reply of n monitors.
-fn reply_length(command: Command, n: usize) -> usize
+pub(crate) fn reply_length(command: Command, n: usize) -> usize
     requires { ⌜ n ≤ mostMonitors ⌝ }
     ensures { λ r. ⌜ r ≡ replyLength command n ⌝ }
 {
@@ -108,7 +108,7 @@ fn write_replies(part: Part, table: &[u8], n: usize, buffer: &mut [u8])
 }
 
 // The reply to a command, and its length: only a read has one.
-fn write_reply(command: Command, table: &[u8], n: usize, buffer: &mut [u8]) -> usize
+pub(crate) fn write_reply(command: Command, table: &[u8], n: usize, buffer: &mut [u8]) -> usize
     requires { ⌜ (length (now table) ≡ n * recordSize) × (n ≤ mostMonitors) × (replyLength command n ≤ length (now buffer)) ⌝ }
     ensures { λ r. ⌜ r ≡ replyLength command n ⌝ }
     ensures { λ _. ⌜ now (buffer .exit) ≡ replied command n (now (table .entry)) (now (buffer .entry)) ⌝ }
@@ -152,8 +152,8 @@ fn serve_one(table: &mut [u8], command: Command, k: usize, eight: &[u8]) -> bool
 }
 
 // Every monitor acts, and those that took the command are counted.
-fn serve(table: &mut [u8], command: Command, n: usize, frame: &[u8]) -> usize
-    requires { ⌜ (length (now table) ≡ n * recordSize) × (n ≤ mostMonitors) × (4 ≤ length (now frame)) ⌝ }
+pub(crate) fn serve(table: &mut [u8], command: Command, n: usize, frame: &[u8]) -> usize
+    requires { ⌜ (length (now table) ≡ n * recordSize) × (n ≤ mostMonitors) ⌝ }
     ensures { λ r. ⌜ r ≡ takenBy command n (now (frame .entry)) ⌝ }
     ensures { λ _. ⌜ now (table .exit) ≡ kept command n (now (table .entry)) (now (frame .entry)) ⌝ }
 {

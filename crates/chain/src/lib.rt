@@ -1,9 +1,13 @@
-// The chain: the table of records, the refusals in their order, the engine that handles a whole frame, and the load.
+// The chain: the table of records, the refusals in their order, the engine that handles a whole frame, what the table does with
+// a command alone, and the load.
+mod alone;
 mod frames;
 mod loads;
 mod numbers;
 mod tables;
 
+pub use alone::reply_all;
+pub use alone::serve_all;
 pub use frames::Answer;
 pub use frames::handle;
 pub use loads::Loaded;
@@ -12,3 +16,4 @@ pub use numbers::Numbers;
 pub use numbers::load_number;
 pub use numbers::numbers_of;
 pub use tables::sound;
+pub use tables::sound_count;

@@ -29,7 +29,7 @@ fn all_sound(table: &[u8], n: usize) -> bool
 }
 
 // The number of monitors of a sound table, and 0 of any other.
-pub(crate) fn sound_count(table: &[u8]) -> usize
+pub fn sound_count(table: &[u8]) -> usize
     ensures { λ n. ⌜ n ≡ cond (sound (now (table .entry))) (monitors (now (table .entry))) 0 ⌝ }
 {
     let n = table.len() / RECORD_SIZE;

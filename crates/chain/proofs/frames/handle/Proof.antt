@@ -1,12 +1,11 @@
 -- `chain::frames::handle` meets its contract: a frame is judged, and what comes of it is what comes of its judgement.
 -- Assumes nothing.
 use mathlib.Core.Path.{_≡_, sym, ap, ap₂, _∙_, subst}
-use native.Mathlib.Omega.{arith}
 use lib.ListN.{length}
 use Rattle.chain.specs.declared.frames.Judged.{Judged}
 use Rattle.chain.specs.declared.frames.Answer.the-variants.{Accepted}
 use Rattle.chain.specs.Judged.{ReadyIf}
-use Rattle.chain.proofs.Outcome.{head, the-answer, the-table, the-buffer}
+use Rattle.chain.proofs.Outcome.{the-answer, the-table, the-buffer}
 use borrow.Author.Needs.{needs}
 use Rattle.chain.proofs.frames.handle.Statement.{statement}
 use Rattle.chain.proofs.frames.handle.Tie as tie
@@ -28,7 +27,7 @@ write-reply-requires c κs =
 serve-requires : tie.Need-serve-requires
 serve-requires c κs =
     let ready = subst (λ (j : Judged). ReadyIf j (c .before .before .before .before .before .before .before .before .before .before .before .before .before .before .args .table .now) (c .before .before .before .before .before .before .before .before .before .before .before .before .before .before .args .frame .now) (length (c .before .before .before .before .before .before .before .before .before .before .before .before .before .before .args .buffer .now))) (c .before .before .before .before .before .before .before .command .given .1) (c .before .before .before .before .before .before .before .before .before .judge .ensures .1) in
-    (ready .whole, ready .few, omega (arith, ready .long, head (c .before .before .before .before .before .before .before .command .given .0 .0) (c .before .before .before .before .before .before .before .command .given .0 .1 .0)))
+    (ready .whole, ready .few)
 
 same-length : tie.Need-same-length
 same-length c = search needs
