@@ -1,7 +1,9 @@
 // A command to the table alone, with no frame judged: every monitor acts, or replies.
 ghost use mathlib.Core.Path.{_≡_};
 ghost use mathlib.Core.Bool.{cond};
+ghost use lib.Dec.{leb};
 ghost use lib.ListN.{length};
+ghost use Rattle.monitor.specs.Commands.{mostMonitors};
 ghost use Rattle.chain.specs.Table.{monitors, sound};
 ghost use Rattle.chain.specs.Frame.{replyLength, takenBy, kept, replied};
 ghost use Rattle.chain.specs.Alone.{repliesInto};
@@ -10,6 +12,7 @@ use crate::frames::serve;
 use crate::frames::write_reply;
 use crate::tables::sound_count;
 use monitor::Command;
+use monitor::MOST_MONITORS;
 
 // Every monitor of a sound table acts on its own eight bytes of a frame; the answer is how many took the command. Any other
 // table stays, and none took it.
@@ -38,4 +41,14 @@ pub fn reply_all(table: &[u8], command: Command, buffer: &mut [u8]) -> usize
         return 0;
     }
     write_reply(command, table, n, buffer)
+}
+
+// The length of the reply of n monitors to a command, and 0 for more monitors than a chain has.
+pub fn reply_size(command: Command, n: usize) -> usize
+    ensures { λ r. ⌜ r ≡ cond (leb n mostMonitors) (replyLength command n) 0 ⌝ }
+{
+    if MOST_MONITORS < n {
+        return 0;
+    }
+    reply_length(command, n)
 }

@@ -30,13 +30,13 @@ pub enum Judged {
     Good(Command, usize),
 }
 
-// The command of a frame.
-fn command_in(frame: &[u8]) -> Command
-    requires { ⌜ 4 ≤ length (now frame) ⌝ }
+// The command of a frame; of one under two bytes as though zeros followed.
+pub fn command_in(frame: &[u8]) -> Command
     ensures { λ r. ⌜ r ≡ commandIn (now (frame .entry)) ⌝ }
 {
-    let code = (frame[0] as u16) * 256 + (frame[1] as u16);
-    monitor::command_of(code)
+    let high = monitor::byte_at(frame, 0) as u16;
+    let low = monitor::byte_at(frame, 1) as u16;
+    monitor::command_of(high * 256 + low)
 }
 
 // The length of the reply of n monitors.

@@ -7,8 +7,10 @@ mod numbers;
 mod tables;
 
 pub use alone::reply_all;
+pub use alone::reply_size;
 pub use alone::serve_all;
 pub use frames::Answer;
+pub use frames::command_in;
 pub use frames::handle;
 pub use loads::Loaded;
 pub use loads::load;

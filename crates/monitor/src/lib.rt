@@ -21,6 +21,7 @@ pub use effects::act;
 pub use effects::record_sound;
 pub use record::Part;
 pub use record::RECORD_SIZE;
+pub use record::byte_at;
 pub use replies::reply_of;
 pub use thresholds::ResultCode;
 pub use thresholds::ThresholdStep;

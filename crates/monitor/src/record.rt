@@ -96,7 +96,7 @@ pub(crate) const RDRR: Part = Part {
 };
 
 // A byte of a slice, and 0 past its end.
-pub(crate) fn byte_at(bytes: &[u8], i: usize) -> u8
+pub fn byte_at(bytes: &[u8], i: usize) -> u8
     ensures { λ b. ⌜ b ≡ getD (now (bytes .entry)) i 0 ⌝ }
 {
     if i < bytes.len() { bytes[i] } else { 0 }

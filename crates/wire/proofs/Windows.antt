@@ -12,13 +12,13 @@ use native.Mathlib.Decide.{decLt}
 use native.Mathlib.Omega.{arith}
 use lib.Dec.{ltb, T, lt→ltb, ltb→lt}
 use lib.ListN.{length, getD, take, drop, replicate, length-append, length-take, length-drop, length-reverse, drop-of-length-le}
-use lib.Seq.{take-all, take-suc, drop-cons, take-at, drop-at, take-append-le, drop-append-le, getD-take}
+use lib.Seq.{take-all, take-suc, drop-cons, take-at, drop-at, take-append-le, drop-append-le, drop-drop, getD-take}
 use Rattle.laws.specs.Rows.{rows, rowAt, joined}
 use Rattle.laws.proofs.Lists.{getD-map, getD-any, getD-padded}
 use Rattle.laws.proofs.Rows.{Every, length-rows, row-at, length-row, rows-joined, rows-reverse, rows-front, rows-nil, rows-replicate, length-joined}
 use Rattle.wire.specs.Order.{farthestFirst, writeData, writePayloads, replyParts}
 use Rattle.wire.proofs.Order.{length-writeData, write-round, write-nearest}
-use Rattle.wire.specs.Windows.{empty, oldestOr, enter, enterAll, leaves, draw, left, drawn}
+use Rattle.wire.specs.Windows.{empty, oldestOr, enter, enterAll, leaves, draw, left, drawn, held}
 
 -- the test that `enter` makes, where its answer is known
 passes : (b : Bool) → T b → b ≡ true
@@ -405,3 +405,82 @@ module _ {A : Type 0} where
   unfolding drawn
   drawn-add far zero k ws = rw zero-add
   drawn-add far (suc j) k ws = rw suc-add (drawn-add far j k (draw far ws))
+
+  -- ---- a write: the windows in their places
+
+  -- a window for each place
+  pub length-held : (p m : ℕ) (places : List (List A)) → length (held p m places) ≡ length places
+  unfolding held
+  length-held p m [] = refl
+  length-held p m (place ∷ places) = ap suc (length-held p (m - p) places)
+
+  -- before the first element they are empty
+  pub held-none : (p : ℕ) (places : List (List A)) → Every p places → held p 0 places ≡ empty (length places)
+  unfolding held empty
+  held-none p [] e = refl
+  held-none p (place ∷ places) e =
+      let none : 0 - p ≡ 0 = omega arith in
+      let past : length place ≤ p - 0 = omega (arith, e .0) in
+      ap₂ _∷_ (drop-of-length-le place past) (ap (λ (m : ℕ). held p m places) none ∙ held-none p places (e .1))
+
+  -- when enough elements have come they are the places
+  pub held-all : (p m : ℕ) (places : List (List A)) → Every p places → length places * p ≤ m → held p m places ≡ places
+  unfolding held
+  held-all p m [] e h = refl
+  held-all p m (place ∷ places) e h =
+      let more : suc (length places) * p ≡ p + length places * p = omega arith in
+      let none : p - m ≡ 0 = omega arith in
+      ap₂ _∷_ (ap (λ (k : ℕ). drop k place) none) (held-all p (m - p) places (e .1) (omega arith))
+
+  -- one element more: where the places are moved on as one register, the windows have passed their oldest on
+  pub held-enter : (p m : ℕ) (a : A) (places : List (List A)) → 0 < p → Every p places
+      → enter p a (held p m places) ≡ held p (suc m) (enter p a places)
+  unfolding held
+  held-enter p m a [] h e = unfold enter in refl
+  held-enter p m a (place ∷ places) h e = by (decLt m p) (held-enter p (m - p) (oldestOr a place) places h (e .1))
+    where
+      whole : p ≤ length place
+      whole = omega (arith, e .0)
+
+      moved : held p (suc m) (enter p a (place ∷ places)) ≡ drop (p - suc m) (drop 1 place ++ a ∷ []) ∷ held p (suc m - p) (enter p (oldestOr a place) places)
+      moved = ap (held p (suc m)) (enter-full p a place places whole)
+
+      by : Dec (m < p) → enter p (oldestOr a place) (held p (m - p) places) ≡ held p (suc (m - p)) (enter p (oldestOr a place) places)
+          → enter p a (held p m (place ∷ places)) ≡ held p (suc m) (enter p a (place ∷ places))
+      by (yes l) further =
+          let short : length (drop (p - m) place) < p = rw length-drop (omega (arith, e .0)) in
+          let split : p - m ≡ 1 + (p - suc m) = omega arith in
+          let rest-before : m - p ≡ 0 = omega arith in
+          let rest-after : suc m - p ≡ 0 = omega arith in
+          let front : p - suc m ≤ length (drop 1 place) = rw length-drop (omega (arith, e .0)) in
+          enter-room p a (drop (p - m) place) (held p (m - p) places) short
+          ∙ ap₂ _∷_
+          (ap (λ (w : List A). w ++ a ∷ []) (ap (λ (k : ℕ). drop k place) split ∙ sym (drop-drop (p - suc m) 1 place)) ∙ sym (drop-append-le (p - suc m) (drop 1 place) (a ∷ []) front))
+          (ap (λ (k : ℕ). held p k places) rest-before
+          ∙ held-none p places (e .1)
+          ∙ ap empty (sym (length-enter p (oldestOr a place) places))
+          ∙ sym (held-none p (enter p (oldestOr a place) places) (every-enter p (oldestOr a place) places h (e .1)))
+          ∙ ap (λ (k : ℕ). held p k (enter p (oldestOr a place) places)) (sym rest-after))
+          ∙ sym moved
+      by (no l) further =
+          let full : p - m ≡ 0 = omega arith in
+          let full-after : p - suc m ≡ 0 = omega arith in
+          let rest : suc m - p ≡ suc (m - p) = omega arith in
+          ap (λ (k : ℕ). enter p a (drop k place ∷ held p (m - p) places)) full
+          ∙ enter-full p a place (held p (m - p) places) whole
+          ∙ ap₂ _∷_ (ap (λ (k : ℕ). drop k (drop 1 place ++ a ∷ [])) (sym full-after)) (further ∙ ap (λ (k : ℕ). held p k (enter p (oldestOr a place) places)) (sym rest))
+          ∙ sym moved
+
+  -- the window at k
+  pub held-at : (p m : ℕ) (places : List (List A)) (k : ℕ) → k < length places
+      → getD (held p m places) k [] ≡ drop (p - (m - k * p)) (getD places k [])
+  unfolding held
+  held-at p m [] k h = absurd (omega arith)
+  held-at p m (place ∷ places) zero h = ap (λ (j : ℕ). drop (p - j) place) none
+    where
+      none : m ≡ m - 0 * p
+      none = omega arith
+  held-at p m (place ∷ places) (suc k) h = held-at p (m - p) places k (omega arith) ∙ ap (λ (j : ℕ). drop (p - j) (getD places k [])) less
+    where
+      less : m - p - k * p ≡ m - suc k * p
+      less = omega arith

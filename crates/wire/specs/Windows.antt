@@ -3,7 +3,7 @@
 -- Assumes nothing.
 use mathlib.Core.Bool.{cond}
 use mathlib.Core.List.{List, [], _∷_, _++_}
-use Prim.Native.Nat.{ℕ, zero, suc}
+use Prim.Native.Nat.{ℕ, zero, suc, _-_}
 use lib.Dec.{ltb}
 use lib.ListN.{length, drop}
 
@@ -48,3 +48,9 @@ module _ {A : Type 0} where
   unfoldable pub drawn : A → ℕ → List (List A) → List (List A)
   drawn far zero ws = ws
   drawn far (suc k) ws = drawn far k (draw far ws)
+
+  -- the windows in their places of p elements, nearest monitor first, where m elements of a write have come: the nearest place
+  -- fills first, and a window that is not full lies at the end of its place
+  unfoldable pub held : ℕ → ℕ → List (List A) → List (List A)
+  held p m [] = []
+  held p m (place ∷ places) = drop (p - m) place ∷ held p (m - p) places

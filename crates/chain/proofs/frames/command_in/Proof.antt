@@ -1,47 +1,50 @@
--- `chain::frames::command_in` meets its contract: two bytes fit a word.
+-- `chain::frames::command_in` meets its contract: two bytes make a word.
 -- Assumes nothing.
-use mathlib.Core.Path.{_∙_}
-use native.Mathlib.Omega.{arith}
+use mathlib.Core.Path.{_≡_, ap, ap₂, _∙_}
+use Prim.Native.Nat.{ℕ, _+_, _*_}
 use Rattle.pec.specs.Words.{wordAt}
+use Rattle.monitor.specs.Commands.{commands, commandOf}
 use Rattle.chain.specs.Frame.{commandIn}
 use borrow.Author.Needs.{needs}
 use Rattle.chain.proofs.frames.command_in.Statement.{statement}
 use Rattle.chain.proofs.frames.command_in.Tie as tie
 
-shared-slice-read-code : tie.Need-shared-slice-read-code
-shared-slice-read-code c = search needs
+byte-at-requires : tie.Need-byte-at-requires
+byte-at-requires c κs = search needs
 
-cast-code : tie.Need-cast-code
-cast-code c = omega (arith, c .shared-slice-known2 .given 0)
+cast-high : tie.Need-cast-high
+cast-high c = search needs
 
-mul-code : tie.Need-mul-code
-mul-code c = omega (arith, c .shared-slice-known2 .given 0)
+byte-at-requires-2 : tie.Need-byte-at-requires-2
+byte-at-requires-2 c κs = search needs
 
-shared-slice-read-code-2 : tie.Need-shared-slice-read-code-2
-shared-slice-read-code-2 c = search needs
+cast-low : tie.Need-cast-low
+cast-low c = search needs
 
-cast-code-2 : tie.Need-cast-code-2
-cast-code-2 c = omega (arith, c .shared-slice-known3 .given 1)
+mul-command-of : tie.Need-mul-command-of
+mul-command-of c = search needs
 
-add-code : tie.Need-add-code
-add-code c = omega (arith, c .shared-slice-known3 .given 0, c .shared-slice-known3 .given 1)
+add-command-of : tie.Need-add-command-of
+add-command-of c = search needs
 
 command-of-requires : tie.Need-command-of-requires
 command-of-requires c κs = search needs
 
 returns : tie.Need-returns
 unfolding commandIn wordAt
-returns c = c .command-of .ensures
+returns c =
+    c .command-of .ensures
+    ∙ ap₂ (λ (high low : ℕ). commandOf (high * 256 + low) commands) (c .before .before .byte-at .ensures) (c .before .byte-at2 .ensures)
 
 pub command-in-spec : {M : Type 1} → statement M
 command-in-spec =
     tie.close
     (tie.spec
-    shared-slice-read-code
-    cast-code
-    mul-code
-    shared-slice-read-code-2
-    cast-code-2
-    add-code
+    byte-at-requires
+    cast-high
+    byte-at-requires-2
+    cast-low
+    mul-command-of
+    add-command-of
     command-of-requires
     returns)
