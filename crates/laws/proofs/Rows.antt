@@ -393,6 +393,15 @@ module _ {A B C : Type 0} (f : A → B → C) where
   along-drop (suc n) (x ∷ xs) [] = along-nil (drop n xs)
   along-drop (suc n) (x ∷ xs) (y ∷ ys) = along-drop n xs ys
 
+  -- where the function does not look at the second list's elements, only how many they are counts
+  pub along-blind : ((x : A) (y z : B) → f x y ≡ f x z) → (xs : List A) (ys zs : List B) → length ys ≡ length zs → along f xs ys ≡ along f xs zs
+  unfolding along
+  along-blind same [] ys zs e = refl
+  along-blind same (x ∷ xs) [] [] e = refl
+  along-blind same (x ∷ xs) [] (z ∷ zs) e = absurd (omega arith)
+  along-blind same (x ∷ xs) (y ∷ ys) [] e = absurd (omega arith)
+  along-blind same (x ∷ xs) (y ∷ ys) (z ∷ zs) e = ap₂ _∷_ (same x y z) (along-blind same xs ys zs (omega arith))
+
 module _ {A B C : Type 0} where
   -- parts that a function makes of any two
   pub every-along : (p : ℕ) (f : A → B → List C) → ((a : A) (b : B) → length (f a b) ≡ p) → (xs : List A) (ys : List B) → Every p (along f xs ys)
