@@ -80,18 +80,6 @@ fn judge(table: &[u8], frame: &[u8], room: usize) -> Judged
     Judged::Good(command, n)
 }
 
-// Bytes laid into a buffer from a place on.
-fn put(buffer: &mut [u8], at: usize, bytes: &[u8])
-    requires { ⌜ at + length (now bytes) ≤ length (now buffer) ⌝ }
-    ensures { λ _. ⌜ now (buffer .exit) ≡ take at (now (buffer .entry)) ++ now (bytes .entry) ++ drop (at + length (now (bytes .entry))) (now (buffer .entry)) ⌝ }
-{
-    let mut i = 0;
-    while i < bytes.len() {
-        buffer[at + i] = bytes[i];
-        i += 1;
-    }
-}
-
 // The replies of n monitors to a read, nearest monitor first.
 fn write_replies(part: Part, table: &[u8], n: usize, buffer: &mut [u8])
     requires { ⌜ (length (now table) ≡ n * recordSize) × (n ≤ mostMonitors) × (payloadSize * n ≤ length (now buffer)) ⌝ }
@@ -102,7 +90,7 @@ fn write_replies(part: Part, table: &[u8], n: usize, buffer: &mut [u8])
         let at = k * RECORD_SIZE;
         let end = at + RECORD_SIZE;
         let eight = monitor::reply_of(part, &table[at..end]);
-        put(buffer, k * PAYLOAD_SIZE, &eight);
+        bytes::put(buffer, k * PAYLOAD_SIZE, &eight);
         k += 1;
     }
 }

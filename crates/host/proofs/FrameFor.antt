@@ -10,6 +10,8 @@ use native.Mathlib.Nat.{zero-add, div-add-mod'}
 use native.Mathlib.Omega.{arith}
 use lib.ListN.{length, getD, take, drop, replicate, length-append, length-replicate}
 use lib.Seq.{take-at, drop-at}
+use Rattle.bytes.specs.Placed.{placed}
+use Rattle.bytes.proofs.Placed.{placed-more}
 use Rattle.refusals.specs.declared.Refusal.{Refusal}
 use Rattle.laws.specs.Rows.{rows}
 use Rattle.laws.proofs.Lists.{getD-map}
@@ -25,10 +27,8 @@ use Rattle.monitor.specs.Commands.{commands, commandOf, payloadSize, frameLengt
 use Rattle.host.specs.declared.frames.Built.the-variants.{Unbuilt, Length}
 use Rattle.host.specs.declared.frames.Judged.{Judged}
 use Rattle.host.specs.declared.frames.Judged.the-variants.{Refused, Accepted}
-use Rattle.host.specs.Frames.{dataSize, sealed, body, valueCount, frameFor, built, bufferAfter}
-use Rattle.host.specs.Placed.{headSize, placed}
+use Rattle.host.specs.Frames.{headSize, dataSize, sealed, body, valueCount, frameFor, built, bufferAfter}
 use Rattle.host.specs.Judged.{judged}
-use Rattle.host.proofs.Placed.{placed-more}
 use Rattle.host.proofs.Judging.{Buildable, byJudgement, buildable-accepted, accepted-command, accepted-buildable, built-by, after-by}
 use Rattle.host.proofs.Payloads.{length-data, payloads-round, sealed-right}
 

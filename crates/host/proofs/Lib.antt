@@ -1,5 +1,4 @@
 pub mod Tests
-pub mod Placed
 pub mod Payloads
 pub mod Judging
 pub mod FrameFor

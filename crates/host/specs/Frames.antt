@@ -19,6 +19,10 @@ use Rattle.host.specs.declared.frames.Built.the-variants.{Unbuilt, Lengt
 use Rattle.host.specs.declared.frames.Checked.{Checked}
 use Rattle.host.specs.declared.frames.Checked.the-variants.{Unchecked, Right, Wrong}
 
+-- the bytes of a command and its check
+abbrev pub headSize : ℕ
+headSize = 4
+
 -- the data bytes of a payload
 abbrev pub dataSize : ℕ
 dataSize = 6

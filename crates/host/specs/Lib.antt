@@ -1,5 +1,4 @@
 pub mod Frames
 pub mod Judged
-pub mod Placed
 pub mod Ports
 pub mod Parts

@@ -4,12 +4,12 @@ ghost use mathlib.Core.List.{_++_, map};
 ghost use Prim.Native.Nat.{_+_, _*_, _≤_};
 ghost use lib.ListN.{length, replicate};
 ghost use Rattle.laws.specs.Rows.{rows};
+ghost use Rattle.bytes.specs.Placed.{placed};
 ghost use Rattle.pec.specs.Words.{twoBytes, commandCheck};
 ghost use Rattle.wire.specs.Order.{writeData};
 ghost use Rattle.monitor.specs.Commands.{mostMonitors, payloadSize, frameLength};
-ghost use Rattle.host.specs.Frames.{dataSize, sealed, body, valueCount, built, bufferAfter, checked};
+ghost use Rattle.host.specs.Frames.{headSize, dataSize, sealed, body, valueCount, built, bufferAfter, checked};
 ghost use Rattle.host.specs.Judged.{judged};
-ghost use Rattle.host.specs.Placed.{headSize, placed};
 use crate::chain::is_chain;
 use monitor::Command;
 use refusals::Refusal;
@@ -41,6 +41,9 @@ const DATA_SIZE: usize = 6;
 
 // What a reply is clocked over.
 const FILLER: u8 = 0xff;
+
+// The most that is sent of it: the replies of as many monitors as a chain has.
+const MOST_FILLER: usize = monitor::PAYLOAD_SIZE * monitor::MOST_MONITORS;
 
 // The value bytes that a command wants.
 fn value_count(command: Command, n: usize) -> usize
@@ -75,27 +78,15 @@ fn judge(code: u16, n: usize, values: &[u8], room: usize) -> Judged
     Judged::Accepted(command)
 }
 
-// Puts bytes into a buffer from `at` on.
-fn put(buffer: &mut [u8], at: usize, bytes: &[u8])
-    requires { ⌜ at + length (now bytes) ≤ length (now buffer) ⌝ }
-    ensures { λ _. ⌜ now (buffer .exit) ≡ placed at (now (bytes .entry)) (now (buffer .entry)) ⌝ }
-{
-    let mut i = 0;
-    while i < bytes.len() {
-        buffer[at + i] = bytes[i];
-        i += 1;
-    }
-}
-
 // The command and its check, at the buffer's start.
 fn put_head(buffer: &mut [u8], code: u16)
     requires { ⌜ headSize ≤ length (now buffer) ⌝ }
     ensures { λ _. ⌜ now (buffer .exit) ≡ placed 0 (twoBytes code ++ commandCheck code) (now (buffer .entry)) ⌝ }
 {
     let command = [(code / 256) as u8, (code % 256) as u8];
-    put(buffer, 0, &command);
+    bytes::put(buffer, 0, &command);
     let check = pec::command_check(code);
-    put(buffer, 2, &check);
+    bytes::put(buffer, 2, &check);
 }
 
 // One monitor's payload: its six bytes, and the seal over them with the counter 0.
@@ -103,9 +94,9 @@ fn put_payload(buffer: &mut [u8], at: usize, six: &[u8])
     requires { ⌜ (at + payloadSize ≤ length (now buffer)) × (length (now six) ≡ dataSize) ⌝ }
     ensures { λ _. ⌜ now (buffer .exit) ≡ placed at (sealed (now (six .entry))) (now (buffer .entry)) ⌝ }
 {
-    put(buffer, at, six);
+    bytes::put(buffer, at, six);
     let check = pec::seal(six, 0);
-    put(buffer, at + DATA_SIZE, &check);
+    bytes::put(buffer, at + DATA_SIZE, &check);
 }
 
 // The payloads of a write. The values are nearest monitor first; the farthest monitor's payload is sent first.
@@ -128,14 +119,11 @@ fn put_payloads(buffer: &mut [u8], n: usize, values: &[u8])
 
 // What a reply is clocked over.
 fn put_filler(buffer: &mut [u8], size: usize)
-    requires { ⌜ headSize + size ≤ length (now buffer) ⌝ }
+    requires { ⌜ (size ≤ payloadSize * mostMonitors) × (headSize + size ≤ length (now buffer)) ⌝ }
     ensures { λ _. ⌜ now (buffer .exit) ≡ placed headSize (replicate size 0xFF) (now (buffer .entry)) ⌝ }
 {
-    let mut i = 0;
-    while i < size {
-        buffer[HEAD_SIZE + i] = FILLER;
-        i += 1;
-    }
+    let filler = [FILLER; MOST_FILLER];
+    bytes::put(buffer, HEAD_SIZE, &filler[..size]);
 }
 
 // What follows the command and its check.

@@ -56,23 +56,12 @@ pub(crate) fn handled_in(table: &mut [u8], frame: &[u8], buffer: &mut [u8], room
     handled(table, frame, &mut buffer[0..room])
 }
 
-// Bytes laid over others, from a place on.
-pub(crate) fn lay(over: &mut [u8], at: usize, bytes: &[u8])
-    requires { ⌜ at + length (now bytes) ≤ length (now over) ⌝ }
-{
-    let mut i = 0;
-    while i < bytes.len() {
-        over[at + i] = bytes[i];
-        i += 1;
-    }
-}
-
 // A table of two monitors with bytes laid over it.
 pub(crate) fn with(table: [u8; 140], at: usize, bytes: &[u8]) -> [u8; 140]
     requires { ⌜ at + length (now bytes) ≤ 140 ⌝ }
 {
     let mut changed = table;
-    lay(&mut changed, at, bytes);
+    bytes::put(&mut changed, at, bytes);
     changed
 }
 

@@ -4,7 +4,6 @@ ghost use Prim.Native.Nat.{_+_, _≤_};
 ghost use lib.ListN.{length};
 use crate::bench;
 use crate::bench::accepted;
-use crate::bench::lay;
 use crate::bench::same;
 use crate::bench::same_numbers;
 use crate::frames;
@@ -22,7 +21,7 @@ fn lay_positions(frame: &mut [u8])
     let mut position: u8 = 32;
     while position > 0 {
         let eight = payload([position; 6], 0);
-        lay(frame, at, &eight);
+        bytes::put(frame, at, &eight);
         at += 8;
         position -= 1;
     }

@@ -3,13 +3,18 @@
 -- all. It is spelt out for the functions that are lent a buffer to change.
 -- Assumes nothing.
 use mathlib.Core.Path.{_≡_, sym, _∙_}
+use mathlib.Core.Bool.{cond}
 use mathlib.Core.List.{List, [], _∷_}
 use Prim.Native.Nat.{ℕ}
 use lib.IntN.{ℤ}
 use lib.ListN.{length}
+use Rattle.bytes.specs.Placed.{placed, fits}
+use Rattle.monitor.specs.declared.commands.Command.{Command}
 use Rattle.chain.specs.declared.frames.Answer.{Answer}
 use Rattle.chain.specs.declared.loads.Loaded.{Loaded}
-use Rattle.chain.specs.Frame.{answer, tableAfter, replyAfter}
+use Rattle.chain.specs.Table.{monitors, sound}
+use Rattle.chain.specs.Frame.{replyLength, takenBy, kept, replied, answer, tableAfter, replyAfter}
+use Rattle.chain.specs.Alone.{repliesInto}
 use Rattle.chain.specs.Load.{loaded, tableAfterLoad}
 use Rattle.host.specs.declared.frames.Built.{Built}
 use Rattle.host.specs.Frames.{built, bufferAfter}
@@ -47,3 +52,26 @@ pub one-built : (code n : ℕ) (values buffer : List ℕ) {one other : Outcome B
     → let after = bufferAfter code n values buffer ∷ [] in
     Meets (built code n values (length buffer)) after one → Meets (built code n values (length buffer)) after other → one ≡ other
 one-built code n values buffer = one-left
+
+-- `chain::serve_all`, lent a table
+pub one-served : (table : List ℕ) (c : Command) (frame : List ℕ) {one other : Outcome ℕ}
+    → let n = monitors table in
+    let taken = cond (sound table) (takenBy c n frame) 0 in
+    let after = cond (sound table) (kept c n table frame) table ∷ [] in
+    Meets taken after one → Meets taken after other → one ≡ other
+one-served table c frame = one-left
+
+-- `chain::reply_all`, lent a buffer
+pub one-replied : (table : List ℕ) (c : Command) (buffer : List ℕ) {one other : Outcome ℕ}
+    → let n = monitors table in
+    let writes = repliesInto c table (length buffer) in
+    let reply = cond writes (replyLength c n) 0 in
+    let after = cond writes (replied c n table buffer) buffer ∷ [] in
+    Meets reply after one → Meets reply after other → one ≡ other
+one-replied table c buffer = one-left
+
+-- `bytes::put`, lent a buffer
+pub one-put : (at : ℕ) (bytes buffer : List ℕ) {one other : Outcome (Unit {0})}
+    → let after = cond (fits at bytes buffer) (placed at bytes buffer) buffer ∷ [] in
+    Meets tt after one → Meets tt after other → one ≡ other
+one-put at bytes buffer = one-left

@@ -10,6 +10,8 @@ use lib.ListN.{length, take, drop}
 use Rattle.laws.specs.Rows.{rows, rowAt, joined}
 use Rattle.laws.proofs.Filling.{Filling, filling-start, filling-more}
 use Rattle.laws.proofs.LentParts.{part-lent}
+use Rattle.bytes.specs.Placed.{placed}
+use Rattle.bytes.proofs.Placed.{laid}
 use Rattle.wire.specs.Order.{replyData}
 use Rattle.monitor.specs.Record.{recordSize}
 use Rattle.monitor.specs.Reply.{reply}
@@ -55,10 +57,7 @@ slice-aggregate-put c =
     sym size
 
 put-requires : tie.Need-put-requires Inv-loop μ-loop
-put-requires c κs =
-    let size : length (c .before .before .reply-of .result) ≡ 8 = ap length (c .before .before .reply-of .ensures) ∙ length-reply (c .before .before .before .before .before .before .before .before .args .part) _ in
-    let whole = c .before .before .before .before .before .loop .inv .1 .size in
-    omega (arith, c .before .before .before .before .before .before .before .before .pre .2)
+put-requires c κs = search needs
 
 add-k : tie.Need-add-k Inv-loop μ-loop
 add-k c = omega arith
@@ -67,16 +66,19 @@ loop-less : tie.Need-loop-less Inv-loop μ-loop
 loop-less c = omega arith
 
 loop-again : tie.Need-loop-again Inv-loop μ-loop
+unfolding placed
 loop-again c =
     let a = c .before .before .before .before .before .before .before .before .before .before .before .args in
     let l = c .before .before .before .before .before .before .before .before .loop in
     let new = reply (a .part) (rowAt recordSize (l .k) (a .table .now)) in
     let eight : c .before .before .before .before .before .reply-of .result ≡ new = c .before .before .before .before .before .reply-of .ensures ∙ ap (reply (a .part)) (part-lent recordSize (l .k) (a .table .now)) in
-    let size : length (c .before .before .before .before .before .reply-of .result) ≡ 8 = ap length eight ∙ length-reply (a .part) (rowAt recordSize (l .k) (a .table .now)) in (
+    let size : length (c .before .before .before .before .before .reply-of .result) ≡ 8 = ap length eight ∙ length-reply (a .part) (rowAt recordSize (l .k) (a .table .now)) in
+    let whole = l .inv .1 .size in
+    let room : l .k * 8 + length (c .before .before .before .before .before .reply-of .result) ≤ length (l .buffer) = omega (arith, c .before .before .before .before .before .before .before .before .before .before .before .pre .2) in (
       omega arith,
       subst⁻¹ (Filling 8 (a .buffer .now) (c .before .before .put .last .0) (l .k + 1)) (replies-more (a .part) (a .table .now) (l .k))
           (filling-more 8 (a .buffer .now) (l .inv .1) new (omega (arith, c .before .before .before .before .before .before .before .before .before .before .before .pre .2)) (length-reply (a .part) (rowAt recordSize (l .k) (a .table .now)))
-          (c .before .before .put .ensures ∙ ap₂ (λ (x : List ℕ) (m : ℕ). take (l .k * 8) (l .buffer) ++ x ++ drop (l .k * 8 + m) (l .buffer)) eight size)),
+          (c .before .before .put .ensures ∙ laid (l .k * 8) (c .before .before .before .before .before .reply-of .result) (l .buffer) room ∙ ap₂ (λ (x : List ℕ) (m : ℕ). take (l .k * 8) (l .buffer) ++ x ++ drop (l .k * 8 + m) (l .buffer)) eight size)),
     )
 
 same-length : tie.Need-same-length Inv-loop μ-loop

@@ -6,12 +6,12 @@ use mathlib.Core.Bool.{Bool, cond}
 use native.Mathlib.Omega.{arith}
 use lib.ListN.{length}
 use borrow.Author.Tests.{le-leb}
+use Rattle.bytes.specs.Placed.{placed}
 use Rattle.monitor.specs.declared.commands.Command.{Command}
 use Rattle.monitor.specs.Commands.{mostMonitors, frameLength}
 use Rattle.host.specs.declared.frames.Built.the-variants.{Length}
 use Rattle.host.specs.declared.frames.Judged.the-variants.{Accepted}
-use Rattle.host.specs.Frames.{body}
-use Rattle.host.specs.Placed.{headSize, placed}
+use Rattle.host.specs.Frames.{headSize, body}
 use Rattle.host.specs.Judged.{judged}
 use Rattle.host.proofs.Judging.{Buildable, accepted-buildable}
 use Rattle.host.proofs.FrameFor.{head-fits, built-refused, built-accepted, placed-accepted}

@@ -2,11 +2,11 @@
 -- Assumes nothing.
 use mathlib.Core.Path.{sym, ap, _∙_}
 use native.Mathlib.Omega.{arith}
+use Rattle.bytes.specs.Placed.{placed}
+use Rattle.bytes.proofs.Placed.{placed-none}
 use Rattle.monitor.specs.declared.commands.Command.{Command}
 use Rattle.monitor.specs.Commands.{frameLength}
-use Rattle.host.specs.Frames.{body, valueCount}
-use Rattle.host.specs.Placed.{headSize, placed}
-use Rattle.host.proofs.Placed.{placed-none}
+use Rattle.host.specs.Frames.{headSize, body, valueCount}
 use borrow.Author.Needs.{needs}
 use Rattle.host.proofs.frames.put_body.Statement.{statement}
 use Rattle.host.proofs.frames.put_body.Tie as tie
@@ -20,7 +20,8 @@ mul-put-filler c = search needs
 put-filler-requires : tie.Need-put-filler-requires
 put-filler-requires c κs =
     let start = c .before .before .before .before .before in
-    omega (arith, start .pre .2, ap (λ (k : Command). frameLength k (start .args .n)) (c .before .enum-told .given .1))
+    let told = c .before .enum-told .given .1 in
+    (omega (arith, start .pre .0), omega (arith, start .pre .2, ap (λ (k : Command). frameLength k (start .args .n)) told))
 
 enum-told-2 : tie.Need-enum-told-2
 enum-told-2 c = search needs

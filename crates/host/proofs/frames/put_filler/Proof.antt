@@ -1,67 +1,54 @@
--- `host::frames::put_filler` meets its contract. The loop's invariant: i bytes of it are put.
+-- `host::frames::put_filler` meets its contract: what is put is the front of an array of one byte again and again.
 -- Assumes nothing.
-use mathlib.Core.Path.{_≡_, refl, sym, ap, _∙_}
+use mathlib.Core.Path.{_≡_, sym, ap, _∙_}
 use mathlib.Core.List.{List}
-use Prim.Native.Nat.{ℕ, _+_, _-_, _≤_, _<_}
+use Prim.Native.Nat.{ℕ, _+_, _-_, _≤_}
 use native.Mathlib.Omega.{arith}
-use lib.ListN.{length, replicate, set, length-set}
-use Rattle.host.specs.Placed.{headSize, placed}
-use Rattle.host.proofs.Placed.{placed-none, filled-more}
+use borrow.Author.Needs.{needs}
+use lib.ListN.{length, take, replicate, length-replicate, replicate-append-replicate}
+use lib.Seq.{take-at}
+use Rattle.bytes.proofs.Placed.{tried, laid}
+use Rattle.host.specs.Frames.{headSize}
 use Rattle.host.proofs.frames.put_filler.Statement.{statement}
 use Rattle.host.proofs.frames.put_filler.Tie as tie
 
-abbrev Inv-loop : tie.InvT-loop
-Inv-loop buffer₀ size i₀ buffer i =
-    (i ≤ size) × (length buffer ≡ length buffer₀) × (buffer ≡ placed headSize (replicate i 0xFF) buffer₀)
+abbrev filler : ℕ → List ℕ
+filler size = replicate size 0xFF
 
-abbrev μ-loop : tie.MeasureT-loop
-μ-loop buffer₀ size i₀ buffer i = size - i
+length-filler : (size : ℕ) → length (filler size) ≡ size
+length-filler size = length-replicate size 0xFF
 
-loop-holds : tie.Need-loop-holds Inv-loop μ-loop
-loop-holds c = (omega arith, refl, sym (placed-none _ _))
+front : (size most : ℕ) → size ≤ most → take size (filler most) ≡ filler size
+front size most h =
+    let all : size + (most - size) ≡ most = omega arith in
+    ap (take size) (sym (replicate-append-replicate size (most - size) 0xFF ∙ ap filler all))
+    ∙ take-at (filler size) (filler (most - size)) size (length-filler size)
 
-add-buffer : tie.Need-add-buffer Inv-loop μ-loop
-add-buffer c = omega arith
+array-share-prefix-filler : tie.Need-array-share-prefix-filler
+array-share-prefix-filler c = search needs
 
-slice-write-buffer : tie.Need-slice-write-buffer Inv-loop μ-loop
-slice-write-buffer c = omega arith
+slice-aggregate-put : tie.Need-slice-aggregate-put
+slice-aggregate-put c =
+    let start = c .before .before .before in
+    let size = start .args .size in
+    sym (ap length (front size 256 (start .pre .0)) ∙ length-filler size)
 
-add-i : tie.Need-add-i Inv-loop μ-loop
-add-i c = omega arith
+put-requires : tie.Need-put-requires
+put-requires c κs = search needs
 
-loop-less : tie.Need-loop-less Inv-loop μ-loop
-loop-less c = omega arith
+same-length : tie.Need-same-length
+same-length c = search needs
 
-loop-again : tie.Need-loop-again Inv-loop μ-loop
-loop-again c =
-    let a = c .before .before .args in
-    let l = c .before .loop in
-    let room : headSize + l .i < length (a .buffer .now) = omega (arith, c .before .before .pre) in (
-      omega arith,
-      length-set (l .buffer) (headSize + l .i) 0xFF ∙ l .inv .1,
-      ap (λ (b : List ℕ). set b (headSize + l .i) 0xFF) (l .inv .2) ∙ filled-more headSize (l .i) 0xFF (a .buffer .now) room,
-    )
-
-same-length : tie.Need-same-length Inv-loop μ-loop
-same-length c = c .before .loop .inv .1
-
-returns : tie.Need-returns Inv-loop μ-loop
+returns : tie.Need-returns
 returns c =
-    let a = c .before .before .args in
-    let all : c .before .loop .i ≡ a .size = omega arith in
-    c .before .loop .inv .2 ∙ ap (λ (n : ℕ). placed headSize (replicate n 0xFF) (a .buffer .now)) all
+    let start = c .before .before .before .before .before .before in
+    let q = start .args in
+    let room : headSize + length (filler (q .size)) ≤ length (q .buffer .now) = omega (arith, start .pre .1, length-filler (q .size)) in
+    c .before .before .put .ensures
+    ∙ ap (λ (bytes : List ℕ). tried headSize bytes (q .buffer .now)) (front (q .size) 256 (start .pre .0))
+    ∙ laid headSize (filler (q .size)) (q .buffer .now) room
 
 pub put-filler-spec : {M : Type 1} → statement M
 put-filler-spec =
     tie.close
-    (tie.spec
-    Inv-loop
-    μ-loop
-    loop-holds
-    add-buffer
-    slice-write-buffer
-    add-i
-    loop-less
-    loop-again
-    same-length
-    returns)
+    (tie.spec array-share-prefix-filler slice-aggregate-put put-requires same-length returns)

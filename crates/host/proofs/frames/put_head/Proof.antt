@@ -3,10 +3,8 @@
 use mathlib.Core.Path.{refl, ap₂, _∙_}
 use mathlib.Core.List.{[], _∷_}
 use Prim.Native.Nat.{_/_, _%_}
-use native.Mathlib.Omega.{arith}
+use Rattle.bytes.proofs.Placed.{tried, laid-behind}
 use Rattle.pec.specs.Words.{twoBytes, commandCheck}
-use Rattle.host.specs.Placed.{placed}
-use Rattle.host.proofs.Placed.{placed-more}
 use borrow.Author.Needs.{needs}
 use Rattle.host.proofs.frames.put_head.Statement.{statement}
 use Rattle.host.proofs.frames.put_head.Tie as tie
@@ -36,13 +34,14 @@ same-length : tie.Need-same-length
 same-length c = search needs
 
 returns : tie.Need-returns
-unfolding twoBytes
+unfolding twoBytes commandCheck
 returns c =
     let first = c .before .before .before .before .before .before .before .before in
     let start = first .before .before .before .before in
+    let q = start .args in
     c .before .before .put2 .ensures
-    ∙ ap₂ (placed 2) (c .before .before .before .before .before .command-check .ensures) (first .put .ensures)
-    ∙ placed-more 0 2 (start .args .code / 256 ∷ start .args .code % 256 ∷ []) (start .args .buffer .now) refl (omega (arith, start .pre)) (commandCheck (start .args .code))
+    ∙ ap₂ (tried 2) (c .before .before .before .before .before .command-check .ensures) (first .put .ensures)
+    ∙ laid-behind 0 2 (q .code / 256 ∷ q .code % 256 ∷ []) (commandCheck (q .code)) (q .buffer .now) refl (start .pre)
 
 pub put-head-spec : {M : Type 1} → statement M
 put-head-spec =

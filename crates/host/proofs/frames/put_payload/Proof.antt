@@ -3,10 +3,9 @@
 use mathlib.Core.Path.{ap, ap₂, _∙_}
 use Prim.Native.Nat.{ℕ, _+_}
 use native.Mathlib.Omega.{arith}
-use Rattle.pec.specs.Words.{seal}
-use Rattle.host.specs.Placed.{placed}
+use Rattle.bytes.proofs.Placed.{tried, laid-behind}
+use Rattle.pec.specs.Words.{twoBytes, seal}
 use Rattle.host.specs.Frames.{dataSize, sealed}
-use Rattle.host.proofs.Placed.{placed-more}
 use borrow.Author.Needs.{needs}
 use Rattle.host.proofs.frames.put_payload.Statement.{statement}
 use Rattle.host.proofs.frames.put_payload.Tie as tie
@@ -30,14 +29,14 @@ same-length : tie.Need-same-length
 same-length c = search needs
 
 returns : tie.Need-returns
-unfolding sealed
+unfolding sealed seal twoBytes
 returns c =
     let first = c .before .before .before .before .before .before .before .before in
     let start = first .before .before .before .before in
     let q = start .args in
     c .before .before .put2 .ensures
-    ∙ ap₂ (placed (q .at + dataSize)) (c .before .before .before .before .before .seal .ensures) (first .put .ensures)
-    ∙ placed-more (q .at) (q .at + dataSize) (q .six .now) (q .buffer .now) (ap (λ (n : ℕ). q .at + n) (start .pre .1)) (omega (arith, start .pre .0)) (seal (q .six .now) 0)
+    ∙ ap₂ (tried (q .at + dataSize)) (c .before .before .before .before .before .seal .ensures) (first .put .ensures)
+    ∙ laid-behind (q .at) (q .at + dataSize) (q .six .now) (seal (q .six .now) 0) (q .buffer .now) (ap (λ (n : ℕ). q .at + n) (start .pre .1)) (omega (arith, start .pre .0))
 
 pub put-payload-spec : {M : Type 1} → statement M
 put-payload-spec =

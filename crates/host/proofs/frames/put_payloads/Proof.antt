@@ -7,10 +7,10 @@ use native.Mathlib.Omega.{arith}
 use lib.ListN.{length, take, drop}
 use Rattle.laws.specs.Rows.{rowAt}
 use Rattle.laws.proofs.Rows.{length-row-at}
+use Rattle.bytes.specs.Placed.{placed}
+use Rattle.bytes.proofs.Placed.{placed-none, placed-more}
 use Rattle.monitor.specs.Commands.{payloadSize}
-use Rattle.host.specs.Frames.{dataSize, sealed}
-use Rattle.host.specs.Placed.{headSize, placed}
-use Rattle.host.proofs.Placed.{placed-none, placed-more}
+use Rattle.host.specs.Frames.{headSize, dataSize, sealed}
 use Rattle.host.proofs.Payloads.{farthest, farthest-none, length-farthest, farthest-more, farthest-all}
 use Rattle.host.proofs.frames.put_payloads.Statement.{statement}
 use Rattle.host.proofs.frames.put_payloads.Tie as tie

@@ -19,11 +19,11 @@ loop-holds c = search needs
 payload-requires : tie.Need-payload-requires Inv-loop μ-loop
 payload-requires c κs = search needs
 
-slice-aggregate-lay : tie.Need-slice-aggregate-lay Inv-loop μ-loop
-slice-aggregate-lay c = search needs
+slice-aggregate-put : tie.Need-slice-aggregate-put Inv-loop μ-loop
+slice-aggregate-put c = search needs
 
-lay-requires : tie.Need-lay-requires Inv-loop μ-loop
-lay-requires c κs = search needs
+put-requires : tie.Need-put-requires Inv-loop μ-loop
+put-requires c κs = search needs
 
 add-at : tie.Need-add-at Inv-loop μ-loop
 add-at c = search needs
@@ -51,8 +51,8 @@ lay-positions-spec =
     μ-loop
     loop-holds
     payload-requires
-    slice-aggregate-lay
-    lay-requires
+    slice-aggregate-put
+    put-requires
     add-at
     sub-position
     loop-less

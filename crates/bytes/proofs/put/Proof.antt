@@ -1,4 +1,4 @@
--- `host::frames::put` meets its contract. The loop's invariant: the bytes before i are put.
+-- `bytes::put` meets its contract. Two tests find out whether the bytes fit; the loop's invariant: those before i are laid.
 -- Assumes nothing.
 use mathlib.Core.Path.{_≡_, refl, sym, ap, _∙_}
 use mathlib.Core.List.{List}
@@ -6,10 +6,10 @@ use Prim.Native.Nat.{ℕ, _+_, _-_, _≤_, _<_}
 use native.Mathlib.Omega.{arith}
 use lib.ListN.{length, getD, take, set, length-set}
 use lib.Seq.{take-all}
-use Rattle.host.specs.Placed.{placed}
-use Rattle.host.proofs.Placed.{placed-none, copied-more}
-use Rattle.host.proofs.frames.put.Statement.{statement}
-use Rattle.host.proofs.frames.put.Tie as tie
+use Rattle.bytes.specs.Placed.{placed}
+use Rattle.bytes.proofs.Placed.{placed-none, copied-more, stays, laid}
+use Rattle.bytes.proofs.put.Statement.{statement}
+use Rattle.bytes.proofs.put.Tie as tie
 
 abbrev Inv-loop : tie.InvT-loop
 Inv-loop buffer₀ at bytes i₀ buffer i =
@@ -17,6 +17,19 @@ Inv-loop buffer₀ at bytes i₀ buffer i =
 
 abbrev μ-loop : tie.MeasureT-loop
 μ-loop buffer₀ at bytes i₀ buffer i = length bytes - i
+
+returns : tie.Need-returns Inv-loop μ-loop
+returns c =
+    let a = c .before .args in
+    sym (stays (a .at) (a .bytes .now) (a .buffer .now) (omega arith))
+
+sub-if2 : tie.Need-sub-if2 Inv-loop μ-loop
+sub-if2 c = omega arith
+
+returns-2 : tie.Need-returns-2 Inv-loop μ-loop
+returns-2 c =
+    let a = c .before .before .args in
+    sym (stays (a .at) (a .bytes .now) (a .buffer .now) (omega arith))
 
 loop-holds : tie.Need-loop-holds Inv-loop μ-loop
 loop-holds c = (omega arith, refl, sym (placed-none _ _))
@@ -38,10 +51,10 @@ loop-less c = omega arith
 
 loop-again : tie.Need-loop-again Inv-loop μ-loop
 loop-again c =
-    let a = c .before .before .before .args in
+    let a = c .before .before .before .before .before .args in
     let l = c .before .before .loop in
     let below : l .i < length (a .bytes .now) = c .before .loop-test .taken in
-    let room : a .at + l .i < length (a .buffer .now) = omega (arith, c .before .before .before .pre) in (
+    let room : a .at + l .i < length (a .buffer .now) = omega arith in (
       omega arith,
       length-set (l .buffer) (a .at + l .i) (getD (a .bytes .now) (l .i) 0) ∙ l .inv .1,
       ap (λ (b : List ℕ). set b (a .at + l .i) (getD (a .bytes .now) (l .i) 0)) (l .inv .2)
@@ -51,11 +64,12 @@ loop-again c =
 same-length : tie.Need-same-length Inv-loop μ-loop
 same-length c = c .before .loop .inv .1
 
-returns : tie.Need-returns Inv-loop μ-loop
-returns c =
-    let a = c .before .before .args in
+returns-3 : tie.Need-returns-3 Inv-loop μ-loop
+returns-3 c =
+    let a = c .before .before .before .before .args in
     c .before .loop .inv .2
     ∙ ap (λ (l : List ℕ). placed (a .at) l (a .buffer .now)) (take-all (c .before .loop .i) (a .bytes .now) (c .loop-test .left))
+    ∙ sym (laid (a .at) (a .bytes .now) (a .buffer .now) (omega arith))
 
 pub put-spec : {M : Type 1} → statement M
 put-spec =
@@ -63,6 +77,9 @@ put-spec =
     (tie.spec
     Inv-loop
     μ-loop
+    returns
+    sub-if2
+    returns-2
     loop-holds
     shared-slice-read-buffer
     add-buffer
@@ -71,4 +88,4 @@ put-spec =
     loop-less
     loop-again
     same-length
-    returns)
+    returns-3)

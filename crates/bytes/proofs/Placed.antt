@@ -1,15 +1,17 @@
 -- Bytes put into a buffer: the buffer keeps its length, and bytes put behind bytes are the two together. So a loop that puts
--- part after part has put all that came so far.
+-- part after part has put all that came so far. With the test: bytes that fit are put, and others leave the buffer.
 -- Assumes nothing.
 use mathlib.Core.Path.{_≡_, sym, ap, ap₂, _∙_}
+use mathlib.Core.Bool.{Bool, cond}
 use mathlib.Core.List.{List, [], _∷_, _++_, append-assoc, append-nil}
 use Prim.Native.Nat.{ℕ, suc, _+_, _≤_, _<_}
 use native.Mathlib.Nat.{add-zero}
 use native.Mathlib.Numerals.{add-one}
 use native.Mathlib.Omega.{arith}
-use lib.ListN.{length, getD, set, take, drop, replicate, length-append, length-drop, length-replicate, take-append-drop, replicate-append-replicate}
+use lib.ListN.{length, getD, set, take, drop, length-append, length-drop, take-append-drop}
+use borrow.Author.Tests.{le-leb, lt-leb}
 use lib.Seq.{length-take-le, take-suc, take-at, drop-at, drop-drop, set-split, append-snoc}
-use Rattle.host.specs.Placed.{placed}
+use Rattle.bytes.specs.Placed.{placed, fits}
 
 pub placed-none : (at : ℕ) (buffer : List ℕ) → placed at [] buffer ≡ buffer
 unfolding placed
@@ -45,6 +47,28 @@ module _ (at end : ℕ) (xs buffer : List ℕ) (e : at + length xs ≡ end) (fit
       ∙ drop-drop (length ys) end buffer
       ∙ ap (λ (n : ℕ). drop n buffer) all)
 
+-- ---- with the test whether they fit
+
+-- what becomes of a buffer
+abbrev pub tried : ℕ → List ℕ → List ℕ → List ℕ
+tried at bytes buffer = cond (fits at bytes buffer) (placed at bytes buffer) buffer
+
+pub laid : (at : ℕ) (bytes buffer : List ℕ) → at + length bytes ≤ length buffer → tried at bytes buffer ≡ placed at bytes buffer
+laid at bytes buffer h = ap (λ (b : Bool). cond b (placed at bytes buffer) buffer) (le-leb _ _ h)
+
+pub stays : (at : ℕ) (bytes buffer : List ℕ) → length buffer < at + length bytes → tried at bytes buffer ≡ buffer
+stays at bytes buffer h = ap (λ (b : Bool). cond b (placed at bytes buffer) buffer) (lt-leb _ _ h)
+
+-- bytes put behind bytes, where both fit
+pub laid-behind : (at end : ℕ) (xs ys buffer : List ℕ) → at + length xs ≡ end → end + length ys ≤ length buffer
+    → tried end ys (tried at xs buffer) ≡ placed at (xs ++ ys) buffer
+laid-behind at end xs ys buffer e h =
+    let fits : end ≤ length buffer = omega arith in
+    let l : length (placed at xs buffer) ≡ length buffer = length-placed at end xs buffer e fits in
+    ap (tried end ys) (laid at xs buffer (omega arith)) ∙ laid end ys (placed at xs buffer) (omega arith) ∙ placed-more at end xs buffer e fits ys
+
+-- ---- by stores
+
 -- one store puts one byte
 placed-one : (i v : ℕ) (buffer : List ℕ) → i < length buffer → set buffer i v ≡ placed i (v ∷ []) buffer
 unfolding placed
@@ -61,18 +85,9 @@ placed-next at end xs buffer v e h =
     let l : length (placed at xs buffer) ≡ length buffer = length-placed at end xs buffer e fits in
     placed-one end v (placed at xs buffer) (omega arith) ∙ placed-more at end xs buffer e fits (v ∷ [])
 
--- ---- turns of a loop, after i of them
-
--- a list is put byte by byte
+-- a list is put byte by byte, after i turns of a loop
 pub copied-more : (at i : ℕ) (bytes buffer : List ℕ) → i < length bytes → at + i < length buffer
     → set (placed at (take i bytes) buffer) (at + i) (getD bytes i 0) ≡ placed at (take (i + 1) bytes) buffer
 copied-more at i bytes buffer hi h =
     placed-next at (at + i) (take i bytes) buffer (getD bytes i 0) (ap (λ (n : ℕ). at + n) (length-take-le i bytes (omega arith))) h
     ∙ ap (λ (l : List ℕ). placed at l buffer) (sym (ap (λ (n : ℕ). take n bytes) (add-one i) ∙ take-suc bytes i 0 hi))
-
--- one byte is put again and again
-pub filled-more : (at i : ℕ) (v : ℕ) (buffer : List ℕ) → at + i < length buffer
-    → set (placed at (replicate i v) buffer) (at + i) v ≡ placed at (replicate (i + 1) v) buffer
-filled-more at i v buffer h =
-    placed-next at (at + i) (replicate i v) buffer v (ap (λ (n : ℕ). at + n) (length-replicate i v)) h
-    ∙ ap (λ (l : List ℕ). placed at l buffer) (replicate-append-replicate i 1 v)
