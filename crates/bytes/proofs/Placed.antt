@@ -5,7 +5,7 @@ use mathlib.Core.Path.{_≡_, sym, ap, ap₂, _∙_}
 use mathlib.Core.Bool.{Bool, cond}
 use mathlib.Core.List.{List, [], _∷_, _++_, append-assoc, append-nil}
 use Prim.Native.Nat.{ℕ, suc, _+_, _≤_, _<_}
-use native.Mathlib.Nat.{add-zero}
+use native.Mathlib.Nat.{add-zero, zero-add}
 use native.Mathlib.Numerals.{add-one}
 use native.Mathlib.Omega.{arith}
 use lib.ListN.{length, getD, set, take, drop, length-append, length-drop, take-append-drop}
@@ -17,6 +17,11 @@ pub placed-none : (at : ℕ) (buffer : List ℕ) → placed at [] buffer ≡ buf
 unfolding placed
 placed-none at buffer =
     ap₂ _++_ (append-nil (take at buffer)) (ap (λ (n : ℕ). drop n buffer) (add-zero at)) ∙ take-append-drop at buffer
+
+-- bytes put at the start of a buffer
+pub placed-first : (bytes buffer : List ℕ) → placed 0 bytes buffer ≡ bytes ++ drop (length bytes) buffer
+unfolding placed
+placed-first bytes buffer = ap (λ (n : ℕ). bytes ++ drop n buffer) (zero-add (length bytes))
 
 -- where what is put ends at `end`, within the buffer
 module _ (at end : ℕ) (xs buffer : List ℕ) (e : at + length xs ≡ end) (fits : end ≤ length buffer) where

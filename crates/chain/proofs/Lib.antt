@@ -3,6 +3,7 @@ pub mod Serving
 pub mod Soundness
 pub mod Judging
 pub mod Turns
+pub mod EachActs
 pub mod RepliesInto
 pub mod Outcome
 pub mod Codes

@@ -1,0 +1,138 @@
+-- What comes of an accepted frame, command by command: after the bytes of a whole frame each monitor's window makes of the command
+-- what its own eight bytes of the frame make of it, and the bytes that came back are the reply. By the laws of the windows; a read
+-- and a bare command do not look at the eight bytes, so there the number of windows is all that counts.
+-- Assumes nothing.
+use mathlib.Core.Path.{_≡_, refl, sym, ap, _∙_}
+use mathlib.Core.Bool.{true, false≢true}
+use mathlib.Core.List.{List, _++_, map}
+use Prim.Native.Nat.{ℕ, _+_, _*_, _≤_}
+use native.Mathlib.Nat.{mul-comm}
+use native.Mathlib.Omega.{arith}
+use lib.Dec.{lit<}
+use lib.ListN.{length, take, drop, length-drop, length-map}
+use lib.Seq.{take-all, take-at}
+use Rattle.laws.specs.Counts.{count}
+use Rattle.laws.specs.Rows.{rows, joined, along}
+use Rattle.laws.proofs.Counts.{count-all}
+use Rattle.laws.proofs.Rows.{Every, length-rows, length-joined, every-image, along-blind}
+use Rattle.wire.specs.Order.{replyData}
+use Rattle.wire.specs.Windows.{empty, enterAll}
+use Rattle.wire.proofs.Windows.{windows-after-write, length-enterAll, length-empty, length-drawn, left-whole}
+use Rattle.monitor.specs.declared.commands.Command.{Command}
+use Rattle.monitor.specs.declared.commands.Command.the-variants.{Reads, Writes, Bares, Unlisted}
+use Rattle.monitor.specs.declared.record.Part.{Part}
+use Rattle.monitor.specs.Record.{recordSize}
+use Rattle.monitor.specs.Commands.{isListed, payloadSize, frameLength}
+use Rattle.monitor.specs.Effects.{takes, keeps}
+use Rattle.monitor.specs.Reply.{reply}
+use Rattle.monitor.proofs.Sound.{length-reply}
+use Rattle.chain.specs.Frame.{payloadsIn, replyLength, takenBy, kept, replied}
+use Rattle.chain.proofs.Turns.{length-payloadsIn}
+use Rattle.chain.proofs.Taken.{taken-read, taken-bare}
+use Rattle.clocked.specs.Clock.{far, filledFor}
+use Rattle.clocked.specs.Frames.{keptBack}
+use Rattle.clocked.proofs.Run.{windowsFor, cameFor}
+
+module _ (table frame : List ℕ) where
+  -- how many bytes come after the fourth, of a frame that has eight for each monitor
+  later-bytes : (n : ℕ) → length frame ≡ 4 + payloadSize * n → length (drop 4 frame) ≡ n * payloadSize
+  later-bytes n e = length-drop 4 frame ∙ omega arith
+
+  -- ---- the windows
+
+  -- one for each monitor
+  as-many : (c : Command) (n : ℕ) → length (windowsFor table frame c n) ≡ n
+  unfolding filledFor
+  as-many (Reads part) n =
+      length-drawn far (length (drop 4 frame)) (map (reply part) (rows recordSize n table))
+      ∙ length-map (rows recordSize n table) (reply part)
+      ∙ length-rows recordSize n table
+  as-many (Writes c) n = length-enterAll payloadSize (drop 4 frame) (empty n) ∙ length-empty ℕ n
+  as-many (Bares c) n = length-empty ℕ n
+  as-many Unlisted n = length-empty ℕ n
+
+  -- in a write each has its monitor's own eight bytes
+  own-windows : (n : ℕ) → length frame ≡ 4 + payloadSize * n → enterAll payloadSize (drop 4 frame) (empty n) ≡ payloadsIn frame n
+  unfolding payloadsIn
+  own-windows n e = windows-after-write payloadSize n (drop 4 frame) (lit< tt) (later-bytes n e)
+
+  -- as many monitors take the frame
+  pub same-taken : (c : Command) (n : ℕ) → isListed c ≡ true → length frame ≡ frameLength c n → count (takes c) (windowsFor table frame c n) ≡ takenBy c n frame
+  unfolding filledFor takenBy
+  same-taken (Reads part) n h e = count-all (takes (Reads part)) (λ eight. refl) (windowsFor table frame (Reads part) n) ∙ as-many (Reads part) n ∙ sym (taken-read part n frame)
+  same-taken (Writes c) n h e = ap (count (takes (Writes c))) (own-windows n e)
+  same-taken (Bares c) n h e = count-all (takes (Bares c)) (λ eight. refl) (windowsFor table frame (Bares c) n) ∙ as-many (Bares c) n ∙ sym (taken-bare c n frame)
+  same-taken Unlisted n h e = absurd (false≢true h)
+
+  -- what the monitors keep by their windows
+  abbrev keptFor : Command → ℕ → List (List ℕ) → List ℕ
+  keptFor c n windows = joined (along (λ r window. keeps c window r) (rows recordSize n table) windows)
+
+  -- any window does where the command does not look at it
+  blind : (c : Command) (n : ℕ) → ((r x y : List ℕ) → keeps c x r ≡ keeps c y r) → keptFor c n (windowsFor table frame c n) ≡ keptFor c n (payloadsIn frame n)
+  blind c n same = ap joined (along-blind (λ r window. keeps c window r) same (rows recordSize n table) _ _ (as-many c n ∙ sym (length-payloadsIn c n table frame)))
+
+  -- each keeps the same
+  pub same-kept : (c : Command) (n : ℕ) → length frame ≡ frameLength c n
+      → joined (along (λ r window. keeps c window r) (rows recordSize n table) (windowsFor table frame c n)) ≡ kept c n table frame
+  unfolding filledFor kept keeps
+  same-kept (Reads part) n e = blind (Reads part) n (λ r x y. refl)
+  same-kept (Writes c) n e = ap (keptFor (Writes c) n) (own-windows n e)
+  same-kept (Bares c) n e = blind (Bares c) n (λ r x y. refl)
+  same-kept Unlisted n e = blind Unlisted n (λ r x y. refl)
+
+  -- ---- what came back after byte four
+
+  module _ (part : Part) (n : ℕ) (e : length frame ≡ 4 + payloadSize * n) where
+    -- what the windows hold after byte four
+    abbrev replies : List (List ℕ)
+    replies = map (reply part) (rows recordSize n table)
+
+    -- eight bytes each
+    each : Every payloadSize replies
+    each = every-image payloadSize (reply part) (length-reply part) (rows recordSize n table)
+
+    -- one for each monitor
+    all : length replies ≡ n
+    all = length-map (rows recordSize n table) (reply part) ∙ length-rows recordSize n table
+
+    -- of a read it is the reply
+    pub came-reply : cameFor table frame (Reads part) n ≡ replyData replies
+    unfolding filledFor replyData
+    came-reply = left-whole payloadSize far (length (drop 4 frame)) replies (lit< tt) each (later-bytes n e ∙ ap (λ (m : ℕ). m * payloadSize) (sym all))
+
+    -- eight bytes for each monitor
+    pub length-came : length (cameFor table frame (Reads part) n) ≡ payloadSize * n
+    unfolding replyData
+    length-came = ap length came-reply ∙ length-joined payloadSize replies each ∙ ap (λ (m : ℕ). m * payloadSize) all ∙ mul-comm n payloadSize
+
+  -- it begins as the reply buffer does
+  pub same-reply : (c : Command) (n : ℕ) (buffer : List ℕ) → length frame ≡ frameLength c n
+      → take (replyLength c n) (cameFor table frame c n) ≡ take (replyLength c n) (replied c n table buffer)
+  unfolding replied
+  same-reply (Reads part) n buffer e =
+      take-all (payloadSize * n) (cameFor table frame (Reads part) n) (omega (arith, length-came part n e))
+      ∙ came-reply part n e
+      ∙ sym (take-at _ (drop (payloadSize * n) buffer) (payloadSize * n) (ap length (sym (came-reply part n e)) ∙ length-came part n e))
+  same-reply (Writes c) n buffer e = refl
+  same-reply (Bares c) n buffer e = refl
+  same-reply Unlisted n buffer e = refl
+
+  -- kept in a buffer of our own and put there, it makes the reply buffer what it is
+  pub same-buffer : (c : Command) (n : ℕ) (back own buffer : List ℕ) → replyLength c n ≤ length own → length frame ≡ frameLength c n → drop 4 back ≡ cameFor table frame c n
+      → take (replyLength c n) (keptBack back own) ++ drop (replyLength c n) buffer ≡ replied c n table buffer
+  unfolding replied keptBack
+  same-buffer (Reads part) n back own buffer fits e came = ap (λ (front : List ℕ). front ++ drop (payloadSize * n) buffer) front
+    where
+      l : length (drop 4 back) ≡ payloadSize * n
+      l = ap length came ∙ length-came part n e
+
+      front : take (payloadSize * n) (keptBack back own) ≡ replyData (replies part n e)
+      front =
+          ap (λ (x : List ℕ). take (payloadSize * n) (x ++ drop (length (drop 4 back)) own)) (take-all (length own) (drop 4 back) (omega (arith, l)))
+          ∙ take-at (drop 4 back) _ (payloadSize * n) l
+          ∙ came
+          ∙ came-reply part n e
+  same-buffer (Writes c) n back own buffer fits e came = refl
+  same-buffer (Bares c) n back own buffer fits e came = refl
+  same-buffer Unlisted n back own buffer fits e came = refl

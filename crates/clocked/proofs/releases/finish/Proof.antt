@@ -1,0 +1,68 @@
+-- `clocked::releases::finish` meets its contract: a release is judged, and what comes of it is what comes of its judgement.
+-- Assumes nothing.
+use mathlib.Core.Path.{sym, ap₂, _∙_, subst}
+use Rattle.chain.specs.declared.frames.Answer.the-variants.{Accepted}
+use Rattle.chain.proofs.Judging.{within-most}
+use Rattle.clocked.specs.declared.releases.Judged.{Judged}
+use Rattle.clocked.specs.State.{clockOf}
+use Rattle.clocked.specs.Judged.{ReadyIf}
+use Rattle.clocked.proofs.ReleaseOutcome.{the-answer, the-table}
+use borrow.Author.Needs.{needs}
+use Rattle.clocked.proofs.releases.finish.Statement.{statement}
+use Rattle.clocked.proofs.releases.finish.Tie as tie
+
+judge-requires : tie.Need-judge-requires
+judge-requires c κs = search needs
+
+enum-known-refusal : tie.Need-enum-known-refusal
+enum-known-refusal c = search needs
+
+enum-known-command : tie.Need-enum-known-command
+enum-known-command c = search needs
+
+act-all-requires : tie.Need-act-all-requires
+unfolding clockOf
+act-all-requires c κs =
+    let a = c .before .before .before .before .before .before .before .before .args in
+    let ready = subst (λ (j : Judged). ReadyIf j (clockOf (a .state .now)) (a .table .now)) (c .before .before .command .given .1) (c .before .before .before .before .judge .ensures .1) in
+    (ready .whole, c .before .before .before .before .before .before .before .before .pre, ready .same, ready .few)
+
+reply-size-requires : tie.Need-reply-size-requires
+reply-size-requires c κs = search needs
+
+same-length : tie.Need-same-length
+same-length c = search needs
+
+returns : tie.Need-returns
+returns c =
+    let a = c .before .before .before .before .before .before .before .args in
+    let e = sym (c .before .before .before .judge .ensures .0) ∙ c .before .refusal .given .1 in
+    (sym (the-answer (clockOf (a .state .now)) (a .table .now) e), sym (the-table (clockOf (a .state .now)) (a .table .now) e))
+
+same-length-2 : tie.Need-same-length-2
+same-length-2 c = search needs
+
+returns-2 : tie.Need-returns-2
+returns-2 c =
+    let a = c .before .before .before .before .before .before .before .before .before .before .before .before .args in
+    let judged = c .before .before .before .before .before .before .before .before .judge .ensures in
+    let good = c .before .before .before .before .before .before .command .given .1 in
+    let e = sym (judged .0) ∙ good in
+    let ready = subst (λ (j : Judged). ReadyIf j (clockOf (a .state .now)) (a .table .now)) good (judged .1) in (
+      ap₂ Accepted (c .before .before .before .act-all .ensures .0) (within-most _ _ (ready .few) (c .reply-size .ensures)) ∙ sym (the-answer (clockOf (a .state .now)) (a .table .now) e),
+      c .before .before .before .act-all .ensures .1 ∙ sym (the-table (clockOf (a .state .now)) (a .table .now) e),
+    )
+
+pub finish-spec : {M : Type 1} → statement M
+finish-spec =
+    tie.close
+    (tie.spec
+    judge-requires
+    enum-known-refusal
+    enum-known-command
+    act-all-requires
+    reply-size-requires
+    same-length
+    returns
+    same-length-2
+    returns-2)

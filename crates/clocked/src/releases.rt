@@ -1,0 +1,117 @@
+// The end of a frame.
+ghost use mathlib.Core.Path.{_≡_};
+ghost use mathlib.Core.List.{_++_};
+ghost use Prim.Native.Nat.{_+_, _*_, _<_, _≤_};
+ghost use lib.ListN.{length, take, drop};
+ghost use Rattle.laws.specs.Counts.{count};
+ghost use Rattle.laws.specs.Rows.{rows, rowAt, joined, along};
+ghost use Rattle.monitor.specs.Record.{recordSize};
+ghost use Rattle.monitor.specs.Commands.{mostMonitors};
+ghost use Rattle.monitor.specs.Effects.{takes, keeps};
+ghost use Rattle.clocked.specs.Judged.{judged, ReadyIf};
+ghost use Rattle.clocked.specs.Release.{released, tableReleased};
+ghost use Rattle.clocked.specs.State.{stateSize, chainedIn, idle, clockOf};
+use crate::looks::window_in;
+use crate::state::HEAD;
+use crate::state::STATE_SIZE;
+use crate::state::WINDOWS;
+use crate::state::chained_in;
+use crate::state::seen_in;
+use crate::state::start;
+use chain::Answer;
+use monitor::Command;
+use monitor::RECORD_SIZE;
+use refusals::Refusal;
+
+// What the refusals say of a release: the first that holds, or the command and the number of monitors.
+pub enum Judged {
+    Bad(Refusal),
+    Good(Command, usize),
+}
+
+// The refusals in the paper's order. Byte four has come where the table's N is compared with the one that it noted.
+pub(crate) fn judge(state: &[u8], table: &[u8]) -> Judged
+    requires { ⌜ length (now state) ≡ stateSize ⌝ }
+    ensures { λ r. ⌜ r ≡ judged (clockOf (now (state .entry))) (now (table .entry)) ⌝ }
+    ensures { λ r. ⌜ ReadyIf r (clockOf (now (state .entry))) (now (table .entry)) ⌝ }
+{
+    let n = chain::sound_count(table);
+    if n == 0 {
+        return Judged::Bad(Refusal::TableNotSound);
+    }
+    let seen = seen_in(state);
+    if seen < 4 {
+        return Judged::Bad(Refusal::FrameShort);
+    }
+    if chained_in(state) != n {
+        return Judged::Bad(Refusal::TableNotSound);
+    }
+    let head = &state[HEAD..WINDOWS];
+    if !pec::command_right(head) {
+        return Judged::Bad(Refusal::CommandWrong);
+    }
+    let command = chain::command_in(head);
+    if !monitor::is_listed(command) {
+        return Judged::Bad(Refusal::CodeNotListed);
+    }
+    if seen != monitor::frame_length(command, n) {
+        return Judged::Bad(Refusal::LengthWrong);
+    }
+    Judged::Good(command, n)
+}
+
+// The monitor at k, counted from 0, acts on its own record and its own window.
+fn act_at(table: &mut [u8], command: Command, k: usize, window: &[u8]) -> bool
+    requires { ⌜ (k < mostMonitors) × (k * recordSize + recordSize ≤ length (now table)) ⌝ }
+    ensures { λ took. ⌜ took ≡ takes command (now (window .entry)) ⌝ }
+    ensures { λ _. ⌜ now (table .exit) ≡ take (k * recordSize) (now (table .entry)) ++ keeps command (now (window .entry)) (rowAt recordSize k (now (table .entry))) ++ drop (k * recordSize + recordSize) (now (table .entry)) ⌝ }
+{
+    let at = k * RECORD_SIZE;
+    let end = at + RECORD_SIZE;
+    monitor::act(command, &mut table[at..end], window)
+}
+
+// Every monitor acts on its own window, and those that took the command are counted.
+fn act_all(table: &mut [u8], command: Command, state: &[u8], n: usize) -> usize
+    requires { ⌜ (length (now table) ≡ n * recordSize) × (length (now state) ≡ stateSize) × (n ≡ chainedIn (now state)) × (n ≤ mostMonitors) ⌝ }
+    ensures { λ r. ⌜ r ≡ count (takes command) (clockOf (now (state .entry)) .windows) ⌝ }
+    ensures { λ _. ⌜ now (table .exit) ≡ joined (along (λ r window. keeps command window r) (rows recordSize n (now (table .entry))) (clockOf (now (state .entry)) .windows)) ⌝ }
+{
+    let mut taken = 0;
+    let mut k = 0;
+    while k < n {
+        let window = window_in(state, n, k);
+        if act_at(table, command, k, window) {
+            taken += 1;
+        }
+        k += 1;
+    }
+    taken
+}
+
+// What comes of a release: each monitor acts on its own window as the state holds it, also where no frame leads to such a state.
+pub(crate) fn finish(state: &[u8], table: &mut [u8]) -> Answer
+    requires { ⌜ length (now state) ≡ stateSize ⌝ }
+    ensures { λ r. ⌜ r ≡ released (clockOf (now (state .entry))) (now (table .entry)) ⌝ }
+    ensures { λ _. ⌜ now (table .exit) ≡ tableReleased (clockOf (now (state .entry))) (now (table .entry)) ⌝ }
+{
+    match judge(state, table) {
+        Judged::Bad(refusal) => Answer::Refused(refusal),
+        Judged::Good(command, n) => {
+            let taken = act_all(table, command, state, n);
+            let reply = chain::reply_size(command, n);
+            Answer::Accepted { taken, reply }
+        }
+    }
+}
+
+// Ends a frame: the table becomes what the rules say, and the next frame starts empty. A refusal leaves the table as it is.
+pub fn release(state: &mut [u8; STATE_SIZE], table: &mut [u8]) -> Answer
+    ensures { λ r. ⌜ r ≡ released (clockOf (now (state .entry))) (now (table .entry)) ⌝ }
+    ensures { λ _. ⌜ now (state .exit) ≡ idle ⌝ }
+    ensures { λ _. ⌜ now (table .exit) ≡ tableReleased (clockOf (now (state .entry))) (now (table .entry)) ⌝ }
+{
+    let answer = finish(&state[..], table);
+    start(state);
+    answer
+}
