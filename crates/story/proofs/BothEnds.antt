@@ -27,6 +27,7 @@ use Rattle.host.specs.Parts.{bytesOf}
 use Rattle.host.proofs.BothEnds.{part-at-a, part-at-b}
 use Rattle.host.proofs.TwoPorts.{answer-a, answer-b}
 use Rattle.story.proofs.OurHost.{reply-after, reply-right}
+use Rattle.story.proofs.Runs.{length-replies}
 
 module _ (part : Part) (n : ℕ) (table : List ℕ) (k : ℕ) (first : 1 ≤ k) (last : k ≤ n) where
   -- the replies of n monitors, nearest first
@@ -62,8 +63,7 @@ module _ (part : Part) (n : ℕ) (table : List ℕ) (k : ℕ) (first : 1 ≤ k) 
   -- asked for monitor k, our host hands over what monitor k replied: where port A's reply came whole, whatever came to port B; and
   -- where port A's part is wrong and port B's reply came whole
   length-from-a : length (replyData replies) ≡ payloadSize * n
-  unfolding replyData
-  length-from-a = length-joined payloadSize replies each ∙ ap (λ (m : ℕ). m * payloadSize) count ∙ mul-comm n payloadSize
+  length-from-a = length-replies part n table
 
   length-from-b : length (replyData (reverse replies)) ≡ payloadSize * n
   unfolding replyData

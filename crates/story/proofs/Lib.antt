@@ -1,6 +1,12 @@
 pub mod OurHost
 pub mod ReadBack
 pub mod BothEnds
+pub mod EitherSide
 pub mod OneOutcome
 pub mod Numbers
-pub mod EitherSide
+pub mod Stays
+pub mod Accepted
+pub mod Runs
+pub mod Demand1
+pub mod Demand2
+pub mod Demand3

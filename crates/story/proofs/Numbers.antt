@@ -1,36 +1,116 @@
--- The number that comes back for a question is that of the first refusal that holds, and 0 where none does.
+-- The number that comes back for a question is that of the first refusal that holds, and 0 where none does; and that is exactly when
+-- its condition is the first to hold. By going down the list of refusals; a refusal's number tells which it is.
 -- Assumes nothing.
-use mathlib.Core.Path.{_≡_, refl, _∙_}
+use mathlib.Core.Path.{_≡_, refl, sym, ap, _∙_}
 use mathlib.Core.Bool.{Bool, true, false, cond}
 use mathlib.Core.List.{List, [], _∷_}
+use mathlib.Core.Logic.{inl, inr, _↔_}
 use lib.IntN.{ℤ}
-use Prim.Native.Nat.{ℕ}
+use lib.ListN.{getD}
+use native.Mathlib.Omega.{arith}
+use Prim.Native.Nat.{ℕ, _-_, _≤_}
 use Rattle.refusals.specs.declared.Refusal.{Refusal}
+use Rattle.refusals.specs.declared.Refusal.the-variants.{TableNotSound, FrameShort, CommandWrong, CodeNotListed, LengthWrong, NoRoom, PositionWrong, CountWrong, CodeCleared, NeitherRight}
 use Rattle.refusals.specs.Numbers.{numberOf}
 use Rattle.refusals.specs.Order.{Row, decide}
+use Rattle.refusals.proofs.Deciding.{holds-here, holds-not, decide-map, Passed, passes, has-passed}
 use Rattle.pec.specs.Words.{payloadRight}
-use Rattle.host.specs.declared.frames.Built.the-variants.{Unbuilt, Length}
+use Rattle.chain.specs.declared.frames.Answer.the-variants.{Refused as Refuses}
+use Rattle.chain.specs.declared.loads.Loaded.the-variants.{Unloaded, Done}
+use Rattle.chain.specs.Frame.{frameRefusals, answer}
+use Rattle.chain.specs.Load.{loadRefusals, loaded}
+use Rattle.chain.specs.Numbers.{numbersOf, loadNumber}
+use Rattle.clocked.specs.declared.looks.Looked.the-variants.{Refused as Unseen}
+use Rattle.clocked.specs.Clock.{Clock}
+use Rattle.clocked.specs.Release.{releaseRefusals, released}
+use Rattle.clocked.specs.Look.{lookRefusals, looked}
+use Rattle.host.specs.declared.frames.Built.the-variants.{Unbuilt}
 use Rattle.host.specs.declared.frames.Checked.the-variants.{Unchecked, Right, Wrong}
 use Rattle.host.specs.declared.ports.Port.the-variants.{Refused, A, B}
 use Rattle.host.specs.Frames.{buildRefusals, built, checkRefusals, checked}
 use Rattle.host.specs.Ports.{partA, portRefusals, portOf}
-use Rattle.story.specs.Numbers.{builtNumbers, checkedNumbers, portNumber}
+use Rattle.readings.specs.declared.pack_summary.Pack.the-variants.{Refused as Unsummed}
+use Rattle.readings.specs.Readings.{measured, wholeOf, summaryOf}
+use Rattle.story.specs.Numbers.{builtNumbers, checkedNumbers, portNumber, lookedNumbers, packNumbers, summaryRefusals, firstNumber, First}
 
--- the number of the first refusal that holds
-abbrev pub firstNumber : List Row → ℕ
-firstNumber rows = decide rows numberOf 0
+-- ---- which refusal it is
+
+-- the refusals by their numbers
+refusalOf : ℕ → Refusal
+refusalOf n =
+    getD (TableNotSound ∷ FrameShort ∷ CommandWrong ∷ CodeNotListed ∷ LengthWrong ∷ NoRoom ∷ PositionWrong ∷ CountWrong ∷ CodeCleared ∷ NeitherRight ∷ []) (n - 1) TableNotSound
+
+told : (r : Refusal) → refusalOf (numberOf r) ≡ r
+unfolding refusalOf
+told TableNotSound = refl
+told FrameShort = refl
+told CommandWrong = refl
+told CodeNotListed = refl
+told LengthWrong = refl
+told NoRoom = refl
+told PositionWrong = refl
+told CountWrong = refl
+told CodeCleared = refl
+told NeitherRight = refl
+
+-- no refusal has the number 0
+some-number : (r : Refusal) → 1 ≤ numberOf r
+some-number TableNotSound = omega arith
+some-number FrameShort = omega arith
+some-number CommandWrong = omega arith
+some-number CodeNotListed = omega arith
+some-number LengthWrong = omega arith
+some-number NoRoom = omega arith
+some-number PositionWrong = omega arith
+some-number CountWrong = omega arith
+some-number CodeCleared = omega arith
+some-number NeitherRight = omega arith
+
+-- ---- exactly when its condition is the first to hold
+
+pub first-refuses : {A : Type 0} (rows : List Row) (refused : Refusal → A) (accepted : A) (r : Refusal) → First rows r
+    → decide rows refused accepted ≡ refused r
+first-refuses (row ∷ rows) refused accepted r (inl h) = holds-here row rows refused accepted (h .0) ∙ ap refused (h .1)
+first-refuses (row ∷ rows) refused accepted r (inr h) = holds-not row rows refused accepted (h .0) ∙ first-refuses rows refused accepted r (h .1)
+
+gives-first : (rows : List Row) (r : Refusal) → firstNumber rows ≡ numberOf r → First rows r
+unfolding decide
+gives-first [] r e = absurd (omega (arith, some-number r))
+gives-first (row ∷ rows) r e = by (row .holds) refl e (gives-first rows r)
+  where
+    by : (b : Bool) → row .holds ≡ b → cond b (numberOf (row .refusal)) (firstNumber rows) ≡ numberOf r → (firstNumber rows ≡ numberOf r → First rows r)
+        → First (row ∷ rows) r
+    by true h e rest = inl (h, sym (told (row .refusal)) ∙ ap refusalOf e ∙ told r)
+    by false h e rest = inr (h, rest e)
+
+pub number-exactly : (rows : List Row) (r : Refusal) → (firstNumber rows ≡ numberOf r) ↔ First rows r
+number-exactly rows r = (gives-first rows r, first-refuses rows numberOf 0 r)
+
+pub zero-exactly : (rows : List Row) → (firstNumber rows ≡ 0) ↔ Passed rows
+zero-exactly rows = (has-passed rows numberOf 0 0 (λ r e. omega (arith, some-number r)), passes rows numberOf 0)
+
+-- ---- question by question
 
 -- a question's number, whatever its answers are
 number-by : {A : Type 0} (number : A → ℕ) (rows : List Row) (refused : Refusal → A) (accepted : A)
     → ((r : Refusal) → number (refused r) ≡ numberOf r) → number accepted ≡ 0 → number (decide rows refused accepted) ≡ firstNumber rows
-unfolding decide
-number-by number [] refused accepted each none = none
-number-by {A} number (row ∷ rows) refused accepted each none = by (row .holds) (number-by number rows refused accepted each none)
-  where
-    by : (b : Bool) → number (decide rows refused accepted) ≡ decide rows numberOf 0
-        → number (cond b (refused (row .refusal)) (decide rows refused accepted)) ≡ cond b (numberOf (row .refusal)) (decide rows numberOf 0)
-    by true rest = each (row .refusal)
-    by false rest = rest
+number-by number rows refused accepted each none = decide-map number rows refused accepted ∙ (λ i. decide rows (λ r. each r i) (none i))
+
+pub frame-number : (table frame : List ℕ) (room : ℕ) → numbersOf (answer table frame room) .number ≡ firstNumber (frameRefusals table frame room)
+unfolding answer
+frame-number table frame room = number-by (λ a. numbersOf a .number) (frameRefusals table frame room) Refuses _ (λ r. refl) refl
+
+pub load-number : (table : List ℕ) (position : ℕ) (codes : List ℤ) → loadNumber (loaded table position codes) ≡ firstNumber (loadRefusals table position codes)
+unfolding loaded
+load-number table position codes = number-by loadNumber (loadRefusals table position codes) Unloaded Done (λ r. refl) refl
+
+pub release-number : (c : Clock) (table : List ℕ) → numbersOf (released c table) .number ≡ firstNumber (releaseRefusals c table)
+unfolding released
+release-number c table = number-by (λ a. numbersOf a .number) (releaseRefusals c table) Refuses _ (λ r. refl) refl
+
+pub look-number : (c : Clock) (position room : ℕ) → lookedNumbers (looked c position room) .number ≡ firstNumber (lookRefusals c position room)
+unfolding looked
+look-number c position room = number-by (λ l. lookedNumbers l .number) (lookRefusals c position room) Unseen _ (λ r. refl) refl
 
 pub built-number : (code n : ℕ) (values : List ℕ) (room : ℕ) → builtNumbers (built code n values room) .number ≡ firstNumber (buildRefusals code n values room)
 unfolding built
@@ -51,3 +131,11 @@ port-number a b n k = number-by portNumber (portRefusals a b n k) Refused _ (λ 
     either : (c : Bool) → portNumber (cond c A B) ≡ 0
     either true = refl
     either false = refl
+
+pub summary-number : (codes : List ℤ) → packNumbers (summaryOf codes) .number ≡ firstNumber (summaryRefusals codes)
+unfolding summaryOf wholeOf
+summary-number codes = number-by (λ p. packNumbers p .number) (summaryRefusals codes) Unsummed _ (λ r. refl) (whole (measured codes))
+  where
+    whole : (ms : List ℤ) → packNumbers (wholeOf ms) .number ≡ 0
+    whole [] = refl
+    whole (m ∷ ms) = refl

@@ -2,13 +2,13 @@
 -- N monitors take it, and each keeps what it would keep of its own six bytes, the k-th six of the list; in a read every
 -- monitor's part of the reply is right.
 -- Assumes nothing.
-use mathlib.Core.Path.{_≡_, refl, sym, ap, ap₂, _∙_, subst, subst⁻¹}
+use mathlib.Core.Path.{_≡_, refl, sym, ap, ap₂, _∙_, subst}
 use mathlib.Core.Bool.{Bool, true, cond}
 use mathlib.Core.List.{List, [], _∷_, map}
 use Prim.Native.Nat.{ℕ, suc, _+_, _-_, _*_, _≤_, _<_}
 use native.Mathlib.Numerals.{one-add}
 use native.Mathlib.Omega.{arith}
-use lib.ListN.{length, length-map, getD, drop}
+use lib.ListN.{length, getD, drop}
 use Rattle.laws.specs.Counts.{count}
 use Rattle.laws.specs.Rows.{rows, rowAt}
 use Rattle.laws.specs.Tables.{tabulate}
@@ -16,7 +16,6 @@ use Rattle.laws.proofs.Lists.{getD-map}
 use Rattle.laws.proofs.Rows.{Every, length-rows, every-rows, row-at}
 use Rattle.pec.specs.Words.{payloadRight}
 use Rattle.pec.proofs.CheckWords.{seal-right}
-use Rattle.wire.specs.Order.{writePayloads}
 use Rattle.wire.proofs.Order.{write-at}
 use Rattle.monitor.specs.declared.commands.Command.{Command}
 use Rattle.monitor.specs.declared.commands.Command.the-variants.{Reads, Writes}
@@ -24,7 +23,7 @@ use Rattle.monitor.specs.declared.commands.Write.{Write}
 use Rattle.monitor.specs.declared.record.Part.{Part}
 use Rattle.monitor.specs.Record.{recordSize, counter, byteOf}
 use Rattle.monitor.specs.Commands.{commands, commandOf, isListed, payloadSize, frameLength}
-use Rattle.monitor.specs.Effects.{takes, keeps}
+use Rattle.monitor.specs.Effects.{keeps}
 use Rattle.monitor.specs.Reply.{register, reply}
 use Rattle.chain.specs.declared.frames.Answer.the-variants.{Accepted}
 use Rattle.chain.specs.declared.frames.Judged.the-variants.{Good}
@@ -86,19 +85,31 @@ each-right [] e = refl
 each-right (r ∷ rs) e =
     ap₂ _+_ (ap (λ (b : Bool). cond b 1 0) (sealed-right r (e .0))) (each-right rs (e .1)) ∙ one-add (length rs)
 
+module _ (code n : ℕ) (values : List ℕ) (w : Write) (its : commandOf code commands ≡ Writes w) (right-count : length values ≡ dataSize * n) where
+  own-payloads : payloadsIn (frameFor code n values) n ≡ map sealed (rows dataSize n values)
+  unfolding payloadsIn
+  own-payloads = write-payloads code n values w its right-count
+
+  -- the own eight bytes of the monitor at k, counted from 0, are the k-th six of the list, sealed; on the wire they are the k-th eight
+  -- from the end
+  pub own-six : (k : ℕ) → k < n → rowAt payloadSize (n - suc k) (drop 4 (frameFor code n values)) ≡ sealed (rowAt dataSize k values)
+  unfolding payloadsIn
+  own-six k h =
+      let within = length-rows dataSize n values in
+      sym (write-at payloadSize n (drop 4 (frameFor code n values)) k [] h)
+      ∙ ap (λ (ps : List (List ℕ)). getD ps k []) own-payloads
+      ∙ getD-map sealed (rows dataSize n values) k [] [] (omega arith)
+      ∙ ap sealed (row-at dataSize n values k [] h)
+
 module _ (table values buffer : List ℕ) (code : ℕ) (w : Write) (its : commandOf code commands ≡ Writes w)
     (is-sound-table : sound table ≡ true) (right-count : length values ≡ dataSize * monitors table) where
   abbrev written-frame : List ℕ
   written-frame = frameFor code (monitors table) values
 
-  own-payloads : payloadsIn written-frame (monitors table) ≡ map sealed (rows dataSize (monitors table) values)
-  unfolding payloadsIn
-  own-payloads = write-payloads code (monitors table) values w its right-count
-
   all-taken : takenBy (Writes w) (monitors table) written-frame ≡ monitors table
   unfolding takenBy
   all-taken =
-      ap (count payloadRight) own-payloads
+      ap (count payloadRight) (own-payloads code (monitors table) values w its right-count)
       ∙ each-right (rows dataSize (monitors table) values) (every-rows dataSize (monitors table) values (omega arith))
       ∙ length-rows dataSize (monitors table) values
 
@@ -107,22 +118,12 @@ module _ (table values buffer : List ℕ) (code : ℕ) (w : Write) (its : comman
   write-taken-by-all =
       accepted table values buffer code (Writes w) its refl is-sound-table right-count (omega arith) ∙ ap (λ (t : ℕ). Accepted t 0) all-taken
 
-  -- the own eight bytes of the monitor at k, counted from 0, are the k-th six of the list, sealed
-  own-eight : (k : ℕ) → k < monitors table → rowAt payloadSize (monitors table - suc k) (drop 4 written-frame) ≡ sealed (rowAt dataSize k values)
-  unfolding payloadsIn
-  own-eight k h =
-      let within = length-rows dataSize (monitors table) values in
-      sym (write-at payloadSize (monitors table) (drop 4 written-frame) k [] h)
-      ∙ ap (λ (ps : List (List ℕ)). getD ps k []) own-payloads
-      ∙ getD-map sealed (rows dataSize (monitors table) values) k [] [] (omega arith)
-      ∙ ap sealed (row-at dataSize (monitors table) values k [] h)
-
   pub each-keeps-its-own : (k : ℕ) → k < monitors table
       → rowAt recordSize k (tableAfter table written-frame (length buffer)) ≡ keeps (Writes w) (sealed (rowAt dataSize k values)) (rowAt recordSize k table)
   each-keeps-its-own k h =
       ap (rowAt recordSize k) (table-after table values buffer code (Writes w) its refl is-sound-table right-count (omega arith))
       ∙ own-record (Writes w) (monitors table) table written-frame k h (sym (is-sound table is-sound-table .whole))
-      ∙ ap (λ (eight : List ℕ). keeps (Writes w) eight (rowAt recordSize k table)) (own-eight k h)
+      ∙ ap (λ (eight : List ℕ). keeps (Writes w) eight (rowAt recordSize k table)) (own-six code (monitors table) values w its right-count k h)
 
 -- ---- reads
 

@@ -1,25 +1,21 @@
 -- Configuration B written by our host and read back is the list that was written, monitor by monitor: by one frame each, the first
 -- six bytes of monitor k's part of the reply are the k-th six of the list.
 -- Assumes nothing.
-use mathlib.Core.Path.{_≡_, refl, sym, ap, ap₂, _∙_}
+use mathlib.Core.Path.{_≡_, sym, ap, ap₂, _∙_}
 use mathlib.Core.Bool.{true}
-use mathlib.Core.List.{List, [], _∷_, _++_}
+use mathlib.Core.List.{List, []}
 use Prim.Native.Nat.{ℕ, zero, suc, _+_, _-_, _*_, _≤_, _<_}
 use native.Mathlib.Nat.{mod-eq-of-lt, lt-of-lt-of-le}
 use native.Mathlib.Omega.{arith}
 use lib.Bits.{bitAnd, bitOr, and-mask, and-zero-r, or-zero-r}
 use lib.ListN.{length, getD, take, List·getD-append}
 use lib.Seq.{ext-getD, take-at}
-use Rattle.laws.specs.Rows.{rows, rowAt, joined}
-use Rattle.laws.specs.Tables.{tabulate}
-use Rattle.laws.proofs.Lists.{getD-any}
+use Rattle.laws.specs.Rows.{rowAt}
 use Rattle.laws.proofs.Rows.{length-row-at, row-element}
 use Rattle.laws.proofs.Tables.{at-each}
-use Rattle.pec.specs.Words.{payloadRight}
-use Rattle.wire.specs.Order.{farthestFirst}
 use Rattle.monitor.specs.declared.commands.Command.the-variants.{Reads, Writes}
 use Rattle.monitor.specs.declared.commands.Write.the-variants.{Wrcfgb}
-use Rattle.monitor.specs.Record.{recordSize, unlocked, byteOf, anew}
+use Rattle.monitor.specs.Record.{recordSize}
 use Rattle.monitor.specs.Commands.{commands, commandOf, rdcfgb, payloadSize}
 use Rattle.monitor.specs.Effects.{locked, counted, rulesOf, changed, byRules, opens, written, keeps}
 use Rattle.monitor.specs.Reply.{register, reply}

@@ -1,10 +1,21 @@
--- Document 01, "Numbers that come back", for the host and the summary: the paper's number and values for each case of an answer. A
--- refusal returns its number only; where nothing is refused the number is 0. The chain's own are in `chain`.
+-- Document 01, "Numbers that come back", for the host, a look and the summary: the paper's number and values for each case of an
+-- answer. A refusal returns its number only; where nothing is refused the number is 0. The chain's own are in `chain`. And what it
+-- is that a condition is the first to hold.
 -- Assumes nothing.
-use mathlib.Core.Bool.{Bool, true, false}
-use mathlib.Core.List.{List, [], _∷_}
+use mathlib.Core.Path.{_≡_}
+use mathlib.Core.Bool.{Bool, true, false, not, _&&_}
+use mathlib.Core.List.{List, [], _∷_, map}
+use mathlib.Core.Logic.{_⊎_}
 use Prim.Native.Nat.{ℕ}
+use lib.Dec.{leb}
+use lib.IntN.{ℤ}
+use lib.ListN.{length}
+use Rattle.refusals.specs.declared.Refusal.{Refusal}
+use Rattle.refusals.specs.declared.Refusal.the-variants.{CountWrong}
 use Rattle.refusals.specs.Numbers.{numberOf}
+use Rattle.refusals.specs.Order.{Row, _gives_, decide}
+use Rattle.clocked.specs.declared.looks.Looked.{Looked}
+use Rattle.clocked.specs.declared.looks.Looked.the-variants.{Refused as Unseen, Holds}
 use Rattle.host.specs.declared.frames.Built.{Built}
 use Rattle.host.specs.declared.frames.Built.the-variants.{Unbuilt, Length}
 use Rattle.host.specs.declared.frames.Checked.{Checked}
@@ -14,6 +25,7 @@ use Rattle.host.specs.declared.ports.Port.the-variants.{Refused, A, B}
 use Rattle.readings.specs.declared.pack_summary.Pack.{Pack}
 use Rattle.readings.specs.declared.pack_summary.Pack.the-variants.{Refused as Unsummed, Nothing, Whole}
 use Rattle.readings.specs.declared.pack_summary.Summary.{Summary}
+use Rattle.readings.specs.Readings.{mostCodes}
 
 -- a number, and what comes with it where it is 0
 pub record Numbered (Value : Type 0) : Type 0 where
@@ -37,8 +49,32 @@ portNumber (Refused r) = numberOf r
 portNumber A = 0
 portNumber B = 0
 
+-- a look at a window: how many bytes it holds
+abbrev pub lookedNumbers : Looked → Numbered ℕ
+lookedNumbers (Unseen r) = record { number = numberOf r; values = [] }
+lookedNumbers (Holds n) = record { number = 0; values = n ∷ [] }
+
 -- a summary; none where all cells are cleared
 abbrev pub packNumbers : Pack → Numbered Summary
 packNumbers (Unsummed r) = record { number = numberOf r; values = [] }
 packNumbers Nothing = record { number = 0; values = [] }
 packNumbers (Whole s) = record { number = 0; values = s ∷ [] }
+
+-- what a summary's refusal asks
+abbrev pub summaryRefusals : List ℤ → List Row
+summaryRefusals codes = (not (leb 1 (length codes) && leb (length codes) mostCodes) gives CountWrong) ∷ []
+
+-- ---- the first refusal that holds
+
+-- its number, and 0 where none does
+abbrev pub firstNumber : List Row → ℕ
+firstNumber rows = decide rows numberOf 0
+
+-- r's condition holds, and none before it
+abbrev pub First : List Row → Refusal → Type 0
+First [] r = ⊥
+First (row ∷ rows) r = ((row .holds ≡ true) × (row .refusal ≡ r)) ⊎ ((row .holds ≡ false) × First rows r)
+
+-- the numbers of a question, in their order
+abbrev pub order : List Row → List ℕ
+order rows = map (λ row. numberOf (row .refusal)) rows

@@ -1,0 +1,152 @@
+-- What comes of a frame, a load and a host's frame of which no refusal holds: the answer, each monitor's record and reply, and what our
+-- host writes. With no refusal the outcome is the accepted one; it is taken apart by the laws of `chain` and `host`.
+-- Assumes nothing.
+use mathlib.Core.Path.{_≡_, sym, ap, _∙_}
+use mathlib.Core.Bool.{true, _&&_}
+use mathlib.Core.List.{List, _++_}
+use Prim.Native.Nat.{ℕ, suc, _-_, _*_, _<_}
+use native.Mathlib.Omega.{arith}
+use lib.Dec.{leb}
+use lib.IntN.{ℤ}
+use lib.ListN.{length, drop}
+use borrow.Author.Tests.{leb-true, eqb-true, not-false}
+use Rattle.laws.specs.Counts.{count}
+use Rattle.laws.specs.Rows.{rowAt}
+use Rattle.pec.specs.Words.{payloadRight}
+use Rattle.refusals.specs.declared.Refusal.{Refusal}
+use Rattle.refusals.proofs.Deciding.{Passed, passes}
+use Rattle.monitor.specs.declared.commands.Bare.{Bare}
+use Rattle.monitor.specs.declared.commands.Command.{Command}
+use Rattle.monitor.specs.declared.commands.Command.the-variants.{Reads, Writes, Bares}
+use Rattle.monitor.specs.declared.commands.Write.{Write}
+use Rattle.monitor.specs.declared.record.Part.{Part}
+use Rattle.monitor.specs.Record.{recordSize}
+use Rattle.monitor.specs.Commands.{payloadSize}
+use Rattle.monitor.specs.Cells.{load}
+use Rattle.monitor.specs.Effects.{keeps}
+use Rattle.monitor.specs.Reply.{reply}
+use Rattle.monitor.proofs.Answers.{both-first}
+use Rattle.chain.specs.declared.frames.Answer.the-variants.{Refused, Accepted}
+use Rattle.chain.specs.declared.loads.Loaded.the-variants.{Unloaded, Done}
+use Rattle.chain.specs.Table.{monitors, sound}
+use Rattle.chain.specs.Frame.{commandIn, payloadsIn, replyLength, frameRefusals, takenBy, kept, replied, answer, tableAfter, replyAfter}
+use Rattle.chain.specs.Load.{loadRefusals, loadedAt, loaded, tableAfterLoad}
+use Rattle.chain.proofs.OwnBytes.{own-record, own-reply, past-reply}
+use Rattle.chain.proofs.OwnLoad.{loaded-record, other-record}
+use Rattle.chain.proofs.Soundness.{is-sound}
+use Rattle.host.specs.declared.frames.Built.the-variants.{Unbuilt, Length}
+use Rattle.host.specs.Frames.{frameFor, buildRefusals, built, bufferAfter}
+use Rattle.host.proofs.FrameFor.{length-frame}
+use Rattle.host.proofs.Tests.{both-second}
+use Rattle.story.specs.Numbers.{First}
+use Rattle.story.specs.Runs.{takers}
+use Rattle.story.proofs.Numbers.{first-refuses}
+use Rattle.story.proofs.Runs.{same-takers}
+
+-- ---- a frame
+
+pub frame-refused : (table frame : List ℕ) (room : ℕ) (r : Refusal) → First (frameRefusals table frame room) r → answer table frame room ≡ Refused r
+unfolding answer
+frame-refused table frame room r first = first-refuses (frameRefusals table frame room) Refused _ r first
+
+module _ (table frame : List ℕ) (room : ℕ) (none : Passed (frameRefusals table frame room)) where
+  abbrev n : ℕ
+  n = monitors table
+
+  its-sound : sound table ≡ true
+  unfolding frameRefusals
+  its-sound = not-false (sound table) (none .0)
+
+  answer-by : {c : Command} → commandIn frame ≡ c → answer table frame room ≡ Accepted (takers c n frame) (replyLength c n)
+  unfolding answer
+  answer-by {c} its =
+      passes (frameRefusals table frame room) Refused _ none
+      ∙ ap (λ (x : Command). Accepted (takenBy x n frame) (replyLength x n)) its
+      ∙ ap (λ (taken : ℕ). Accepted taken (replyLength c n)) (same-takers c n frame)
+
+  pub write-answer : (c : Write) → commandIn frame ≡ Writes c → answer table frame room ≡ Accepted (count payloadRight (payloadsIn frame n)) 0
+  unfolding takers
+  write-answer c its = answer-by its
+
+  pub read-answer : (part : Part) → commandIn frame ≡ Reads part → answer table frame room ≡ Accepted n (payloadSize * n)
+  unfolding takers
+  read-answer part its = answer-by its
+
+  pub bare-answer : (c : Bare) → commandIn frame ≡ Bares c → answer table frame room ≡ Accepted n 0
+  unfolding takers
+  bare-answer c its = answer-by its
+
+  pub record-after : (k : ℕ) → k < n
+      → rowAt recordSize k (tableAfter table frame room) ≡ keeps (commandIn frame) (rowAt payloadSize (n - suc k) (drop 4 frame)) (rowAt recordSize k table)
+  unfolding tableAfter
+  record-after k h =
+      ap (rowAt recordSize k) (passes (frameRefusals table frame room) (λ r. table) (kept (commandIn frame) n table frame) none)
+      ∙ own-record (commandIn frame) n table frame k h (sym (is-sound table its-sound .whole))
+
+module _ (table frame buffer : List ℕ) (none : Passed (frameRefusals table frame (length buffer))) where
+  buffer-by : {c : Command} → commandIn frame ≡ c → replyAfter table frame buffer ≡ replied c (monitors table) table buffer
+  unfolding replyAfter
+  buffer-by its =
+      passes (frameRefusals table frame (length buffer)) (λ r. buffer) _ none ∙ ap (λ (x : Command). replied x (monitors table) table buffer) its
+
+  module _ (part : Part) (its : commandIn frame ≡ Reads part) where
+    pub reply-own : (k : ℕ) → k < monitors table → rowAt payloadSize k (replyAfter table frame buffer) ≡ reply part (rowAt recordSize k table)
+    reply-own k h = ap (rowAt payloadSize k) (buffer-by its) ∙ own-reply part (monitors table) table buffer k h
+
+    pub reply-past : drop (payloadSize * monitors table) (replyAfter table frame buffer) ≡ drop (payloadSize * monitors table) buffer
+    reply-past = ap (drop (payloadSize * monitors table)) (buffer-by its) ∙ past-reply part (monitors table) table buffer
+
+  pub write-no-reply : (c : Write) → commandIn frame ≡ Writes c → replyAfter table frame buffer ≡ buffer
+  unfolding replied
+  write-no-reply c its = buffer-by its
+
+  pub bare-no-reply : (c : Bare) → commandIn frame ≡ Bares c → replyAfter table frame buffer ≡ buffer
+  unfolding replied
+  bare-no-reply c its = buffer-by its
+
+-- ---- a load
+
+module _ (table : List ℕ) (position : ℕ) (codes : List ℤ) (none : Passed (loadRefusals table position codes)) where
+  load-sound : sound table ≡ true
+  unfolding loadRefusals
+  load-sound = not-false (sound table) (none .0)
+
+  there : position - 1 < monitors table
+  unfolding loadRefusals
+  there =
+      let first = leb 1 position in
+      let last = leb position (monitors table) in
+      let within = not-false (first && last) (none .1 .0) in
+      let low = leb-true 1 position (both-first first last within) in
+      let high = leb-true position (monitors table) (both-second first last within) in
+      omega arith
+
+  pub load-done : loaded table position codes ≡ Done
+  unfolding loaded
+  load-done = passes (loadRefusals table position codes) Unloaded Done none
+
+  table-loaded : tableAfterLoad table position codes ≡ loadedAt (position - 1) codes table
+  unfolding tableAfterLoad
+  table-loaded = passes (loadRefusals table position codes) (λ r. table) _ none
+
+  pub load-own : rowAt recordSize (position - 1) (tableAfterLoad table position codes) ≡ load codes (rowAt recordSize (position - 1) table)
+  load-own =
+      ap (rowAt recordSize (position - 1)) table-loaded
+      ∙ loaded-record (position - 1) codes (monitors table) table there (is-sound table load-sound .whole)
+
+  pub load-others : (j : ℕ) → j < monitors table → (j ≡ position - 1 → ⊥) → rowAt recordSize j (tableAfterLoad table position codes) ≡ rowAt recordSize j table
+  load-others j h apart =
+      ap (rowAt recordSize j) table-loaded
+      ∙ other-record (position - 1) codes (monitors table) table there (is-sound table load-sound .whole) j h apart
+
+-- ---- a host's frame
+
+pub host-writes : (code n : ℕ) (values buffer : List ℕ) → Passed (buildRefusals code n values (length buffer))
+    → (built code n values (length buffer) ≡ Length (length (frameFor code n values)))
+    × (bufferAfter code n values buffer ≡ frameFor code n values ++ drop (length (frameFor code n values)) buffer)
+unfolding built bufferAfter buildRefusals
+host-writes code n values buffer none =
+    let long = sym (length-frame code n values (eqb-true _ _ (not-false _ (none .1 .1 .0)))) in (
+      passes (buildRefusals code n values (length buffer)) Unbuilt _ none ∙ ap Length long,
+      passes (buildRefusals code n values (length buffer)) (λ r. buffer) _ none ∙ ap (λ (m : ℕ). frameFor code n values ++ drop m buffer) long,
+    )

@@ -1,0 +1,247 @@
+-- Demand 1. Every frame, reply and reading, of any length and content, gets one answer and an end to the work. Bad frames are refused
+-- by number, and every lent buffer stays as it was lent. Three things are stated: every public function is proved to meet its own
+-- contract, for all inputs, and leaves one outcome; the number it gives is that of the first condition that holds; and where it
+-- refuses, every byte it was lent stays. Each is proved where it is cited from.
+-- Assumes nothing.
+use mathlib.Core.Path.{_≡_, refl}
+use mathlib.Core.Bool.{false}
+use mathlib.Core.List.{List, [], _∷_}
+use mathlib.Core.Logic.{_↔_}
+use Prim.Native.Nat.{ℕ}
+use native.Mathlib.Omega.{arith}
+use lib.IntN.{ℤ}
+use lib.ListN.{length}
+use borrow.Author.Tests.{le-ltb}
+use Rattle.refusals.specs.declared.Refusal.{Refusal}
+use Rattle.refusals.specs.Numbers.{numberOf}
+use Rattle.refusals.specs.Order.{Row}
+use Rattle.bytes.proofs as bytes
+use Rattle.refusals.proofs as refusals
+use Rattle.refusals.proofs.Deciding.{Passed}
+use Rattle.pec.proofs as pec
+use Rattle.monitor.specs.declared.commands.Command.the-variants.{Writes, Bares}
+use Rattle.monitor.specs.declared.commands.Write.{Write}
+use Rattle.monitor.specs.declared.commands.Bare.{Bare}
+use Rattle.monitor.proofs as monitor
+use Rattle.chain.specs.declared.frames.Answer.the-variants.{Refused}
+use Rattle.chain.specs.declared.loads.Loaded.the-variants.{Unloaded}
+use Rattle.chain.specs.Frame.{roomRow, frameRefusals, answer, tableAfter, replyAfter}
+use Rattle.chain.specs.Load.{loadRefusals, loaded, tableAfterLoad}
+use Rattle.chain.specs.Numbers.{numbersOf, loadNumber}
+use Rattle.chain.proofs as chain
+use Rattle.chain.proofs.Refused.{refused-table, refused-reply, refused-load}
+use Rattle.clocked.specs.declared.looks.Looked.the-variants.{Refused as Unseen}
+use Rattle.clocked.specs.Clock.{Clock, start}
+use Rattle.clocked.specs.Release.{releaseRefusals, released, tableReleased}
+use Rattle.clocked.specs.Look.{lookRefusals, looked, outAfter}
+use Rattle.clocked.specs.State.{clockOf, idle}
+use Rattle.clocked.proofs as clocked
+use Rattle.clocked.proofs.View.{view-idle}
+use Rattle.host.specs.declared.frames.Built.the-variants.{Unbuilt}
+use Rattle.host.specs.declared.ports.Port.the-variants.{Refused as Unported}
+use Rattle.host.specs.Frames.{buildRefusals, built, bufferAfter, checkRefusals, checked}
+use Rattle.host.specs.Ports.{portRefusals, portOf}
+use Rattle.host.specs.Parts.{bytesOf}
+use Rattle.host.proofs as host
+use Rattle.readings.specs.Readings.{summaryOf}
+use Rattle.readings.proofs as readings
+use Rattle.story.specs.Numbers.{builtNumbers, checkedNumbers, portNumber, lookedNumbers, packNumbers, summaryRefusals, firstNumber, First, order}
+use Rattle.story.proofs.OneOutcome.{OneOutcome, one-outcomes}
+use Rattle.story.proofs.Numbers.{number-exactly, zero-exactly, frame-number, load-number, release-number, look-number, built-number, checked-number, port-number, summary-number}
+use Rattle.story.proofs.Stays.{refused-release, refused-look, refused-build, refused-part}
+
+-- ---- every public function of every library
+
+-- it is safe, ends, and leaves what its `ensures` say (Rattle's own statement of that is proved), and it asks nothing of its arguments
+abbrev pub Promised : {L : Type 0} {A : L → Type 0} → (Type 1 → Type 2) → ((κ : L) → A κ → Type 0) → Type 2
+Promised {L} {A} statement asked = ((M : Type 1) → statement M) × ((κ : L) (a : A κ) → asked κ a)
+
+pub record Promises : Type 2 where
+  -- bytes
+  put : Promised bytes.put.Statement.statement bytes.put.Reads.Asked
+  -- refusals
+  number-of : Promised refusals.number_of.Statement.statement refusals.number_of.Reads.Asked
+  -- pec
+  command-check : Promised pec.command_check.Statement.statement pec.command_check.Reads.Asked
+  command-right : Promised pec.command_right.Statement.statement pec.command_right.Reads.Asked
+  data-pec : Promised pec.data_pec.Statement.statement pec.data_pec.Reads.Asked
+  payload-right : Promised pec.payload_right.Statement.statement pec.payload_right.Reads.Asked
+  pec10-bitwise : Promised pec.pec10_bitwise.Statement.statement pec.pec10_bitwise.Reads.Asked
+  pec10-by-table : Promised pec.pec10_by_table.Statement.statement pec.pec10_by_table.Reads.Asked
+  pec15-bitwise : Promised pec.pec15_bitwise.Statement.statement pec.pec15_bitwise.Reads.Asked
+  pec15-by-table : Promised pec.pec15_by_table.Statement.statement pec.pec15_by_table.Reads.Asked
+  seal : Promised pec.seal.Statement.statement pec.seal.Reads.Asked
+  -- monitor
+  command-of : Promised monitor.command_of.Statement.statement monitor.command_of.Reads.Asked
+  frame-length : Promised monitor.frame_length.Statement.statement monitor.frame_length.Reads.Asked
+  is-listed : Promised monitor.is_listed.Statement.statement monitor.is_listed.Reads.Asked
+  record-sound : Promised monitor.record_sound.Statement.statement monitor.record_sound.Reads.Asked
+  byte-at : Promised monitor.byte_at.Statement.statement monitor.byte_at.Reads.Asked
+  reply-of : Promised monitor.reply_of.Statement.statement monitor.reply_of.Reads.Asked
+  codes-of : Promised monitor.codes_of.Statement.statement monitor.codes_of.Reads.Asked
+  over-threshold : Promised monitor.over_threshold.Statement.statement monitor.over_threshold.Reads.Asked
+  under-threshold : Promised monitor.under_threshold.Statement.statement monitor.under_threshold.Reads.Asked
+  act : Promised monitor.act.Statement.statement monitor.act.Reads.Asked
+  store : Promised monitor.store.Statement.statement monitor.store.Reads.Asked
+  compare : Promised monitor.compare.Statement.statement monitor.compare.Reads.Asked
+  load-record : Promised monitor.load.Statement.statement monitor.load.Reads.Asked
+  -- chain
+  sound : Promised chain.sound.Statement.statement chain.sound.Reads.Asked
+  sound-count : Promised chain.sound_count.Statement.statement chain.sound_count.Reads.Asked
+  command-in : Promised chain.command_in.Statement.statement chain.command_in.Reads.Asked
+  reply-size : Promised chain.reply_size.Statement.statement chain.reply_size.Reads.Asked
+  numbers-of : Promised chain.numbers_of.Statement.statement chain.numbers_of.Reads.Asked
+  load-number : Promised chain.load_number.Statement.statement chain.load_number.Reads.Asked
+  load : Promised chain.load.Statement.statement chain.load.Reads.Asked
+  serve-all : Promised chain.serve_all.Statement.statement chain.serve_all.Reads.Asked
+  reply-all : Promised chain.reply_all.Statement.statement chain.reply_all.Reads.Asked
+  handle : Promised chain.handle.Statement.statement chain.handle.Reads.Asked
+  -- clocked
+  start : Promised clocked.start.Statement.statement clocked.start.Reads.Asked
+  clock : Promised clocked.clock.Statement.statement clocked.clock.Reads.Asked
+  release : Promised clocked.release.Statement.statement clocked.release.Reads.Asked
+  look : Promised clocked.look.Statement.statement clocked.look.Reads.Asked
+  handle-clocked : Promised clocked.handle.Statement.statement clocked.handle.Reads.Asked
+  -- host
+  check : Promised host.check.Statement.statement host.check.Reads.Asked
+  port-of : Promised host.port_of.Statement.statement host.port_of.Reads.Asked
+  part-of : Promised host.part_of.Statement.statement host.part_of.Reads.Asked
+  build : Promised host.build.Statement.statement host.build.Reads.Asked
+  -- readings
+  microvolts-of : Promised readings.microvolts_of.Statement.statement readings.microvolts_of.Reads.Asked
+  reading-of : Promised readings.reading_of.Statement.statement readings.reading_of.Reads.Asked
+  summary-of : Promised readings.summary_of.Statement.statement readings.summary_of.Reads.Asked
+
+-- ---- the demand
+
+pub record Demand1 : Type 2 where
+  -- every call comes to an end, and to what its contract says; that is one outcome
+  promises : Promises
+  one-outcome : OneOutcome
+  -- "A number is given exactly when its condition is the first to hold", and 0 where none holds
+  exactly : (rows : List Row) (r : Refusal) → (firstNumber rows ≡ numberOf r) ↔ First rows r
+  zero : (rows : List Row) → (firstNumber rows ≡ 0) ↔ Passed rows
+  -- a frame: `chain::handle`, and `clocked::handle`, which promises the same. 6 is only for reads
+  frame : (table frame : List ℕ) (room : ℕ) → numbersOf (answer table frame room) .number ≡ firstNumber (frameRefusals table frame room)
+  frame-order : (table frame : List ℕ) (room : ℕ) → order (frameRefusals table frame room) ≡ 1 ∷ 2 ∷ 3 ∷ 4 ∷ 5 ∷ 6 ∷ []
+  no-6-for-a-write : (room : ℕ) (c : Write) (n : ℕ) → roomRow room (Writes c) n .holds ≡ false
+  no-6-for-a-bare : (room : ℕ) (c : Bare) (n : ℕ) → roomRow room (Bares c) n .holds ≡ false
+  frame-stays : (table frame buffer : List ℕ) (r : Refusal) → answer table frame (length buffer) ≡ Refused r
+      → (tableAfter table frame (length buffer) ≡ table) × (replyAfter table frame buffer ≡ buffer)
+  -- a load: `chain::load`
+  load : (table : List ℕ) (position : ℕ) (codes : List ℤ) → loadNumber (loaded table position codes) ≡ firstNumber (loadRefusals table position codes)
+  load-order : (table : List ℕ) (position : ℕ) (codes : List ℤ) → order (loadRefusals table position codes) ≡ 1 ∷ 7 ∷ 8 ∷ 9 ∷ []
+  load-stays : (table : List ℕ) (position : ℕ) (codes : List ℤ) (r : Refusal) → loaded table position codes ≡ Unloaded r
+      → tableAfterLoad table position codes ≡ table
+  -- a host's frame: `host::build`
+  build : (code n : ℕ) (values : List ℕ) (room : ℕ) → builtNumbers (built code n values room) .number ≡ firstNumber (buildRefusals code n values room)
+  build-order : (code n : ℕ) (values : List ℕ) (room : ℕ) → order (buildRefusals code n values room) ≡ 4 ∷ 7 ∷ 8 ∷ 6 ∷ []
+  build-stays : (code n : ℕ) (values buffer : List ℕ) (r : Refusal) → built code n values (length buffer) ≡ Unbuilt r
+      → bufferAfter code n values buffer ≡ buffer
+  -- the check of one payload: `host::check`. Nothing is lent to be changed
+  check : (payload : List ℕ) → checkedNumbers (checked payload) .number ≡ firstNumber (checkRefusals payload)
+  check-order : (payload : List ℕ) → order (checkRefusals payload) ≡ 5 ∷ []
+  -- two ports: `host::port_of`, and `host::part_of` beside it, which then hands back an empty part
+  ports : (a b : List ℕ) (n k : ℕ) → portNumber (portOf a b n k) ≡ firstNumber (portRefusals a b n k)
+  ports-order : (a b : List ℕ) (n k : ℕ) → order (portRefusals a b n k) ≡ 7 ∷ 5 ∷ 10 ∷ []
+  no-part : (a b : List ℕ) (n k : ℕ) (r : Refusal) → portOf a b n k ≡ Unported r → bytesOf a b n k ≡ []
+  -- a release: `clocked::release`, of any state. The table stays; the state goes back to its start, refused or not
+  release : (c : Clock) (table : List ℕ) → numbersOf (released c table) .number ≡ firstNumber (releaseRefusals c table)
+  release-order : (c : Clock) (table : List ℕ) → order (releaseRefusals c table) ≡ 1 ∷ 2 ∷ 3 ∷ 4 ∷ 5 ∷ []
+  release-stays : (c : Clock) (table : List ℕ) (r : Refusal) → released c table ≡ Refused r → tableReleased c table ≡ table
+  release-starts : clockOf idle ≡ start
+  -- a look at a window: `clocked::look`
+  look : (c : Clock) (position room : ℕ) → lookedNumbers (looked c position room) .number ≡ firstNumber (lookRefusals c position room)
+  look-order : (c : Clock) (position room : ℕ) → order (lookRefusals c position room) ≡ 7 ∷ 6 ∷ []
+  look-stays : (c : Clock) (position : ℕ) (out : List ℕ) (r : Refusal) → looked c position (length out) ≡ Unseen r → outAfter c position out ≡ out
+  -- a summary: `readings::summary_of`. Nothing is lent to be changed
+  summary : (codes : List ℤ) → packNumbers (summaryOf codes) .number ≡ firstNumber (summaryRefusals codes)
+  summary-order : (codes : List ℤ) → order (summaryRefusals codes) ≡ 8 ∷ []
+
+-- ---- the answer
+
+proved : Promises
+proved =
+    record {
+      put = (λ M. bytes.put.Met.met, λ κ a. tt);
+      number-of = (λ M. refusals.number_of.Met.met, λ κ a. tt);
+      command-check = (λ M. pec.command_check.Met.met, λ κ a. tt);
+      command-right = (λ M. pec.command_right.Met.met, λ κ a. tt);
+      data-pec = (λ M. pec.data_pec.Met.met, λ κ a. tt);
+      payload-right = (λ M. pec.payload_right.Met.met, λ κ a. tt);
+      pec10-bitwise = (λ M. pec.pec10_bitwise.Met.met, λ κ a. tt);
+      pec10-by-table = (λ M. pec.pec10_by_table.Met.met, λ κ a. tt);
+      pec15-bitwise = (λ M. pec.pec15_bitwise.Met.met, λ κ a. tt);
+      pec15-by-table = (λ M. pec.pec15_by_table.Met.met, λ κ a. tt);
+      seal = (λ M. pec.seal.Met.met, λ κ a. tt);
+      command-of = (λ M. monitor.command_of.Met.met, λ κ a. tt);
+      frame-length = (λ M. monitor.frame_length.Met.met, λ κ a. tt);
+      is-listed = (λ M. monitor.is_listed.Met.met, λ κ a. tt);
+      record-sound = (λ M. monitor.record_sound.Met.met, λ κ a. tt);
+      byte-at = (λ M. monitor.byte_at.Met.met, λ κ a. tt);
+      reply-of = (λ M. monitor.reply_of.Met.met, λ κ a. tt);
+      codes-of = (λ M. monitor.codes_of.Met.met, λ κ a. tt);
+      over-threshold = (λ M. monitor.over_threshold.Met.met, λ κ a. tt);
+      under-threshold = (λ M. monitor.under_threshold.Met.met, λ κ a. tt);
+      act = (λ M. monitor.act.Met.met, λ κ a. tt);
+      store = (λ M. monitor.store.Met.met, λ κ a. tt);
+      compare = (λ M. monitor.compare.Met.met, λ κ a. tt);
+      load-record = (λ M. monitor.load.Met.met, λ κ a. tt);
+      sound = (λ M. chain.sound.Met.met, λ κ a. tt);
+      sound-count = (λ M. chain.sound_count.Met.met, λ κ a. tt);
+      command-in = (λ M. chain.command_in.Met.met, λ κ a. tt);
+      reply-size = (λ M. chain.reply_size.Met.met, λ κ a. tt);
+      numbers-of = (λ M. chain.numbers_of.Met.met, λ κ a. tt);
+      load-number = (λ M. chain.load_number.Met.met, λ κ a. tt);
+      load = (λ M. chain.load.Met.met, λ κ a. tt);
+      serve-all = (λ M. chain.serve_all.Met.met, λ κ a. tt);
+      reply-all = (λ M. chain.reply_all.Met.met, λ κ a. tt);
+      handle = (λ M. chain.handle.Met.met, λ κ a. tt);
+      start = (λ M. clocked.start.Met.met, λ κ a. tt);
+      clock = (λ M. clocked.clock.Met.met, λ κ a. tt);
+      release = (λ M. clocked.release.Met.met, λ κ a. tt);
+      look = (λ M. clocked.look.Met.met, λ κ a. tt);
+      handle-clocked = (λ M. clocked.handle.Met.met, λ κ a. tt);
+      check = (λ M. host.check.Met.met, λ κ a. tt);
+      port-of = (λ M. host.port_of.Met.met, λ κ a. tt);
+      part-of = (λ M. host.part_of.Met.met, λ κ a. tt);
+      build = (λ M. host.build.Met.met, λ κ a. tt);
+      microvolts-of = (λ M. readings.microvolts_of.Met.met, λ κ a. tt);
+      reading-of = (λ M. readings.reading_of.Met.met, λ κ a. tt);
+      summary-of = (λ M. readings.summary_of.Met.met, λ κ a. tt);
+    }
+
+pub demand-1 : Demand1
+unfolding frameRefusals loadRefusals buildRefusals checkRefusals portRefusals releaseRefusals lookRefusals
+demand-1 =
+    record {
+      promises = proved;
+      one-outcome = one-outcomes;
+      exactly = number-exactly;
+      zero = zero-exactly;
+      frame = frame-number;
+      frame-order = λ table frame room. refl;
+      no-6-for-a-write = λ room c n. le-ltb room 0 (omega arith);
+      no-6-for-a-bare = λ room c n. le-ltb room 0 (omega arith);
+      frame-stays = λ table frame buffer r e. (refused-table table frame (length buffer) r e, refused-reply table frame buffer r e);
+      load = load-number;
+      load-order = λ table position codes. refl;
+      load-stays = refused-load;
+      build = built-number;
+      build-order = λ code n values room. refl;
+      build-stays = refused-build;
+      check = checked-number;
+      check-order = λ payload. refl;
+      ports = port-number;
+      ports-order = λ a b n k. refl;
+      no-part = refused-part;
+      release = release-number;
+      release-order = λ c table. refl;
+      release-stays = refused-release;
+      release-starts = view-idle;
+      look = look-number;
+      look-order = λ c position room. refl;
+      look-stays = refused-look;
+      summary = summary-number;
+      summary-order = λ codes. refl;
+    }

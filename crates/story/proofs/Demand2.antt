@@ -1,0 +1,184 @@
+-- Demand 2. What the chain does with a frame is what the data sheet says as document 01 condenses it, monitor by monitor. What our
+-- host writes hands each monitor its own six bytes: nearest first in our list, farthest first on the wire. Monitors are counted
+-- from 0 here: monitor 1 of the paper is k = 0. Each field is proved where it is cited from.
+-- Assumes nothing.
+use mathlib.Core.Path.{_≡_, refl}
+use mathlib.Core.Bool.{true, false, not}
+use mathlib.Core.List.{List, [], _∷_, _++_, map, reverse}
+use Prim.Native.Nat.{ℕ, suc, _-_, _*_, _≤_, _<_}
+use lib.Dec.{eqb, ltb}
+use lib.IntN.{ℤ}
+use lib.ListN.{length, take, drop, getD}
+use Rattle.laws.specs.Counts.{count}
+use Rattle.laws.specs.Rows.{rows, rowAt}
+use Rattle.pec.specs.Words.{seal, commandRight, payloadRight}
+use Rattle.wire.specs.Order.{replyData}
+use Rattle.refusals.specs.declared.Refusal.{Refusal}
+use Rattle.refusals.specs.declared.Refusal.the-variants.{TableNotSound, FrameShort, CommandWrong, CodeNotListed, LengthWrong, NoRoom}
+use Rattle.refusals.specs.Order.{_gives_}
+use Rattle.refusals.proofs.Deciding.{Passed}
+use Rattle.monitor.specs.declared.commands.Bare.{Bare}
+use Rattle.monitor.specs.declared.commands.Command.the-variants.{Reads, Writes, Bares}
+use Rattle.monitor.specs.declared.commands.Write.{Write}
+use Rattle.monitor.specs.declared.commands.Write.the-variants.{Wrcfgb}
+use Rattle.monitor.specs.declared.record.Part.{Part}
+use Rattle.monitor.specs.Record.{recordSize, counter, unlocked, byteOf}
+use Rattle.monitor.specs.Commands.{commands, commandOf, isListed, rdcfgb, mostMonitors, payloadSize, frameLength}
+use Rattle.monitor.specs.Effects.{locked, counted, written, done, keeps}
+use Rattle.monitor.specs.Reply.{register, reply}
+use Rattle.monitor.specs.Cells.{load}
+use Rattle.monitor.proofs.Keeping.{keeps-right, keeps-wrong}
+use Rattle.chain.specs.declared.frames.Answer.the-variants.{Refused, Accepted}
+use Rattle.chain.specs.declared.loads.Loaded.the-variants.{Done}
+use Rattle.chain.specs.Table.{monitors, sound}
+use Rattle.chain.specs.Frame.{commandIn, payloadsIn, replyLength, frameRefusals, answer, tableAfter, replyAfter}
+use Rattle.chain.specs.Load.{loadRefusals, loaded, tableAfterLoad}
+use Rattle.chain.proofs.Keeps.{Keeps, frame-keeps, load-keeps}
+use Rattle.host.specs.declared.frames.Built.the-variants.{Length}
+use Rattle.host.specs.Frames.{dataSize, sealed, frameFor, buildRefusals, built, bufferAfter}
+use Rattle.host.specs.Ports.{partA}
+use Rattle.host.specs.Parts.{bytesOf}
+use Rattle.story.specs.Numbers.{First}
+use Rattle.story.proofs.Accepted.{frame-refused, write-answer, read-answer, bare-answer, record-after, reply-own, reply-past, write-no-reply, bare-no-reply, load-done, load-own, load-others, host-writes}
+use Rattle.story.proofs.OurHost.{own-six, write-taken-by-all, each-keeps-its-own, reply-right, read-taken-by-all, each-reply-its-own, each-reply-right}
+use Rattle.story.proofs.ReadBack.{written-and-read-back}
+use Rattle.story.proofs.BothEnds.{the-replies, handed-from-a, handed-from-b}
+use Rattle.story.proofs.EitherSide.{EitherSide, either-side}
+
+pub record Demand2 : Type 0 where
+  -- ---- a frame: `chain::handle`, and `clocked::handle`, which promises the same
+
+  -- the exact refusals, in their order
+  refusals : (table frame : List ℕ) (room : ℕ) → frameRefusals table frame room
+      ≡ (not (sound table) gives TableNotSound)
+      ∷ (ltb (length frame) 4 gives FrameShort)
+      ∷ (not (commandRight (take 4 frame)) gives CommandWrong)
+      ∷ (not (isListed (commandIn frame)) gives CodeNotListed)
+      ∷ (not (eqb (length frame) (frameLength (commandIn frame) (monitors table))) gives LengthWrong)
+      ∷ (ltb room (replyLength (commandIn frame) (monitors table)) gives NoRoom)
+      ∷ []
+  refused : (table frame : List ℕ) (room : ℕ) (r : Refusal) → First (frameRefusals table frame room) r → answer table frame room ≡ Refused r
+  -- none holds: a write is taken by as many monitors as find their own eight bytes right, a read and a bare command by all N
+  write-answer : (table frame : List ℕ) (room : ℕ) → Passed (frameRefusals table frame room) → (c : Write) → commandIn frame ≡ Writes c
+      → answer table frame room ≡ Accepted (count payloadRight (payloadsIn frame (monitors table))) 0
+  read-answer : (table frame : List ℕ) (room : ℕ) → Passed (frameRefusals table frame room) → (part : Part) → commandIn frame ≡ Reads part
+      → answer table frame room ≡ Accepted (monitors table) (payloadSize * monitors table)
+  bare-answer : (table frame : List ℕ) (room : ℕ) → Passed (frameRefusals table frame room) → (c : Bare) → commandIn frame ≡ Bares c
+      → answer table frame room ≡ Accepted (monitors table) 0
+  -- every monitor keeps what the command makes of its own record and its own eight bytes: monitor k's are the k-th from the end
+  own-record : (table frame : List ℕ) (room : ℕ) → Passed (frameRefusals table frame room) → (k : ℕ) → k < monitors table
+      → rowAt recordSize k (tableAfter table frame room)
+      ≡ keeps (commandIn frame) (rowAt payloadSize (monitors table - suc k) (drop 4 frame)) (rowAt recordSize k table)
+  -- `monitor::act`: every accepted command locks the retention; a taken write or bare command counts; a wrong payload changes no more
+  read-keeps : (part : Part) (eight r : List ℕ) → keeps (Reads part) eight r ≡ locked r
+  bare-keeps : (c : Bare) (eight r : List ℕ) → keeps (Bares c) eight r ≡ done c (counted (locked r))
+  right-keeps : (c : Write) (eight r : List ℕ) → payloadRight eight ≡ true
+      → keeps (Writes c) eight r ≡ written c (byteOf unlocked r) eight (counted (locked r))
+  wrong-keeps : (c : Write) (eight r : List ℕ) → payloadRight eight ≡ false → keeps (Writes c) eight r ≡ locked r
+  -- a sound table stays sound, with its N monitors
+  stays-sound : (table frame : List ℕ) (room : ℕ) → sound table ≡ true → Keeps table (tableAfter table frame room)
+  -- every monitor replies in its own place, nearest first, and the bytes past the reply stay
+  own-reply : (table frame buffer : List ℕ) → Passed (frameRefusals table frame (length buffer)) → (part : Part) → commandIn frame ≡ Reads part
+      → (k : ℕ) → k < monitors table → rowAt payloadSize k (replyAfter table frame buffer) ≡ reply part (rowAt recordSize k table)
+  past-reply : (table frame buffer : List ℕ) → Passed (frameRefusals table frame (length buffer)) → (part : Part) → commandIn frame ≡ Reads part
+      → drop (payloadSize * monitors table) (replyAfter table frame buffer) ≡ drop (payloadSize * monitors table) buffer
+  write-no-reply : (table frame buffer : List ℕ) → Passed (frameRefusals table frame (length buffer)) → (c : Write) → commandIn frame ≡ Writes c
+      → replyAfter table frame buffer ≡ buffer
+  bare-no-reply : (table frame buffer : List ℕ) → Passed (frameRefusals table frame (length buffer)) → (c : Bare) → commandIn frame ≡ Bares c
+      → replyAfter table frame buffer ≡ buffer
+  -- `monitor::reply_of`: a reply holds the register and the counter as it stands, with a check over both that is right
+  reply-holds : (part : Part) (r : List ℕ) → reply part r ≡ register part r ++ seal (register part r) (byteOf counter r)
+  reply-is-right : (part : Part) (r : List ℕ) → payloadRight (reply part r) ≡ true
+  -- ---- a load: `chain::load`
+
+  load-done : (table : List ℕ) (position : ℕ) (codes : List ℤ) → Passed (loadRefusals table position codes) → loaded table position codes ≡ Done
+  -- the monitor at the position is loaded, as `monitor::load` does, and every other stays
+  own-load : (table : List ℕ) (position : ℕ) (codes : List ℤ) → Passed (loadRefusals table position codes)
+      → rowAt recordSize (position - 1) (tableAfterLoad table position codes) ≡ load codes (rowAt recordSize (position - 1) table)
+  others-stay : (table : List ℕ) (position : ℕ) (codes : List ℤ) → Passed (loadRefusals table position codes)
+      → (j : ℕ) → j < monitors table → (j ≡ position - 1 → ⊥) → rowAt recordSize j (tableAfterLoad table position codes) ≡ rowAt recordSize j table
+  load-stays-sound : (table : List ℕ) (position : ℕ) (codes : List ℤ) → sound table ≡ true → Keeps table (tableAfterLoad table position codes)
+  -- ---- our host: `host::build`, and the chain that its frames come to
+
+  -- the frame goes to the start of the buffer, and the bytes past it stay
+  host-writes : (code n : ℕ) (values buffer : List ℕ) → Passed (buildRefusals code n values (length buffer))
+      → (built code n values (length buffer) ≡ Length (length (frameFor code n values)))
+      × (bufferAfter code n values buffer ≡ frameFor code n values ++ drop (length (frameFor code n values)) buffer)
+  -- monitor k's eight bytes, the k-th from the end of the frame, are the k-th six of our list with their check
+  own-six : (code n : ℕ) (values : List ℕ) (c : Write) → commandOf code commands ≡ Writes c → length values ≡ dataSize * n → (k : ℕ) → k < n
+      → rowAt payloadSize (n - suc k) (drop 4 (frameFor code n values)) ≡ sealed (rowAt dataSize k values)
+  -- the chain accepts the write, all N monitors take it, and each keeps what the command makes of its own six bytes
+  all-take : (table values buffer : List ℕ) (code : ℕ) (c : Write) → commandOf code commands ≡ Writes c → sound table ≡ true
+      → length values ≡ dataSize * monitors table
+      → answer table (frameFor code (monitors table) values) (length buffer) ≡ Accepted (monitors table) 0
+  each-keeps : (table values buffer : List ℕ) (code : ℕ) (c : Write) → commandOf code commands ≡ Writes c → sound table ≡ true
+      → length values ≡ dataSize * monitors table → (k : ℕ) → k < monitors table
+      → rowAt recordSize k (tableAfter table (frameFor code (monitors table) values) (length buffer))
+      ≡ keeps (Writes c) (sealed (rowAt dataSize k values)) (rowAt recordSize k table)
+  -- the chain accepts the read, and each monitor's part of the reply is what it replies, and right
+  all-reply : (table buffer : List ℕ) (code : ℕ) (part : Part) → commandOf code commands ≡ Reads part → sound table ≡ true
+      → payloadSize * monitors table ≤ length buffer
+      → answer table (frameFor code (monitors table) []) (length buffer) ≡ Accepted (monitors table) (payloadSize * monitors table)
+  each-replies : (table buffer : List ℕ) (code : ℕ) (part : Part) → commandOf code commands ≡ Reads part → sound table ≡ true
+      → payloadSize * monitors table ≤ length buffer → (k : ℕ) → k < monitors table
+      → rowAt payloadSize k (replyAfter table (frameFor code (monitors table) []) buffer) ≡ reply part (rowAt recordSize k table)
+  each-right : (table buffer : List ℕ) (code : ℕ) (part : Part) → commandOf code commands ≡ Reads part → sound table ≡ true
+      → payloadSize * monitors table ≤ length buffer → (k : ℕ) → k < monitors table
+      → payloadRight (rowAt payloadSize k (replyAfter table (frameFor code (monitors table) []) buffer)) ≡ true
+  -- configuration B written and read back is our list
+  read-back : (table values buffer replies : List ℕ) (write read : ℕ) → commandOf write commands ≡ Writes Wrcfgb → commandOf read commands ≡ Reads rdcfgb
+      → sound table ≡ true → length values ≡ dataSize * monitors table → ((i : ℕ) → getD values i 0 < 256) → payloadSize * monitors table ≤ length replies
+      → (k : ℕ) → k < monitors table
+      → take dataSize (rowAt payloadSize k (replyAfter (tableAfter table (frameFor write (monitors table) values) (length buffer)) (frameFor read (monitors table) []) replies))
+      ≡ rowAt dataSize k values
+  -- `host::part_of`: what the chain replies at port A, and from its other end at port B, hands over monitor k's own reply, k from 1
+  port-a : (table buffer : List ℕ) (code : ℕ) (part : Part) → commandOf code commands ≡ Reads part → sound table ≡ true
+      → length buffer ≡ payloadSize * monitors table
+      → replyAfter table (frameFor code (monitors table) []) buffer ≡ replyData (map (reply part) (rows recordSize (monitors table) table))
+  handed-from-a : (part : Part) (n : ℕ) (table : List ℕ) (k : ℕ) → 1 ≤ k → k ≤ n → n ≤ mostMonitors → (b : List ℕ) → length b ≡ payloadSize * n
+      → bytesOf (replyData (map (reply part) (rows recordSize n table))) b n k ≡ reply part (rowAt recordSize (k - 1) table)
+  handed-from-b : (part : Part) (n : ℕ) (table : List ℕ) (k : ℕ) → 1 ≤ k → k ≤ n → n ≤ mostMonitors → (a : List ℕ) → length a ≡ payloadSize * n
+      → payloadRight (partA a n k) ≡ false
+      → bytesOf a (replyData (reverse (map (reply part) (rows recordSize n table)))) n k ≡ reply part (rowAt recordSize (k - 1) table)
+  -- ---- document 01's fourteen worked examples
+
+  examples : EitherSide
+
+pub demand-2 : Demand2
+unfolding frameRefusals keeps reply
+demand-2 =
+    record {
+      refusals = λ table frame room. refl;
+      refused = frame-refused;
+      write-answer = write-answer;
+      read-answer = read-answer;
+      bare-answer = bare-answer;
+      own-record = record-after;
+      read-keeps = λ part eight r. refl;
+      bare-keeps = λ c eight r. refl;
+      right-keeps = keeps-right;
+      wrong-keeps = keeps-wrong;
+      stays-sound = frame-keeps;
+      own-reply = reply-own;
+      past-reply = reply-past;
+      write-no-reply = write-no-reply;
+      bare-no-reply = bare-no-reply;
+      reply-holds = λ part r. refl;
+      reply-is-right = reply-right;
+      load-done = load-done;
+      own-load = load-own;
+      others-stay = load-others;
+      load-stays-sound = load-keeps;
+      host-writes = host-writes;
+      own-six = own-six;
+      all-take = write-taken-by-all;
+      each-keeps = each-keeps-its-own;
+      all-reply = read-taken-by-all;
+      each-replies = each-reply-its-own;
+      each-right = each-reply-right;
+      read-back = written-and-read-back;
+      port-a = the-replies;
+      handed-from-a = handed-from-a;
+      handed-from-b = handed-from-b;
+      examples = either-side;
+    }

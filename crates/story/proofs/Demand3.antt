@@ -1,0 +1,135 @@
+-- Demand 3. For 1 to 32 monitors, a sound table and any list of frames with readings loaded between them, the whole-frame engine
+-- and the clocked engine end in the same table and give the same answers and reply bytes, both judged by the rules of demand 2.
+-- What the three runs are stands in specs/Runs.antt. By going along the events: one event by either engine is one by the rules
+-- (Runs.antt), and the number of monitors stays, so that the reply buffer keeps its room.
+-- Assumes nothing.
+use mathlib.Core.Path.{_≡_, refl, sym, ap, _∙_, subst}
+use mathlib.Core.Bool.{Bool, true, false}
+use mathlib.Core.List.{List, [], _∷_, map}
+use Prim.Native.Nat.{ℕ, _*_, _≤_}
+use native.Mathlib.Omega.{arith}
+use lib.IntN.{ℤ}
+use lib.ListN.{length, drop}
+use Rattle.laws.specs.Rows.{rows}
+use Rattle.wire.specs.Order.{replyData}
+use Rattle.monitor.specs.declared.commands.Command.the-variants.{Reads}
+use Rattle.monitor.specs.declared.record.Part.{Part}
+use Rattle.monitor.specs.Record.{recordSize}
+use Rattle.monitor.specs.Commands.{mostMonitors, payloadSize}
+use Rattle.monitor.specs.Reply.{reply}
+use Rattle.chain.specs.declared.frames.Answer.the-variants.{Accepted}
+use Rattle.chain.specs.Table.{monitors, sound}
+use Rattle.chain.specs.Frame.{commandIn, tableAfter, replyAfter}
+use Rattle.chain.specs.Load.{tableAfterLoad}
+use Rattle.chain.proofs.Judging.{stop-1}
+use Rattle.chain.proofs.Keeps.{Keeps, frame-keeps, load-keeps, monitors-after-frame, monitors-after-load}
+use Rattle.chain.proofs.LoadJudging.{stop-1 as load-stop-1, the-table as load-table}
+use Rattle.chain.proofs.Outcome.{the-table}
+use Rattle.chain.proofs.Soundness.{is-sound}
+use Rattle.clocked.specs.Clock.{Clock, clocked}
+use Rattle.clocked.specs.Release.{released}
+use Rattle.clocked.specs.State.{stateSize, clockOf, idle, stateAfter}
+use Rattle.clocked.proofs.View.{view}
+use Rattle.clocked.proofs.Whole.{released-read}
+use Rattle.story.specs.Runs.{Event, Frame, Load, Left, saw, Step, ruled, byRules, byFrames, stateAfterAll, cameBack, byBytes}
+use Rattle.story.proofs.Runs.{frame-step, length-after, load-step, full, has-room, clock-whole, back-whole, clocked-step}
+
+-- ---- the demand. It asks for a sound table; the engines agree on any: one that is not sound is refused by both
+
+pub record Demand3 : Type 0 where
+  -- a sound table has 1 to 32 monitors
+  one-to-32 : (table : List ℕ) → sound table ≡ true → (1 ≤ monitors table) × (monitors table ≤ mostMonitors)
+  -- `chain::handle` and `chain::load`, lent any reply buffer with room for eight bytes a monitor, do what the rules say
+  by-frames : (table buffer : List ℕ) (events : List Event) → payloadSize * monitors table ≤ length buffer
+      → byFrames table buffer events ≡ byRules table events
+  -- `clocked::start`, `clocked::clock`, `clocked::release` and `chain::load`, lent any state, do what the rules say
+  by-bytes : (table state : List ℕ) (events : List Event) → byBytes table state events ≡ byRules table events
+  -- so the two engines end in the same table and give the same answers and reply bytes
+  alike : (table buffer state : List ℕ) (events : List Event) → payloadSize * monitors table ≤ length buffer
+      → byFrames table buffer events ≡ byBytes table state events
+  -- at every byte, not only at a release, the bytes of the state stand for the windows as the rules move them
+  every-byte : (table : List ℕ) (byte : ℕ) (state : List ℕ) → length state ≡ stateSize
+      → clockOf (stateAfter table byte state) ≡ clocked table byte (clockOf state)
+  -- of an accepted read all that came back after byte four is the reply, and no byte is left over
+  all-is-reply : (table frame : List ℕ) (taken bytes : ℕ) (part : Part) → commandIn frame ≡ Reads part
+      → released (clockOf (stateAfterAll table frame idle)) table ≡ Accepted taken bytes
+      → drop 4 (cameBack table frame idle) ≡ replyData (map (reply part) (rows recordSize (monitors table) table))
+  -- the table that they end in is sound where the first was, and has as many monitors
+  stays-sound : (table : List ℕ) (events : List Event) → sound table ≡ true → Keeps table (byRules table events .table)
+
+-- ---- the number of monitors stays
+
+module _ (table : List ℕ) where
+  -- where the table is sound, and where it is not: then it stays
+  either-table : {after : List ℕ} → (sound table ≡ true → monitors after ≡ monitors table) → (sound table ≡ false → after ≡ table)
+      → monitors after ≡ monitors table
+  either-table {after} kept stays = by (sound table) refl
+    where
+      by : (b : Bool) → sound table ≡ b → monitors after ≡ monitors table
+      by true e = kept e
+      by false e = ap monitors (stays e)
+
+  as-many-frame : (frame buffer : List ℕ) → monitors (tableAfter table frame (length buffer)) ≡ monitors table
+  as-many-frame frame buffer =
+      either-table (monitors-after-frame table frame (length buffer)) (λ e. the-table table frame buffer (stop-1 table frame (length buffer) e))
+
+  as-many-load : (position : ℕ) (codes : List ℤ) → monitors (tableAfterLoad table position codes) ≡ monitors table
+  as-many-load position codes =
+      either-table (monitors-after-load table position codes) (λ e. load-table table position codes (load-stop-1 table position codes e))
+
+-- ---- along the events
+
+-- one event, and what the later ones leave
+along-rules : (events : List Event) {later : Left} {step one : Step} → step ≡ one → later ≡ byRules (step .table) events
+    → saw (step .seen) later ≡ saw (one .seen) (byRules (one .table) events)
+along-rules events {later} {step} p q = ap (saw (step .seen)) q ∙ ap (λ (s : Step). saw (s .seen) (byRules (s .table) events)) p
+
+frames-by-rules : (table buffer : List ℕ) (events : List Event) → payloadSize * monitors table ≤ length buffer
+    → byFrames table buffer events ≡ byRules table events
+unfolding byFrames byRules
+frames-by-rules table buffer [] room = refl
+frames-by-rules table buffer (Frame frame ∷ events) room =
+    along-rules events (frame-step table frame buffer room)
+    (frames-by-rules (tableAfter table frame (length buffer)) (replyAfter table frame buffer) events
+    (omega (arith, as-many-frame table frame buffer, length-after table frame buffer room)))
+frames-by-rules table buffer (Load position codes ∷ events) room =
+    along-rules events (load-step table position codes)
+    (frames-by-rules (tableAfterLoad table position codes) buffer events (omega (arith, as-many-load table position codes)))
+
+bytes-by-rules : (table state : List ℕ) (events : List Event) → byBytes table state events ≡ byRules table events
+unfolding byBytes byRules
+bytes-by-rules table state [] = refl
+bytes-by-rules table state (Frame frame ∷ events) = along-rules events (clocked-step table frame) (bytes-by-rules _ idle events)
+bytes-by-rules table state (Load position codes ∷ events) = along-rules events (load-step table position codes) (bytes-by-rules _ state events)
+
+-- ---- what they end in
+
+step-keeps : (table : List ℕ) (event : Event) → sound table ≡ true → Keeps table (ruled table event .table)
+step-keeps table (Frame frame) s =
+    subst (Keeps table) (ap (λ (step : Step). step .table) (frame-step table frame (full table) (has-room table))) (frame-keeps table frame (length (full table)) s)
+step-keeps table (Load position codes) s =
+    subst (Keeps table) (ap (λ (step : Step). step .table) (load-step table position codes)) (load-keeps table position codes s)
+
+rules-keep : (table : List ℕ) (events : List Event) → sound table ≡ true → Keeps table (byRules table events .table)
+unfolding byRules
+rules-keep table [] s = record { sound-after = s; monitors-after = refl }
+rules-keep table (event ∷ events) s =
+    let one = step-keeps table event s in
+    let rest = rules-keep (ruled table event .table) events (one .sound-after) in
+    record { sound-after = rest .sound-after; monitors-after = rest .monitors-after ∙ one .monitors-after }
+
+-- ---- the answer
+
+pub demand-3 : Demand3
+demand-3 =
+    record {
+      one-to-32 = λ table s. (is-sound table s .some, is-sound table s .few);
+      by-frames = frames-by-rules;
+      by-bytes = bytes-by-rules;
+      alike = λ table buffer state events room. frames-by-rules table buffer events room ∙ sym (bytes-by-rules table state events);
+      every-byte = view;
+      all-is-reply = λ table frame taken bytes part c e.
+          ap (drop 4) (back-whole table frame)
+          ∙ released-read table frame taken bytes (ap (λ (clock : Clock). released clock table) (sym (clock-whole table frame)) ∙ e) part c;
+      stays-sound = rules-keep;
+    }

@@ -1,0 +1,201 @@
+-- One event by each engine is one event by the rules. A whole frame: its refusals are the rules' and one more, which a full reply's
+-- room passes, and its answer, table and buffer go by the same refusals. A clocked frame: its state stands for the clock at every
+-- byte, and a clocked frame comes to what a whole one does.
+-- Assumes nothing.
+use mathlib.Core.Path.{_≡_, refl, ap, ap₂, _∙_}
+use mathlib.Core.Bool.{Bool, true, false, cond}
+use mathlib.Core.List.{List, [], _∷_, map}
+use Prim.Native.Nat.{ℕ, _-_, _*_, _≤_}
+use native.Mathlib.Nat.{le-trans, mul-comm}
+use native.Mathlib.Omega.{arith}
+use lib.IntN.{ℤ}
+use lib.ListN.{length, take, drop, replicate, length-map, length-replicate}
+use lib.Seq.{take-at}
+use borrow.Author.Tests.{le-ltb}
+use Rattle.laws.specs.Counts.{count}
+use Rattle.laws.specs.Rows.{rows}
+use Rattle.laws.proofs.Rows.{length-rows, length-joined, every-image}
+use Rattle.wire.specs.Order.{replyData}
+use Rattle.refusals.specs.declared.Refusal.{Refusal}
+use Rattle.refusals.specs.Order.{Row, decide}
+use Rattle.refusals.proofs.Deciding.{decide-append, passes}
+use Rattle.monitor.specs.declared.commands.Command.{Command}
+use Rattle.monitor.specs.declared.commands.Command.the-variants.{Reads, Writes, Bares, Unlisted}
+use Rattle.monitor.specs.declared.record.Part.{Part}
+use Rattle.monitor.specs.Record.{recordSize}
+use Rattle.monitor.specs.Commands.{payloadSize}
+use Rattle.monitor.specs.Effects.{takes}
+use Rattle.monitor.specs.Reply.{reply}
+use Rattle.monitor.proofs.Sound.{length-reply}
+use Rattle.chain.specs.declared.frames.Answer.{Answer}
+use Rattle.chain.specs.declared.frames.Answer.the-variants.{Refused, Accepted}
+use Rattle.chain.specs.declared.loads.Loaded.the-variants.{Unloaded}
+use Rattle.chain.specs.Table.{monitors}
+use Rattle.chain.specs.Frame.{commandIn, payloadsIn, replyLength, roomRow, frameRefusals, takenBy, kept, replied, answer, tableAfter, replyAfter}
+use Rattle.chain.specs.Load.{loadRefusals, loaded, tableAfterLoad}
+use Rattle.chain.proofs.OwnBytes.{length-replied}
+use Rattle.chain.proofs.Refused.{either-way}
+use Rattle.chain.proofs.Taken.{taken-read, taken-bare}
+use Rattle.clocked.specs.Clock.{Clock, start, answered}
+use Rattle.clocked.specs.Release.{released, tableReleased}
+use Rattle.clocked.specs.Frames.{clockedAll, answeredAll}
+use Rattle.clocked.specs.State.{stateSize, clockOf, idle, stateAfter}
+use Rattle.clocked.proofs.Lengths.{length-stateAfter}
+use Rattle.clocked.proofs.View.{view, view-idle}
+use Rattle.clocked.proofs.Whole.{released-whole, table-released-whole, reply-whole}
+use Rattle.story.specs.Runs.{Frame, Load, Seen, Answered, LoadAnswered, Step, replyBytes, ruleRefusals, takers, replies, obeyed, ruled, stateAfterAll, cameBack}
+
+-- ---- two questions with the same refusals, as one
+
+decide-both : {A B C : Type 0} (f : A → B → C) (rows : List Row) (a : Refusal → A) (b : Refusal → B) (x : A) (y : B)
+    → f (decide rows a x) (decide rows b y) ≡ decide rows (λ r. f (a r) (b r)) (f x y)
+unfolding decide
+decide-both f [] a b x y = refl
+decide-both {A} {B} {C} f (row ∷ rows) a b x y = by (row .holds) (decide-both f rows a b x y)
+  where
+    by : (t : Bool) → f (decide rows a x) (decide rows b y) ≡ decide rows (λ r. f (a r) (b r)) (f x y)
+        → f (cond t (a (row .refusal)) (decide rows a x)) (cond t (b (row .refusal)) (decide rows b y))
+        ≡ cond t (f (a (row .refusal)) (b (row .refusal))) (decide rows (λ r. f (a r) (b r)) (f x y))
+    by true rest = refl
+    by false rest = rest
+
+-- ---- what an accepted frame makes, in the rules' words
+
+-- no monitor takes what is no command
+none-take : (eights : List (List ℕ)) → count (takes Unlisted) eights ≡ 0
+unfolding count
+none-take [] = refl
+none-take (eight ∷ eights) = omega (arith, none-take eights)
+
+pub same-takers : (c : Command) (n : ℕ) (frame : List ℕ) → takenBy c n frame ≡ takers c n frame
+unfolding takers takenBy
+same-takers (Reads part) n frame = taken-read part n frame
+same-takers (Writes c) n frame = refl
+same-takers (Bares c) n frame = taken-bare c n frame
+same-takers Unlisted n frame = none-take (payloadsIn frame n)
+
+pub length-replies : (part : Part) (n : ℕ) (table : List ℕ) → length (replyData (map (reply part) (rows recordSize n table))) ≡ payloadSize * n
+unfolding replyData
+length-replies part n table =
+    let all = map (reply part) (rows recordSize n table) in
+    length-joined payloadSize all (every-image payloadSize (reply part) (length-reply part) (rows recordSize n table))
+    ∙ ap (λ (m : ℕ). m * payloadSize) (length-map (rows recordSize n table) (reply part) ∙ length-rows recordSize n table)
+    ∙ mul-comm n payloadSize
+
+-- the reply is the first bytes of the buffer
+same-replies : (c : Command) (n : ℕ) (table buffer : List ℕ) → take (replyLength c n) (replied c n table buffer) ≡ replies c n table
+unfolding replied replies
+same-replies (Reads part) n table buffer = take-at _ _ (payloadSize * n) (length-replies part n table)
+same-replies (Writes c) n table buffer = refl
+same-replies (Bares c) n table buffer = refl
+same-replies Unlisted n table buffer = refl
+
+-- a reply has at most eight bytes for each monitor
+reply-most : (c : Command) (n : ℕ) → replyLength c n ≤ payloadSize * n
+reply-most (Reads part) n = omega arith
+reply-most (Writes c) n = omega arith
+reply-most (Bares c) n = omega arith
+reply-most Unlisted n = omega arith
+
+-- ---- a whole frame
+
+-- what is seen of an answer and a buffer
+abbrev seenIn : Answer → List ℕ → Seen
+seenIn said left = Answered said (take (replyBytes said) left)
+
+abbrev stepTo : List ℕ → Seen → Step
+stepTo table seen = record { table = table; seen = seen }
+
+module _ (table frame buffer : List ℕ) (room : payloadSize * monitors table ≤ length buffer) where
+  abbrev c : Command
+  c = commandIn frame
+
+  abbrev n : ℕ
+  n = monitors table
+
+  -- refusal 6 does not hold
+  no-sixth : {A : Type 0} (refused : Refusal → A) (accepted : A)
+      → decide (frameRefusals table frame (length buffer)) refused accepted ≡ decide (ruleRefusals table frame) refused accepted
+  unfolding frameRefusals ruleRefusals
+  no-sixth refused accepted =
+      let sixth = roomRow (length buffer) c n ∷ [] in
+      decide-append (ruleRefusals table frame) sixth refused accepted
+      ∙ ap (decide (ruleRefusals table frame) refused) (passes sixth refused accepted (le-ltb (length buffer) (replyLength c n) (le-trans (reply-most c n) room), tt))
+
+  pub frame-step : stepTo (tableAfter table frame (length buffer)) (seenIn (answer table frame (length buffer)) (replyAfter table frame buffer)) ≡ ruled table (Frame frame)
+  unfolding tableAfter answer replyAfter ruled obeyed kept
+  frame-step =
+      let rows = frameRefusals table frame (length buffer) in
+      ap (stepTo (tableAfter table frame (length buffer))) (decide-both seenIn rows Refused (λ r. buffer) _ _)
+      ∙ decide-both stepTo rows (λ r. table) (λ r. Answered (Refused r) []) _ _
+      ∙ no-sixth (λ r. stepTo table (Answered (Refused r) [])) _
+      ∙ ap₂ (λ (taken : ℕ) (back : List ℕ). decide (ruleRefusals table frame) (λ r. stepTo table (Answered (Refused r) [])) (stepTo (kept c n table frame) (Answered (Accepted taken (replyLength c n)) back)))
+      (same-takers c n frame) (same-replies c n table buffer)
+
+  -- the buffer stays as long as it was
+  pub length-after : length (replyAfter table frame buffer) ≡ length buffer
+  unfolding replyAfter
+  length-after =
+      either-way (λ (left : List ℕ). length left ≡ length buffer) (frameRefusals table frame (length buffer)) (λ r. buffer) (replied c n table buffer)
+      (λ r. refl) (length-replied c n table buffer (le-trans (reply-most c n) room))
+
+-- ---- a load
+
+pub load-step : (table : List ℕ) (position : ℕ) (codes : List ℤ)
+    → stepTo (tableAfterLoad table position codes) (LoadAnswered (loaded table position codes)) ≡ ruled table (Load position codes)
+unfolding tableAfterLoad loaded ruled
+load-step table position codes = decide-both (λ after said. stepTo after (LoadAnswered said)) (loadRefusals table position codes) (λ r. table) Unloaded _ _
+
+-- ---- a clocked frame
+
+-- the state stands for the clock, byte by byte
+view-all : (table frame state : List ℕ) → length state ≡ stateSize → clockOf (stateAfterAll table frame state) ≡ clockedAll table frame (clockOf state)
+unfolding stateAfterAll clockedAll
+view-all table [] state sized = refl
+view-all table (byte ∷ frame) state sized =
+    view-all table frame (stateAfter table byte state) (length-stateAfter table byte state sized) ∙ ap (clockedAll table frame) (view table byte state sized)
+
+same-back : (table frame state : List ℕ) → length state ≡ stateSize → cameBack table frame state ≡ answeredAll table frame (clockOf state)
+unfolding cameBack answeredAll
+same-back table [] state sized = refl
+same-back table (byte ∷ frame) state sized =
+    ap (λ (back : List ℕ). answered (clockOf state) ∷ back)
+    (same-back table frame (stateAfter table byte state) (length-stateAfter table byte state sized) ∙ ap (answeredAll table frame) (view table byte state sized))
+
+length-idle : length idle ≡ stateSize
+unfolding idle
+length-idle = length-replicate {A = ℕ} stateSize 0
+
+-- a buffer for a full reply
+abbrev pub full : List ℕ → List ℕ
+full table = replicate (payloadSize * monitors table) 0
+
+pub has-room : (table : List ℕ) → payloadSize * monitors table ≤ length (full table)
+has-room table = omega (arith, length-replicate {A = ℕ} (payloadSize * monitors table) 0)
+
+module _ (table frame : List ℕ) where
+  -- from the start
+  pub clock-whole : clockOf (stateAfterAll table frame idle) ≡ clockedAll table frame start
+  clock-whole = view-all table frame idle length-idle ∙ ap (clockedAll table frame) view-idle
+
+  pub back-whole : cameBack table frame idle ≡ answeredAll table frame start
+  back-whole = same-back table frame idle length-idle ∙ ap (answeredAll table frame) view-idle
+
+  -- what came back begins as a buffer for a full reply does
+  same-reply : (said : Answer) → answer table frame (length (full table)) ≡ said
+      → take (replyBytes said) (drop 4 (answeredAll table frame start)) ≡ take (replyBytes said) (replyAfter table frame (full table))
+  same-reply (Refused r) e = refl
+  same-reply (Accepted taken bytes) e = reply-whole table frame (full table) taken bytes e
+
+  abbrev stepBy : Clock → List ℕ → Step
+  stepBy clock back = stepTo (tableReleased clock table) (seenIn (released clock table) (drop 4 back))
+
+  pub clocked-step : stepBy (clockOf (stateAfterAll table frame idle)) (cameBack table frame idle) ≡ ruled table (Frame frame)
+  clocked-step =
+      let clock = clockedAll table frame start in
+      let back = drop 4 (answeredAll table frame start) in
+      let said = answer table frame (length (full table)) in
+      ap₂ stepBy clock-whole back-whole
+      ∙ ap₂ (λ (after : List ℕ) (a : Answer). stepTo after (seenIn a back)) (table-released-whole table frame (length (full table)) (has-room table)) (released-whole table frame (length (full table)) (has-room table))
+      ∙ ap (λ (left : List ℕ). stepTo (tableAfter table frame (length (full table))) (Answered said left)) (same-reply said refl)
+      ∙ frame-step table frame (full table) (has-room table)

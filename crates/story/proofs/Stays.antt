@@ -1,0 +1,50 @@
+-- A refusal changes nothing: where the answer is a refusal, every lent buffer is as it was. The answer and the buffer go by the same
+-- refusals, and an accepted answer is no refusal. What of a whole frame and a load is in `chain`.
+-- Assumes nothing.
+use mathlib.Core.Path.{_≡_, ap, _∙_}
+use mathlib.Core.List.{List, []}
+use Prim.Native.Nat.{ℕ}
+use native.Mathlib.Omega.{arith}
+use lib.ListN.{length}
+use Rattle.refusals.specs.declared.Refusal.{Refusal}
+use Rattle.chain.specs.declared.frames.Answer.the-variants.{Refused, Accepted}
+use Rattle.chain.proofs.Refused.{stays-so}
+use Rattle.clocked.specs.declared.looks.Looked.the-variants.{Refused as Unseen, Holds}
+use Rattle.clocked.specs.Clock.{Clock}
+use Rattle.clocked.specs.Release.{releaseRefusals, released, tableReleased}
+use Rattle.clocked.specs.Look.{lookRefusals, looked, outAfter}
+use Rattle.host.specs.declared.frames.Built.the-variants.{Unbuilt, Length}
+use Rattle.host.specs.declared.ports.Port.the-variants.{Refused as Unported}
+use Rattle.host.specs.Frames.{buildRefusals, built, bufferAfter}
+use Rattle.host.specs.Ports.{partA, partB, portOf}
+use Rattle.host.specs.Parts.{bytesOf}
+use Rattle.host.proofs.TwoPorts.{byPort, bytes-by-port}
+
+-- a release
+accepted-apart : (taken reply : ℕ) (r : Refusal) → Accepted taken reply ≡ Refused r → ⊥
+accepted-apart taken reply r e = let z : _≡_ {A = ℕ} 0 1 = cc in omega arith
+
+pub refused-release : (c : Clock) (table : List ℕ) (r : Refusal) → released c table ≡ Refused r → tableReleased c table ≡ table
+unfolding released tableReleased
+refused-release c table r e = stays-so (releaseRefusals c table) Refused _ r table _ (accepted-apart _ _ r) e
+
+-- a look
+holds-apart : (n : ℕ) (r : Refusal) → Holds n ≡ Unseen r → ⊥
+holds-apart n r e = let z : _≡_ {A = ℕ} 0 1 = cc in omega arith
+
+pub refused-look : (c : Clock) (position : ℕ) (out : List ℕ) (r : Refusal) → looked c position (length out) ≡ Unseen r → outAfter c position out ≡ out
+unfolding looked outAfter
+refused-look c position out r e = stays-so (lookRefusals c position (length out)) Unseen _ r out _ (holds-apart _ r) e
+
+-- a host's frame
+length-apart : (n : ℕ) (r : Refusal) → Length n ≡ Unbuilt r → ⊥
+length-apart n r e = let z : _≡_ {A = ℕ} 0 1 = cc in omega arith
+
+pub refused-build : (code n : ℕ) (values buffer : List ℕ) (r : Refusal) → built code n values (length buffer) ≡ Unbuilt r
+    → bufferAfter code n values buffer ≡ buffer
+unfolding built bufferAfter
+refused-build code n values buffer r e = stays-so (buildRefusals code n values (length buffer)) Unbuilt _ r buffer _ (length-apart _ r) e
+
+-- two ports: beside a refusal number the part handed back is empty
+pub refused-part : (a b : List ℕ) (n k : ℕ) (r : Refusal) → portOf a b n k ≡ Unported r → bytesOf a b n k ≡ []
+refused-part a b n k r e = bytes-by-port a b n k ∙ ap (byPort [] (partA a n k) (partB b n k)) e

@@ -1,0 +1,147 @@
+-- Demand 3's three runs: what a list of frames, with readings loaded between them, comes to. By the rules of demand 2; by whole
+-- frames; by bytes clocked one at a time. The last two are put together from what the functions of the engines promise. Each gives
+-- the table afterwards and, event by event, what was seen.
+-- Assumes nothing.
+use mathlib.Core.List.{List, [], _∷_, map}
+use Prim.Native.Nat.{ℕ, _-_}
+use lib.IntN.{ℤ}
+use lib.ListN.{length, take, drop}
+use Rattle.laws.specs.Counts.{count}
+use Rattle.laws.specs.Rows.{rows, joined, along}
+use Rattle.pec.specs.Words.{payloadRight}
+use Rattle.wire.specs.Order.{replyData}
+use Rattle.refusals.specs.Order.{Row, decide}
+use Rattle.monitor.specs.declared.commands.Command.{Command}
+use Rattle.monitor.specs.declared.commands.Command.the-variants.{Reads, Writes, Bares, Unlisted}
+use Rattle.monitor.specs.Record.{recordSize}
+use Rattle.monitor.specs.Effects.{keeps}
+use Rattle.monitor.specs.Reply.{reply}
+use Rattle.chain.specs.declared.frames.Answer.{Answer}
+use Rattle.chain.specs.declared.frames.Answer.the-variants.{Refused, Accepted}
+use Rattle.chain.specs.declared.loads.Loaded.{Loaded}
+use Rattle.chain.specs.declared.loads.Loaded.the-variants.{Unloaded, Done}
+use Rattle.chain.specs.Table.{monitors}
+use Rattle.chain.specs.Frame.{commandIn, payloadsIn, replyLength, tableRow, shortRow, commandRow, listedRow, lengthRow, answer, tableAfter, replyAfter}
+use Rattle.chain.specs.Load.{loadRefusals, loadedAt, loaded, tableAfterLoad}
+use Rattle.chain.specs.Numbers.{numbersOf}
+use Rattle.clocked.specs.Clock.{answered}
+use Rattle.clocked.specs.Release.{released, tableReleased}
+use Rattle.clocked.specs.State.{clockOf, idle, stateAfter}
+
+-- ---- what happens to a chain, and what is seen of it
+
+pub data Event : Type 0 where
+  -- a frame's bytes
+  Frame : List ℕ → Event
+  -- a position and its codes
+  Load : ℕ → List ℤ → Event
+
+pub data Seen : Type 0 where
+  -- a frame's answer and the bytes of its reply: none where it is refused or no read
+  Answered : Answer → List ℕ → Seen
+  LoadAnswered : Loaded → Seen
+
+-- the table afterwards, and what was seen, event by event
+pub record Left : Type 0 where
+  pub table : List ℕ
+  pub seen : List Seen
+
+-- what an event shows, before what the later ones leave
+abbrev pub saw : Seen → Left → Left
+saw one later = record { table = later .table; seen = one ∷ later .seen }
+
+-- how many bytes of a reply an answer tells of
+abbrev pub replyBytes : Answer → ℕ
+replyBytes a = numbersOf a .reply
+
+-- ---- by the rules
+
+-- what one event leaves
+pub record Step : Type 0 where
+  pub table : List ℕ
+  pub seen : Seen
+
+-- refusals 1 to 5, in their order: a full reply always has room
+unfoldable pub ruleRefusals : List ℕ → List ℕ → List Row
+ruleRefusals table frame =
+    tableRow table
+    ∷ shortRow (length frame)
+    ∷ commandRow (take 4 frame)
+    ∷ listedRow frame
+    ∷ lengthRow (length frame) (commandIn frame) (monitors table)
+    ∷ []
+
+-- how many of n monitors took a frame: in a write those whose own eight bytes are good
+unfoldable pub takers : Command → ℕ → List ℕ → ℕ
+takers (Writes c) n frame = count payloadRight (payloadsIn frame n)
+takers (Reads part) n frame = n
+takers (Bares c) n frame = n
+takers Unlisted n frame = 0
+
+-- what n monitors reply, nearest first
+unfoldable pub replies : Command → ℕ → List ℕ → List ℕ
+replies (Reads part) n table = replyData (map (reply part) (rows recordSize n table))
+replies (Writes c) n table = []
+replies (Bares c) n table = []
+replies Unlisted n table = []
+
+-- a frame that no refusal stops: each monitor keeps what the command makes of its own record and its own eight bytes
+unfoldable pub obeyed : Command → ℕ → List ℕ → List ℕ → Step
+obeyed c n table frame =
+    record {
+      table = joined (along (λ r eight. keeps c eight r) (rows recordSize n table) (payloadsIn frame n));
+      seen = Answered (Accepted (takers c n frame) (replyLength c n)) (replies c n table);
+    }
+
+-- a refusal gives its number and changes nothing
+unfoldable pub ruled : List ℕ → Event → Step
+ruled table (Frame frame) =
+    decide (ruleRefusals table frame) (λ r. record { table = table; seen = Answered (Refused r) [] }) (obeyed (commandIn frame) (monitors table) table frame)
+ruled table (Load position codes) =
+    decide (loadRefusals table position codes) (λ r. record { table = table; seen = LoadAnswered (Unloaded r) })
+    (record { table = loadedAt (position - 1) codes table; seen = LoadAnswered Done })
+
+unfoldable pub byRules : List ℕ → List Event → Left
+byRules table [] = record { table = table; seen = [] }
+byRules table (event ∷ events) = saw (ruled table event .seen) (byRules (ruled table event .table) events)
+
+-- ---- by whole frames: `chain::handle` promises `answer`, `tableAfter` and `replyAfter`, `chain::load` `loaded` and `tableAfterLoad`. A
+-- reply buffer is lent, and lent again as it was left; a reply is its first bytes
+
+unfoldable pub byFrames : List ℕ → List ℕ → List Event → Left
+byFrames table buffer [] = record { table = table; seen = [] }
+byFrames table buffer (Frame frame ∷ events) =
+    let said = answer table frame (length buffer) in
+    let left = replyAfter table frame buffer in
+    saw (Answered said (take (replyBytes said) left)) (byFrames (tableAfter table frame (length buffer)) left events)
+byFrames table buffer (Load position codes ∷ events) =
+    saw (LoadAnswered (loaded table position codes)) (byFrames (tableAfterLoad table position codes) buffer events)
+
+-- ---- by clocked bytes: `clocked::start` promises `idle` of the state, `clocked::clock` `stateAfter` and the byte `answered`, and
+-- `clocked::release` `released`, `tableReleased`, and `idle` of the state. A state is lent, and lent again as it was left; a reply is
+-- what came back after the fourth byte
+
+-- the state after the bytes of a frame, one by one
+unfoldable pub stateAfterAll : List ℕ → List ℕ → List ℕ → List ℕ
+stateAfterAll table [] state = state
+stateAfterAll table (byte ∷ bytes) state = stateAfterAll table bytes (stateAfter table byte state)
+
+-- the byte that came back for each
+unfoldable pub cameBack : List ℕ → List ℕ → List ℕ → List ℕ
+cameBack table [] state = []
+cameBack table (byte ∷ bytes) state = answered (clockOf state) ∷ cameBack table bytes (stateAfter table byte state)
+
+-- a state that a frame is started with, whatever its bytes were
+abbrev pub started : List ℕ → List ℕ
+started state = idle
+
+-- a frame is started, its bytes are clocked in, and it is released
+unfoldable pub byBytes : List ℕ → List ℕ → List Event → Left
+byBytes table state [] = record { table = table; seen = [] }
+byBytes table state (Frame frame ∷ events) =
+    let clock = clockOf (stateAfterAll table frame (started state)) in
+    let said = released clock table in
+    let back = drop 4 (cameBack table frame (started state)) in
+    saw (Answered said (take (replyBytes said) back)) (byBytes (tableReleased clock table) idle events)
+byBytes table state (Load position codes ∷ events) =
+    saw (LoadAnswered (loaded table position codes)) (byBytes (tableAfterLoad table position codes) state events)
