@@ -2,13 +2,14 @@
 -- after k turns. Over any bytes for each monitor: a frame's payloads, or windows that were clocked.
 -- Assumes nothing.
 use mathlib.Core.Path.{_≡_, refl, sym, ap, ap₂, _∙_, subst⁻¹}
-use mathlib.Core.Bool.{Bool, true, false, cond}
+use mathlib.Core.Bool.{Bool, true, false, cond, _&&_}
 use mathlib.Core.List.{List, [], _∷_, _++_, append-nil}
 use Prim.Native.Nat.{ℕ, _+_, _*_, _≤_, _<_}
 use native.Mathlib.Numerals.{add-one}
 use native.Mathlib.Omega.{arith}
 use lib.ListN.{length, length-take, getD, take, drop, drop-of-length-le}
 use lib.Seq.{take-suc, take-all}
+use borrow.Author.Tests.{le-leb}
 use Rattle.laws.specs.Counts.{count}
 use Rattle.laws.specs.Rows.{rows, rowAt, joined, along}
 use Rattle.laws.proofs.Counts.{count-snoc}
@@ -18,6 +19,7 @@ use Rattle.monitor.specs.declared.commands.Command.{Command}
 use Rattle.monitor.specs.Record.{recordSize}
 use Rattle.monitor.specs.Effects.{takes, keeps}
 use Rattle.monitor.proofs.Sound.{length-keeps}
+use Rattle.chain.specs.Alone.{hasRecord, servedAt}
 use Rattle.chain.proofs.Serving.{lent-length}
 
 -- one more or none
@@ -51,23 +53,28 @@ module _ (c : Command) (before : List ℕ) (eights : List (List ℕ)) where
         ∙ along-snoc (λ r eight. keeps c eight r) (rows recordSize k before) (rowAt recordSize k before) (take k eights) (getD eights k []) as-long
 
     pub acted-more : {table after : List ℕ} {taken taken' : ℕ} {took : Bool} (eight : List ℕ) → Acted table k taken → k * recordSize + recordSize ≤ length before
-        → eight ≡ getD eights k [] → took ≡ takes c eight
-        → after ≡ take (k * recordSize) table ++ keeps c eight (rowAt recordSize k table) ++ drop (k * recordSize + recordSize) table
+        → eight ≡ getD eights k [] → took ≡ hasRecord k table && takes c eight
+        → after ≡ cond (hasRecord k table) (servedAt k c eight table) table
         → taken' ≡ taken + cond took 1 0 → Acted after (k + 1) taken'
+    unfolding servedAt
     acted-more {table} {after} {taken} {taken'} {took} eight a fits own took-is after-is taken-is =
         record {
           filling =
               subst⁻¹ (Filling recordSize before after (k + 1)) acts-more
               (filling-more recordSize before (a .filling) new fits (length-keeps c _ _ ∙ lent-length k before fits)
               (after-is
+              ∙ ap (λ (b : Bool). cond b (servedAt k c eight table) table) there
               ∙ ap₂ (λ (e r : List ℕ). take (k * recordSize) table ++ keeps c e r ++ drop (k * recordSize + recordSize) table) own (filling-row recordSize before (a .filling))));
           counted =
               taken-is
-              ∙ ap₂ (λ (t : ℕ) (b : Bool). t + cond b 1 0) (a .counted) (took-is ∙ ap (takes c) own)
+              ∙ ap₂ (λ (t : ℕ) (b : Bool). t + cond b 1 0) (a .counted) (took-is ∙ ap (λ (b : Bool). b && takes c eight) there ∙ ap (takes c) own)
               ∙ sym (ap (count (takes c)) eights-more ∙ count-snoc (takes c) (take k eights) (getD eights k []));
           few = omega (arith, taken-is, a .few, at-most-one took);
         }
       where
+        there : hasRecord k table ≡ true
+        there = le-leb (k * recordSize + recordSize) (length table) (omega (arith, a .filling .size))
+
         new : List ℕ
         new = keeps c (getD eights k []) (rowAt recordSize k before)
 

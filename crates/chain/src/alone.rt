@@ -1,30 +1,32 @@
-// A command to the table alone, with no frame judged: every monitor acts, or replies.
+// A command to the table alone, with no frame judged: one monitor acts, or all reply.
 ghost use mathlib.Core.Path.{_≡_};
-ghost use mathlib.Core.Bool.{cond};
+ghost use mathlib.Core.Bool.{cond, _&&_};
 ghost use lib.Dec.{leb};
 ghost use lib.ListN.{length};
 ghost use Rattle.monitor.specs.Commands.{mostMonitors};
 ghost use Rattle.chain.specs.Table.{monitors, sound};
-ghost use Rattle.chain.specs.Frame.{replyLength, takenBy, kept, replied};
-ghost use Rattle.chain.specs.Alone.{repliesInto};
+ghost use Rattle.monitor.specs.Effects.{takes};
+ghost use Rattle.chain.specs.Frame.{replyLength, replied};
+ghost use Rattle.chain.specs.Alone.{hasRecord, servedAt, repliesInto};
 use crate::frames::reply_length;
-use crate::frames::serve;
 use crate::frames::write_reply;
 use crate::tables::sound_count;
 use monitor::Command;
 use monitor::MOST_MONITORS;
+use monitor::RECORD_SIZE;
 
-// Every monitor of a sound table acts on its own eight bytes of a frame; the answer is how many took the command. Any other
-// table stays, and none took it.
-pub fn serve_all(table: &mut [u8], command: Command, frame: &[u8]) -> usize
-    ensures { λ r. ⌜ r ≡ cond (sound (now (table .entry))) (takenBy command (monitors (now (table .entry))) (now (frame .entry))) 0 ⌝ }
-    ensures { λ _. ⌜ now (table .exit) ≡ cond (sound (now (table .entry))) (kept command (monitors (now (table .entry))) (now (table .entry)) (now (frame .entry))) (now (table .entry)) ⌝ }
+// The monitor at k of a table, counted from 0, acts on its own record and its own eight bytes, and whether it took the command
+// comes back. A table with no whole record there stays, and none took it.
+pub fn serve_at(table: &mut [u8], command: Command, k: usize, eight: &[u8]) -> bool
+    ensures { λ took. ⌜ took ≡ (hasRecord k (now (table .entry)) && takes command (now (eight .entry))) ⌝ }
+    ensures { λ _. ⌜ now (table .exit) ≡ cond (hasRecord k (now (table .entry))) (servedAt k command (now (eight .entry)) (now (table .entry))) (now (table .entry)) ⌝ }
 {
-    let count = sound_count(table);
-    if count == 0 {
-        return 0;
+    if table.len() / RECORD_SIZE <= k {
+        return false;
     }
-    serve(table, command, count, frame)
+    let at = k * RECORD_SIZE;
+    let end = at + RECORD_SIZE;
+    monitor::act(command, &mut table[at..end], eight)
 }
 
 // The reply of a sound table to a command, at the start of a buffer, and its length. Where the table is not sound or the reply

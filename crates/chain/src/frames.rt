@@ -11,6 +11,7 @@ ghost use Rattle.monitor.specs.Effects.{takes, keeps};
 ghost use Rattle.monitor.specs.Reply.{reply};
 ghost use Rattle.chain.specs.Frame.{commandIn, payloadsIn, replyLength, takenBy, kept, replied, answer, tableAfter, replyAfter};
 ghost use Rattle.chain.specs.Judged.{judged, ReadyIf, Ready};
+use crate::alone::serve_at;
 use crate::tables::sound_count;
 use monitor::Command;
 use monitor::PAYLOAD_SIZE;
@@ -128,19 +129,8 @@ fn payload_in(frame: &[u8], n: usize, k: usize) -> &[u8]
     &frame[..0]
 }
 
-// The monitor at k, counted from 0, acts on its own record and its own eight bytes.
-fn serve_one(table: &mut [u8], command: Command, k: usize, eight: &[u8]) -> bool
-    requires { ⌜ (k < mostMonitors) × (k * recordSize + recordSize ≤ length (now table)) ⌝ }
-    ensures { λ took. ⌜ took ≡ takes command (now (eight .entry)) ⌝ }
-    ensures { λ _. ⌜ now (table .exit) ≡ take (k * recordSize) (now (table .entry)) ++ keeps command (now (eight .entry)) (rowAt recordSize k (now (table .entry))) ++ drop (k * recordSize + recordSize) (now (table .entry)) ⌝ }
-{
-    let at = k * RECORD_SIZE;
-    let end = at + RECORD_SIZE;
-    monitor::act(command, &mut table[at..end], eight)
-}
-
 // Every monitor acts, and those that took the command are counted.
-pub(crate) fn serve(table: &mut [u8], command: Command, n: usize, frame: &[u8]) -> usize
+fn serve(table: &mut [u8], command: Command, n: usize, frame: &[u8]) -> usize
     requires { ⌜ (length (now table) ≡ n * recordSize) × (n ≤ mostMonitors) ⌝ }
     ensures { λ r. ⌜ r ≡ takenBy command n (now (frame .entry)) ⌝ }
     ensures { λ _. ⌜ now (table .exit) ≡ kept command n (now (table .entry)) (now (frame .entry)) ⌝ }
@@ -149,7 +139,7 @@ pub(crate) fn serve(table: &mut [u8], command: Command, n: usize, frame: &[u8]) 
     let mut k = 0;
     while k < n {
         let eight = payload_in(frame, n, k);
-        if serve_one(table, command, k, eight) {
+        if serve_at(table, command, k, eight) {
             taken += 1;
         }
         k += 1;

@@ -8,7 +8,7 @@ mod tables;
 
 pub use alone::reply_all;
 pub use alone::reply_size;
-pub use alone::serve_all;
+pub use alone::serve_at;
 pub use frames::Answer;
 pub use frames::command_in;
 pub use frames::handle;

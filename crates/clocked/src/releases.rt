@@ -1,10 +1,9 @@
 // The end of a frame.
 ghost use mathlib.Core.Path.{_≡_};
-ghost use mathlib.Core.List.{_++_};
-ghost use Prim.Native.Nat.{_+_, _*_, _<_, _≤_};
-ghost use lib.ListN.{length, take, drop};
+ghost use Prim.Native.Nat.{_*_, _≤_};
+ghost use lib.ListN.{length};
 ghost use Rattle.laws.specs.Counts.{count};
-ghost use Rattle.laws.specs.Rows.{rows, rowAt, joined, along};
+ghost use Rattle.laws.specs.Rows.{rows, joined, along};
 ghost use Rattle.monitor.specs.Record.{recordSize};
 ghost use Rattle.monitor.specs.Commands.{mostMonitors};
 ghost use Rattle.monitor.specs.Effects.{takes, keeps};
@@ -20,7 +19,6 @@ use crate::state::seen_in;
 use crate::state::start;
 use chain::Answer;
 use monitor::Command;
-use monitor::RECORD_SIZE;
 use refusals::Refusal;
 
 // What the refusals say of a release: the first that holds, or the command and the number of monitors.
@@ -60,17 +58,6 @@ pub(crate) fn judge(state: &[u8], table: &[u8]) -> Judged
     Judged::Good(command, n)
 }
 
-// The monitor at k, counted from 0, acts on its own record and its own window.
-fn act_at(table: &mut [u8], command: Command, k: usize, window: &[u8]) -> bool
-    requires { ⌜ (k < mostMonitors) × (k * recordSize + recordSize ≤ length (now table)) ⌝ }
-    ensures { λ took. ⌜ took ≡ takes command (now (window .entry)) ⌝ }
-    ensures { λ _. ⌜ now (table .exit) ≡ take (k * recordSize) (now (table .entry)) ++ keeps command (now (window .entry)) (rowAt recordSize k (now (table .entry))) ++ drop (k * recordSize + recordSize) (now (table .entry)) ⌝ }
-{
-    let at = k * RECORD_SIZE;
-    let end = at + RECORD_SIZE;
-    monitor::act(command, &mut table[at..end], window)
-}
-
 // Every monitor acts on its own window, and those that took the command are counted.
 fn act_all(table: &mut [u8], command: Command, state: &[u8], n: usize) -> usize
     requires { ⌜ (length (now table) ≡ n * recordSize) × (length (now state) ≡ stateSize) × (n ≡ chainedIn (now state)) × (n ≤ mostMonitors) ⌝ }
@@ -81,7 +68,7 @@ fn act_all(table: &mut [u8], command: Command, state: &[u8], n: usize) -> usize
     let mut k = 0;
     while k < n {
         let window = window_in(state, n, k);
-        if act_at(table, command, k, window) {
+        if chain::serve_at(table, command, k, window) {
             taken += 1;
         }
         k += 1;

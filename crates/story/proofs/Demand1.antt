@@ -93,7 +93,7 @@ pub record Promises : Type 2 where
   numbers-of : Promised chain.numbers_of.Statement.statement chain.numbers_of.Reads.Asked
   load-number : Promised chain.load_number.Statement.statement chain.load_number.Reads.Asked
   load : Promised chain.load.Statement.statement chain.load.Reads.Asked
-  serve-all : Promised chain.serve_all.Statement.statement chain.serve_all.Reads.Asked
+  serve-at : Promised chain.serve_at.Statement.statement chain.serve_at.Reads.Asked
   reply-all : Promised chain.reply_all.Statement.statement chain.reply_all.Reads.Asked
   handle : Promised chain.handle.Statement.statement chain.handle.Reads.Asked
   -- clocked
@@ -194,7 +194,7 @@ proved =
       numbers-of = (λ M. chain.numbers_of.Met.met, λ κ a. tt);
       load-number = (λ M. chain.load_number.Met.met, λ κ a. tt);
       load = (λ M. chain.load.Met.met, λ κ a. tt);
-      serve-all = (λ M. chain.serve_all.Met.met, λ κ a. tt);
+      serve-at = (λ M. chain.serve_at.Met.met, λ κ a. tt);
       reply-all = (λ M. chain.reply_all.Met.met, λ κ a. tt);
       handle = (λ M. chain.handle.Met.met, λ κ a. tt);
       start = (λ M. clocked.start.Met.met, λ κ a. tt);

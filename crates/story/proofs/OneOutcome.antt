@@ -70,7 +70,7 @@ pub record OneOutcome : Type 0 where
   numbers-of : Settles chain.numbers_of.Reads.Post (λ κ z e. leaves z [])
   load-number : Settles chain.load_number.Reads.Post (λ κ z e. leaves z [])
   load : Settles chain.load.Reads.Post (λ κ z e. leaves z (now (e .0) ∷ []))
-  serve-all : Settles chain.serve_all.Reads.Post (λ κ z e. leaves z (now (e .0) ∷ []))
+  serve-at : Settles chain.serve_at.Reads.Post (λ κ z e. leaves z (now (e .0) ∷ []))
   reply-all : Settles chain.reply_all.Reads.Post (λ κ z e. leaves z (now (e .1 .1 .0) ∷ []))
   handle : Settles chain.handle.Reads.Post (λ κ z e. leaves z (now (e .0) ∷ now (e .1 .1 .0) ∷ []))
   -- clocked: lent a state; a state; a state and a table; a buffer; a table and a buffer. What `clock` says of the clock besides follows
@@ -141,7 +141,7 @@ one-outcomes =
       numbers-of = λ κ a z z' e e'. result;
       load-number = λ κ a z z' e e'. result;
       load = λ κ a z z' e e'. and-one;
-      serve-all = λ κ a z z' e e'. and-one;
+      serve-at = λ κ a z z' e e'. and-one;
       reply-all = λ κ a z z' e e'. and-one;
       handle = λ κ a z z' e e'. and-two;
       start = λ κ a z z' e e'. one-alone;

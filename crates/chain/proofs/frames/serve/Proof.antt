@@ -28,10 +28,8 @@ loop-holds c =
 payload-in-requires : tie.Need-payload-in-requires Inv-loop μ-loop
 payload-in-requires c κs = omega arith
 
-serve-one-requires : tie.Need-serve-one-requires Inv-loop μ-loop
-serve-one-requires c κs =
-    let whole = c .before .before .before .loop .inv .1 .filling .size in
-    (omega (arith, c .before .before .before .before .before .before .pre .1), omega (arith, c .before .before .before .before .before .before .pre .0))
+serve-at-requires : tie.Need-serve-at-requires Inv-loop μ-loop
+serve-at-requires c κs = tt
 
 add-taken : tie.Need-add-taken Inv-loop μ-loop
 add-taken c = omega arith
@@ -49,12 +47,12 @@ loop-again c =
     let more = c .before .before .before .before .before .before .loop-test .taken in
     let within : l .k < length (payloadsIn (a .frame .now) (a .n)) = omega (arith, length-payloadsIn (a .command) (a .n) (a .table .now) (a .frame .now)) in
     let fits : l .k * recordSize + recordSize ≤ length (a .table .now) = omega (arith, c .before .before .before .before .before .before .before .before .before .before .pre .0) in
-    let one : c .if1 .taken ≡ l .taken + cond (c .before .before .before .serve-one .result) 1 0 = ⊎-elim (λ w. w .1 ∙ ap (λ (b : Bool). l .taken + cond b 1 0) (sym (w .0 .taken))) (λ w. w .1 ∙ sym (add-zero (l .taken)) ∙ ap (λ (b : Bool). l .taken + cond b 1 0) (sym (w .0 .left))) (c .if1 .came) in (
+    let one : c .if1 .taken ≡ l .taken + cond (c .before .before .before .serve-at .result) 1 0 = ⊎-elim (λ w. w .1 ∙ ap (λ (b : Bool). l .taken + cond b 1 0) (sym (w .0 .taken))) (λ w. w .1 ∙ sym (add-zero (l .taken)) ∙ ap (λ (b : Bool). l .taken + cond b 1 0) (sym (w .0 .left))) (c .if1 .came) in (
       omega arith,
       acted-more (a .command) (a .table .now) (payloadsIn (a .frame .now) (a .n)) (l .k) within _ (l .inv .1) fits
           (c .before .before .before .before .before .payload-in .ensures ∙ sym (own (a .command) (a .n) (a .table .now) (a .frame .now) (l .k) more))
-          (c .before .before .before .serve-one .ensures .0)
-          (c .before .before .before .serve-one .ensures .1)
+          (c .before .before .before .serve-at .ensures .0)
+          (c .before .before .before .serve-at .ensures .1)
           one,
     )
 
@@ -81,7 +79,7 @@ serve-spec =
     μ-loop
     loop-holds
     payload-in-requires
-    serve-one-requires
+    serve-at-requires
     add-taken
     add-k
     loop-less

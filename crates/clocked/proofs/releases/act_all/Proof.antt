@@ -40,10 +40,8 @@ window-in-requires c κs =
     let p = c .before .before .before .before .pre in
     (p .1, p .2, p .3, c .loop-test .taken)
 
-act-at-requires : tie.Need-act-at-requires Inv-loop μ-loop
-act-at-requires c κs =
-    let whole = c .before .before .before .loop .inv .1 .filling .size in
-    (omega (arith, c .before .before .before .before .before .before .pre .3), omega (arith, c .before .before .before .before .before .before .pre .0))
+serve-at-requires : tie.Need-serve-at-requires Inv-loop μ-loop
+serve-at-requires c κs = tt
 
 add-taken : tie.Need-add-taken Inv-loop μ-loop
 add-taken c = omega arith
@@ -61,12 +59,12 @@ loop-again c =
     let l = c .before .before .before .before .before .before .before .loop in
     let within : l .k < length (windowsOf (a .state .now)) = omega (arith, as-many (a .state .now) (p .2)) in
     let fits : l .k * recordSize + recordSize ≤ length (a .table .now) = omega (arith, p .0) in
-    let one : c .if1 .taken ≡ l .taken + cond (c .before .before .before .act-at .result) 1 0 = ⊎-elim (λ w. w .1 ∙ ap (λ (b : Bool). l .taken + cond b 1 0) (sym (w .0 .taken))) (λ w. w .1 ∙ sym (add-zero (l .taken)) ∙ ap (λ (b : Bool). l .taken + cond b 1 0) (sym (w .0 .left))) (c .if1 .came) in (
+    let one : c .if1 .taken ≡ l .taken + cond (c .before .before .before .serve-at .result) 1 0 = ⊎-elim (λ w. w .1 ∙ ap (λ (b : Bool). l .taken + cond b 1 0) (sym (w .0 .taken))) (λ w. w .1 ∙ sym (add-zero (l .taken)) ∙ ap (λ (b : Bool). l .taken + cond b 1 0) (sym (w .0 .left))) (c .if1 .came) in (
       omega arith,
       acted-more (a .command) (a .table .now) (windowsOf (a .state .now)) (l .k) within _ (l .inv .1) fits
           (c .before .before .before .before .before .window-in .ensures)
-          (c .before .before .before .act-at .ensures .0)
-          (c .before .before .before .act-at .ensures .1)
+          (c .before .before .before .serve-at .ensures .0)
+          (c .before .before .before .serve-at .ensures .1)
           one,
     )
 
@@ -91,7 +89,7 @@ act-all-spec =
     μ-loop
     loop-holds
     window-in-requires
-    act-at-requires
+    serve-at-requires
     add-taken
     add-k
     loop-less
