@@ -1,25 +1,27 @@
--- Going down the refusals of a frame: what passes each, and what stops at it.
+-- Going down the refusals of a frame: what passes each, and what stops at it. Refusals 1 to 5 are gone down once, for both engines.
 -- Assumes nothing.
-use mathlib.Core.Path.{_≡_, refl, sym, ap, _∙_, subst⁻¹}
-use mathlib.Core.Bool.{Bool, true, false, cond, not}
-use mathlib.Core.List.{List}
+use mathlib.Core.Path.{_≡_, refl, sym, ap, ap₂, _∙_, subst⁻¹}
+use mathlib.Core.Bool.{Bool, true, false, cond, not, _&&_}
+use mathlib.Core.List.{List, [], _∷_}
 use Prim.Native.Nat.{ℕ, _*_, _≤_, _<_}
 use native.Mathlib.Omega.{arith}
 use lib.Dec.{eqb, leb, ltb}
 use lib.ListN.{length, take, drop}
-use borrow.Author.Tests.{eq-eqb, ne-eqb, lt-ltb, le-ltb, le-leb}
+use borrow.Author.Tests.{eq-eqb, ne-eqb, lt-ltb, le-ltb, le-leb, lt-leb, eqb-true, leb-true, not-false}
 use Rattle.pec.specs.Words.{commandRight}
 use Rattle.refusals.specs.declared.Refusal.the-variants.{TableNotSound, FrameShort, CommandWrong, CodeNotListed, LengthWrong, NoRoom}
-use Rattle.refusals.specs.Order.{decide}
-use Rattle.refusals.proofs.Deciding.{holds-here, holds-not, none-left}
+use Rattle.refusals.specs.declared.Refusal.{Refusal}
+use Rattle.refusals.specs.Order.{_gives_, decide}
+use Rattle.refusals.proofs.Deciding.{holds-here, holds-not, none-left, decide-map, decide-append, Passed, passes, has-passed}
+use Rattle.monitor.specs.declared.commands.Command.{Command}
 use Rattle.monitor.specs.Record.{recordSize}
 use Rattle.monitor.specs.Commands.{isListed, mostMonitors, frameLength}
 use Rattle.chain.specs.declared.frames.Judged.{Judged}
 use Rattle.chain.specs.declared.frames.Judged.the-variants.{Bad, Good}
 use Rattle.chain.specs.Table.{monitors, sound}
-use Rattle.chain.specs.Frame.{commandIn, replyLength, frameRefusals}
-use Rattle.chain.specs.Judged.{judged}
-use Rattle.chain.proofs.Soundness.{is-sound}
+use Rattle.chain.specs.Frame.{commandIn, replyLength, tableRow, roomRow, frameRefusals}
+use Rattle.chain.specs.Judged.{countRow, laterRows, headJudged, judged}
+use Rattle.chain.proofs.Soundness.{both, is-sound}
 
 -- ---- the table's count tells whether it is sound
 
@@ -54,60 +56,136 @@ module _ (table : List ℕ) {n : ℕ} (counted : n ≡ cond (sound table) (monit
   pub counts-few : (n ≡ 0 → ⊥) → n ≤ mostMonitors
   counts-few h = subst⁻¹ (λ (x : ℕ). x ≤ mostMonitors) (count-is (not-none h)) (is-sound table (not-none h) .few)
 
--- ---- refusal by refusal
+-- ---- refusals 1 to 5, by the first four bytes
+
+module _ (frame : List ℕ) (bytes n : ℕ) where
+  -- what the refusals from the k-th on say
+  abbrev pub from : ℕ → Judged
+  from k = decide (drop k (countRow n ∷ laterRows frame bytes n)) Bad (Good (commandIn frame) n)
+
+  pub stop-few : n < 1 → headJudged frame bytes n ≡ Bad TableNotSound
+  unfolding headJudged
+  stop-few h = holds-here _ _ Bad _ (ap (λ (b : Bool). not (b && leb n mostMonitors)) (lt-leb 1 n h))
+
+  pub stop-many : 1 ≤ n → mostMonitors < n → headJudged frame bytes n ≡ Bad TableNotSound
+  unfolding headJudged
+  stop-many some h = holds-here _ _ Bad _ (ap₂ (λ (a b : Bool). not (a && b)) (le-leb 1 n some) (lt-leb n mostMonitors h))
+
+  pub pass-count : 1 ≤ n → n ≤ mostMonitors → headJudged frame bytes n ≡ from 1
+  unfolding headJudged
+  pass-count some few = holds-not _ _ Bad _ (ap₂ (λ (a b : Bool). not (a && b)) (le-leb 1 n some) (le-leb n mostMonitors few))
+
+  pub stop-short : bytes < 4 → from 1 ≡ Bad FrameShort
+  stop-short h = holds-here _ _ Bad _ (lt-ltb _ _ h)
+
+  pub pass-short : 4 ≤ bytes → from 1 ≡ from 2
+  pass-short h = holds-not _ _ Bad _ (le-ltb _ _ h)
+
+  pub stop-command : commandRight (take 4 frame) ≡ false → from 2 ≡ Bad CommandWrong
+  stop-command e = holds-here _ _ Bad _ (ap not e)
+
+  pub pass-command : commandRight (take 4 frame) ≡ true → from 2 ≡ from 3
+  pass-command e = holds-not _ _ Bad _ (ap not e)
+
+  pub stop-listed : isListed (commandIn frame) ≡ false → from 3 ≡ Bad CodeNotListed
+  stop-listed e = holds-here _ _ Bad _ (ap not e)
+
+  pub pass-listed : isListed (commandIn frame) ≡ true → from 3 ≡ from 4
+  pass-listed e = holds-not _ _ Bad _ (ap not e)
+
+  pub stop-length : (bytes ≡ frameLength (commandIn frame) n → ⊥) → from 4 ≡ Bad LengthWrong
+  stop-length h = holds-here _ _ Bad _ (ap not (ne-eqb _ _ h))
+
+  pub pass-length : bytes ≡ frameLength (commandIn frame) n → from 4 ≡ Good (commandIn frame) n
+  pass-length e = holds-not _ _ Bad _ (ap not (eq-eqb _ _ e)) ∙ none-left Bad (Good (commandIn frame) n)
+
+-- what is known of a frame that none of them stops
+good-apart : (c : Command) (n : ℕ) (r : Refusal) → Good c n ≡ Bad r → ⊥
+good-apart c n r e = let z : _≡_ {A = ℕ} 0 1 = cc in omega arith
+
+pub record HeadGood (command : Command) (m : ℕ) (frame : List ℕ) (bytes n : ℕ) : Type 0 where
+  pub its : command ≡ commandIn frame
+  pub same : m ≡ n
+  pub some : 1 ≤ m
+  pub few : m ≤ mostMonitors
+  pub long : bytes ≡ frameLength command m
+
+module _ (frame : List ℕ) (bytes n : ℕ) {command : Command} {m : ℕ} (e : headJudged frame bytes n ≡ Good command m) where
+  passed : Passed (countRow n ∷ laterRows frame bytes n)
+  unfolding headJudged
+  passed = has-passed (countRow n ∷ laterRows frame bytes n) Bad (Good (commandIn frame) n) (Good command m) (good-apart command m) e
+
+  the-good : Good (commandIn frame) n ≡ Good command m
+  unfolding headJudged
+  the-good = sym (passes (countRow n ∷ laterRows frame bytes n) Bad (Good (commandIn frame) n) passed) ∙ e
+
+  pub head-good : HeadGood command m frame bytes n
+  head-good =
+      let same-good = the-good in
+      let its : command ≡ commandIn frame = cc in
+      let same : m ≡ n = cc in
+      let two = both (leb 1 n) (leb n mostMonitors) (not-false _ (passed .0)) in
+      let long : bytes ≡ frameLength (commandIn frame) n = eqb-true _ _ (not-false _ (passed .1 .1 .1 .1 .0)) in
+      record {
+        its = its;
+        same = same;
+        some = subst⁻¹ (λ (x : ℕ). 1 ≤ x) same (leb-true 1 n (two .0));
+        few = subst⁻¹ (λ (x : ℕ). x ≤ mostMonitors) same (leb-true n mostMonitors (two .1));
+        long = long ∙ ap₂ frameLength (sym its) (sym same);
+      }
+
+-- ---- by a sound table's count: the engines' first refusal is that the table is not sound
+
+module _ (table frame : List ℕ) (bytes : ℕ) {n : ℕ} (counted : n ≡ cond (sound table) (monitors table) 0) where
+  -- the refusals of an engine of which the first holds where b
+  abbrev pub by-engine : Bool → Judged
+  by-engine b = decide ((b gives TableNotSound) ∷ laterRows frame bytes (monitors table)) Bad (Good (commandIn frame) (monitors table))
+
+  pub by-head : by-engine (not (sound table)) ≡ headJudged frame bytes n
+  by-head = go (sound table) refl
+    where
+      go : (b : Bool) → sound table ≡ b → by-engine (not (sound table)) ≡ headJudged frame bytes n
+      go true e =
+          let count : n ≡ monitors table = count-is table counted e in
+          let some : 1 ≤ n = subst⁻¹ (λ (x : ℕ). 1 ≤ x) count (is-sound table e .some) in
+          let few : n ≤ mostMonitors = subst⁻¹ (λ (x : ℕ). x ≤ mostMonitors) count (is-sound table e .few) in
+          holds-not _ _ Bad _ (ap not e)
+          ∙ ap (λ (m : ℕ). decide (laterRows frame bytes m) Bad (Good (commandIn frame) m)) (sym count)
+          ∙ sym (pass-count frame bytes n some few)
+      go false e =
+          let none : n < 1 = omega (arith, counted ∙ ap (λ (b : Bool). cond b (monitors table) 0) e) in
+          holds-here _ _ Bad _ (ap not e) ∙ sym (stop-few frame bytes n none)
+
+-- ---- refusal 6, where the whole frame is there
 
 module _ (table frame : List ℕ) (room : ℕ) where
-  -- what the refusals from the k-th on say
-  abbrev from : ℕ → Judged
-  from k = decide (drop k (frameRefusals table frame room)) Bad (Good (commandIn frame) (monitors table))
+  abbrev next : Judged → Judged
+  next (Bad r) = Bad r
+  next (Good c n) = decide (roomRow room c n ∷ []) Bad (Good c n)
 
-  pub stop-1 : sound table ≡ false → judged table frame room ≡ Bad TableNotSound
+  module _ {n : ℕ} (counted : n ≡ cond (sound table) (monitors table) 0) {j : Judged} (e : headJudged frame (length frame) n ≡ j) where
+    by-room : judged table frame room ≡ next j
+    unfolding judged frameRefusals
+    by-room =
+        decide-append (tableRow table ∷ laterRows frame (length frame) (monitors table)) (roomRow room (commandIn frame) (monitors table) ∷ []) Bad (Good (commandIn frame) (monitors table))
+        ∙ sym (decide-map next (tableRow table ∷ laterRows frame (length frame) (monitors table)) Bad (Good (commandIn frame) (monitors table)))
+        ∙ ap next (by-head table frame (length frame) counted ∙ e)
+
+  module _ {n : ℕ} (counted : n ≡ cond (sound table) (monitors table) 0) where
+    pub stop-head : {r : Refusal} → headJudged frame (length frame) n ≡ Bad r → judged table frame room ≡ Bad r
+    stop-head e = by-room counted e
+
+    module _ {c : Command} {m : ℕ} (e : headJudged frame (length frame) n ≡ Good c m) where
+      pub stop-room : room < replyLength c m → judged table frame room ≡ Bad NoRoom
+      stop-room h = by-room counted e ∙ holds-here (roomRow room c m) [] Bad (Good c m) (lt-ltb _ _ h)
+
+      pub pass-room : replyLength c m ≤ room → judged table frame room ≡ Good c m
+      pass-room h = by-room counted e ∙ holds-not (roomRow room c m) [] Bad (Good c m) (le-ltb _ _ h) ∙ none-left Bad (Good c m)
+
+  -- a table that is not sound stops every frame
+  pub stop-unsound : sound table ≡ false → judged table frame room ≡ Bad TableNotSound
   unfolding judged frameRefusals
-  stop-1 e = holds-here _ _ Bad _ (ap not e)
-
-  pub pass-1 : sound table ≡ true → judged table frame room ≡ from 1
-  unfolding judged frameRefusals
-  pass-1 e = holds-not _ _ Bad _ (ap not e)
-
-  pub stop-2 : length frame < 4 → from 1 ≡ Bad FrameShort
-  unfolding frameRefusals
-  stop-2 h = holds-here _ _ Bad _ (lt-ltb _ _ h)
-
-  pub pass-2 : 4 ≤ length frame → from 1 ≡ from 2
-  unfolding frameRefusals
-  pass-2 h = holds-not _ _ Bad _ (le-ltb _ _ h)
-
-  pub stop-3 : commandRight (take 4 frame) ≡ false → from 2 ≡ Bad CommandWrong
-  unfolding frameRefusals
-  stop-3 e = holds-here _ _ Bad _ (ap not e)
-
-  pub pass-3 : commandRight (take 4 frame) ≡ true → from 2 ≡ from 3
-  unfolding frameRefusals
-  pass-3 e = holds-not _ _ Bad _ (ap not e)
-
-  pub stop-4 : isListed (commandIn frame) ≡ false → from 3 ≡ Bad CodeNotListed
-  unfolding frameRefusals
-  stop-4 e = holds-here _ _ Bad _ (ap not e)
-
-  pub pass-4 : isListed (commandIn frame) ≡ true → from 3 ≡ from 4
-  unfolding frameRefusals
-  pass-4 e = holds-not _ _ Bad _ (ap not e)
-
-  pub stop-5 : (length frame ≡ frameLength (commandIn frame) (monitors table) → ⊥) → from 4 ≡ Bad LengthWrong
-  unfolding frameRefusals
-  stop-5 h = holds-here _ _ Bad _ (ap not (ne-eqb _ _ h))
-
-  pub pass-5 : length frame ≡ frameLength (commandIn frame) (monitors table) → from 4 ≡ from 5
-  unfolding frameRefusals
-  pass-5 e = holds-not _ _ Bad _ (ap not (eq-eqb _ _ e))
-
-  pub stop-6 : room < replyLength (commandIn frame) (monitors table) → from 5 ≡ Bad NoRoom
-  unfolding frameRefusals
-  stop-6 h = holds-here _ _ Bad _ (lt-ltb _ _ h)
-
-  pub pass-6 : replyLength (commandIn frame) (monitors table) ≤ room → from 5 ≡ Good (commandIn frame) (monitors table)
-  unfolding frameRefusals
-  pass-6 h = holds-not _ _ Bad _ (le-ltb _ _ h) ∙ none-left Bad (Good (commandIn frame) (monitors table))
+  stop-unsound e = holds-here _ _ Bad _ (ap not e)
 
 -- the monitor's answer on a frame's length, for no more monitors than a chain has
 pub within-most : (n l : ℕ) {r : ℕ} → n ≤ mostMonitors → r ≡ cond (leb n mostMonitors) l 0 → r ≡ l

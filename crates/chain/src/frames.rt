@@ -12,6 +12,7 @@ ghost use Rattle.monitor.specs.Reply.{reply};
 ghost use Rattle.chain.specs.Frame.{commandIn, payloadsIn, replyLength, takenBy, kept, replied, answer, tableAfter, replyAfter};
 ghost use Rattle.chain.specs.Judged.{judged, ReadyIf, Ready};
 use crate::alone::serve_at;
+use crate::heads::judge_head;
 use crate::tables::sound_count;
 use monitor::Command;
 use monitor::PAYLOAD_SIZE;
@@ -58,27 +59,15 @@ fn judge(table: &[u8], frame: &[u8], room: usize) -> Judged
     ensures { λ r. ⌜ r ≡ judged (now (table .entry)) (now (frame .entry)) room ⌝ }
     ensures { λ r. ⌜ ReadyIf r (now (table .entry)) (now (frame .entry)) room ⌝ }
 {
-    let n = sound_count(table);
-    if n == 0 {
-        return Judged::Bad(Refusal::TableNotSound);
+    match judge_head(frame, frame.len(), sound_count(table)) {
+        Judged::Bad(refusal) => Judged::Bad(refusal),
+        Judged::Good(command, n) => {
+            if room < reply_length(command, n) {
+                return Judged::Bad(Refusal::NoRoom);
+            }
+            Judged::Good(command, n)
+        }
     }
-    if frame.len() < 4 {
-        return Judged::Bad(Refusal::FrameShort);
-    }
-    if !pec::command_right(&frame[..4]) {
-        return Judged::Bad(Refusal::CommandWrong);
-    }
-    let command = command_in(frame);
-    if !monitor::is_listed(command) {
-        return Judged::Bad(Refusal::CodeNotListed);
-    }
-    if frame.len() != monitor::frame_length(command, n) {
-        return Judged::Bad(Refusal::LengthWrong);
-    }
-    if room < reply_length(command, n) {
-        return Judged::Bad(Refusal::NoRoom);
-    }
-    Judged::Good(command, n)
 }
 
 // The replies of n monitors to a read, nearest monitor first.

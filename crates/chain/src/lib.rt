@@ -2,6 +2,7 @@
 // a command alone, and the load.
 mod alone;
 mod frames;
+mod heads;
 mod loads;
 mod numbers;
 mod tables;
@@ -10,8 +11,10 @@ pub use alone::reply_all;
 pub use alone::reply_size;
 pub use alone::serve_at;
 pub use frames::Answer;
+pub use frames::Judged;
 pub use frames::command_in;
 pub use frames::handle;
+pub use heads::judge_head;
 pub use loads::Loaded;
 pub use loads::load;
 pub use numbers::Numbers;

@@ -12,8 +12,8 @@ use Rattle.chain.specs.declared.frames.Answer.{Answer}
 use Rattle.chain.specs.declared.frames.Answer.the-variants.{Refused, Accepted}
 use Rattle.chain.specs.Table.{monitors}
 use Rattle.chain.specs.Frame.{commandIn, replyLength}
-use Rattle.clocked.specs.declared.releases.Judged.{Judged}
-use Rattle.clocked.specs.declared.releases.Judged.the-variants.{Bad, Good}
+use Rattle.chain.specs.declared.frames.Judged.{Judged}
+use Rattle.chain.specs.declared.frames.Judged.the-variants.{Bad, Good}
 use Rattle.clocked.specs.Clock.{Clock}
 use Rattle.clocked.specs.Release.{releaseRefusals, takenOf, keptOf, released, tableReleased}
 use Rattle.clocked.specs.Judged.{judged}

@@ -23,7 +23,7 @@ use Rattle.chain.specs.Table.{monitors, sound}
 use Rattle.chain.specs.Frame.{commandIn, commandRow, roomRow, frameRefusals}
 use Rattle.chain.proofs.Soundness.{is-sound}
 use Rattle.clocked.specs.Clock.{Clock, start, chainedBy, mostSeen}
-use Rattle.clocked.specs.Release.{another, releaseRefusals}
+use Rattle.clocked.specs.Release.{anotherCount, another, releaseRefusals}
 use Rattle.clocked.specs.Frames.{clockedAll, settleRefusals}
 use Rattle.clocked.proofs.Known.{chained-sound}
 use Rattle.clocked.proofs.Run.{seen-short, run}
@@ -62,7 +62,7 @@ module _ (table frame : List ℕ) where
   module _ (s : sound table ≡ true) where
     -- the release meets the table that the frame met
     same-table : Dec (length frame < 4) → another clock table ≡ false
-    unfolding another
+    unfolding anotherCount
     same-table (yes h) = ap (λ (b : Bool). b && not (eqb (clock .chained) (monitors table))) (lt-leb 4 (clock .seen) (omega (arith, seen-short table frame h)))
     same-table (no h) =
         let its : clock .chained ≡ monitors table = ap (λ (c : Clock). c .chained) (run table frame (omega arith)) ∙ chained-sound table s in

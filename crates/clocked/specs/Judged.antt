@@ -9,8 +9,8 @@ use Rattle.monitor.specs.Record.{recordSize}
 use Rattle.monitor.specs.Commands.{mostMonitors}
 use Rattle.chain.specs.Table.{monitors}
 use Rattle.chain.specs.Frame.{commandIn}
-use Rattle.clocked.specs.declared.releases.Judged.{Judged}
-use Rattle.clocked.specs.declared.releases.Judged.the-variants.{Bad, Good}
+use Rattle.chain.specs.declared.frames.Judged.{Judged}
+use Rattle.chain.specs.declared.frames.Judged.the-variants.{Bad, Good}
 use Rattle.clocked.specs.Clock.{Clock}
 use Rattle.clocked.specs.Release.{releaseRefusals}
 

@@ -17,9 +17,13 @@ use Rattle.chain.specs.Table.{monitors, sound}
 use Rattle.chain.specs.Frame.{commandIn, replyLength, shortRow, commandRow, listedRow, lengthRow}
 use Rattle.clocked.specs.Clock.{Clock}
 
+-- at byte four the count was another than n; it was 0 where the table was not sound
+unfoldable pub anotherCount : Clock → ℕ → Bool
+anotherCount c n = leb 4 (c .seen) && not (eqb (c .chained) n)
+
 -- the table was not sound, or had another N, at byte four
-unfoldable pub another : Clock → List ℕ → Bool
-another c table = leb 4 (c .seen) && not (eqb (c .chained) (monitors table))
+abbrev pub another : Clock → List ℕ → Bool
+another c table = anotherCount c (monitors table)
 
 unfoldable pub releaseRefusals : Clock → List ℕ → List Row
 releaseRefusals c table =

@@ -8,7 +8,7 @@ ghost use Rattle.monitor.specs.Record.{recordSize};
 ghost use Rattle.monitor.specs.Commands.{mostMonitors};
 ghost use Rattle.monitor.specs.Effects.{takes, keeps};
 ghost use Rattle.clocked.specs.Judged.{judged, ReadyIf};
-ghost use Rattle.clocked.specs.Release.{released, tableReleased};
+ghost use Rattle.clocked.specs.Release.{anotherCount, released, tableReleased};
 ghost use Rattle.clocked.specs.State.{stateSize, chainedIn, idle, clockOf};
 use crate::looks::window_in;
 use crate::state::HEAD;
@@ -18,44 +18,32 @@ use crate::state::chained_in;
 use crate::state::seen_in;
 use crate::state::start;
 use chain::Answer;
+use chain::Judged;
 use monitor::Command;
 use refusals::Refusal;
 
-// What the refusals say of a release: the first that holds, or the command and the number of monitors.
-pub enum Judged {
-    Bad(Refusal),
-    Good(Command, usize),
+// Was the table that was lent with byte four one of another count?
+fn another_count(state: &[u8], n: usize) -> bool
+    requires { ⌜ length (now state) ≡ stateSize ⌝ }
+    ensures { λ r. ⌜ r ≡ anotherCount (clockOf (now (state .entry))) n ⌝ }
+{
+    if seen_in(state) < 4 {
+        return false;
+    }
+    chained_in(state) != n
 }
 
-// The refusals in the paper's order. Byte four has come where the table's N is compared with the one that it noted.
+// The refusals in the paper's order: the table's, and then those of the first four bytes.
 pub(crate) fn judge(state: &[u8], table: &[u8]) -> Judged
     requires { ⌜ length (now state) ≡ stateSize ⌝ }
     ensures { λ r. ⌜ r ≡ judged (clockOf (now (state .entry))) (now (table .entry)) ⌝ }
     ensures { λ r. ⌜ ReadyIf r (clockOf (now (state .entry))) (now (table .entry)) ⌝ }
 {
     let n = chain::sound_count(table);
-    if n == 0 {
+    if another_count(state, n) {
         return Judged::Bad(Refusal::TableNotSound);
     }
-    let seen = seen_in(state);
-    if seen < 4 {
-        return Judged::Bad(Refusal::FrameShort);
-    }
-    if chained_in(state) != n {
-        return Judged::Bad(Refusal::TableNotSound);
-    }
-    let head = &state[HEAD..WINDOWS];
-    if !pec::command_right(head) {
-        return Judged::Bad(Refusal::CommandWrong);
-    }
-    let command = chain::command_in(head);
-    if !monitor::is_listed(command) {
-        return Judged::Bad(Refusal::CodeNotListed);
-    }
-    if seen != monitor::frame_length(command, n) {
-        return Judged::Bad(Refusal::LengthWrong);
-    }
-    Judged::Good(command, n)
+    chain::judge_head(&state[HEAD..WINDOWS], seen_in(state), n)
 }
 
 // Every monitor acts on its own window, and those that took the command are counted.

@@ -95,6 +95,7 @@ pub record Promises : Type 2 where
   load : Promised chain.load.Statement.statement chain.load.Reads.Asked
   serve-at : Promised chain.serve_at.Statement.statement chain.serve_at.Reads.Asked
   reply-all : Promised chain.reply_all.Statement.statement chain.reply_all.Reads.Asked
+  judge-head : Promised chain.judge_head.Statement.statement chain.judge_head.Reads.Asked
   handle : Promised chain.handle.Statement.statement chain.handle.Reads.Asked
   -- clocked
   start : Promised clocked.start.Statement.statement clocked.start.Reads.Asked
@@ -196,6 +197,7 @@ proved =
       load = (λ M. chain.load.Met.met, λ κ a. tt);
       serve-at = (λ M. chain.serve_at.Met.met, λ κ a. tt);
       reply-all = (λ M. chain.reply_all.Met.met, λ κ a. tt);
+      judge-head = (λ M. chain.judge_head.Met.met, λ κ a. tt);
       handle = (λ M. chain.handle.Met.met, λ κ a. tt);
       start = (λ M. clocked.start.Met.met, λ κ a. tt);
       clock = (λ M. clocked.clock.Met.met, λ κ a. tt);

@@ -21,7 +21,7 @@ use Rattle.chain.specs.declared.frames.Answer.the-variants.{Accepted}
 use Rattle.chain.specs.Table.{monitors, sound}
 use Rattle.chain.specs.Frame.{commandIn, tableAfter, replyAfter}
 use Rattle.chain.specs.Load.{tableAfterLoad}
-use Rattle.chain.proofs.Judging.{stop-1}
+use Rattle.chain.proofs.Judging.{stop-unsound}
 use Rattle.chain.proofs.Keeps.{Keeps, frame-keeps, load-keeps, monitors-after-frame, monitors-after-load}
 use Rattle.chain.proofs.LoadJudging.{stop-1 as load-stop-1, the-table as load-table}
 use Rattle.chain.proofs.Outcome.{the-table}
@@ -71,7 +71,7 @@ module _ (table : List ℕ) where
 
   as-many-frame : (frame buffer : List ℕ) → monitors (tableAfter table frame (length buffer)) ≡ monitors table
   as-many-frame frame buffer =
-      either-table (monitors-after-frame table frame (length buffer)) (λ e. the-table table frame buffer (stop-1 table frame (length buffer) e))
+      either-table (monitors-after-frame table frame (length buffer)) (λ e. the-table table frame buffer (stop-unsound table frame (length buffer) e))
 
   as-many-load : (position : ℕ) (codes : List ℤ) → monitors (tableAfterLoad table position codes) ≡ monitors table
   as-many-load position codes =

@@ -67,6 +67,7 @@ pub record OneOutcome : Type 0 where
   sound-count : Settles chain.sound_count.Reads.Post (λ κ z e. leaves z [])
   command-in : Settles chain.command_in.Reads.Post (λ κ z e. leaves z [])
   reply-size : Settles chain.reply_size.Reads.Post (λ κ z e. leaves z [])
+  judge-head : Settles chain.judge_head.Reads.Post (λ κ z e. leaves z [])
   numbers-of : Settles chain.numbers_of.Reads.Post (λ κ z e. leaves z [])
   load-number : Settles chain.load_number.Reads.Post (λ κ z e. leaves z [])
   load : Settles chain.load.Reads.Post (λ κ z e. leaves z (now (e .0) ∷ []))
@@ -138,6 +139,7 @@ one-outcomes =
       sound-count = λ κ a z z' e e'. result;
       command-in = λ κ a z z' e e'. result;
       reply-size = λ κ a z z' e e'. result;
+      judge-head = λ κ a z z' e e'. result;
       numbers-of = λ κ a z z' e e'. result;
       load-number = λ κ a z z' e e'. result;
       load = λ κ a z z' e e'. and-one;

@@ -3,12 +3,13 @@
 -- monitor's part of the reply is right.
 -- Assumes nothing.
 use mathlib.Core.Path.{_≡_, refl, sym, ap, ap₂, _∙_, subst}
-use mathlib.Core.Bool.{Bool, true, cond}
+use mathlib.Core.Bool.{Bool, true, cond, not}
 use mathlib.Core.List.{List, [], _∷_, map}
 use Prim.Native.Nat.{ℕ, suc, _+_, _-_, _*_, _≤_, _<_}
 use native.Mathlib.Numerals.{one-add}
 use native.Mathlib.Omega.{arith}
 use lib.ListN.{length, getD, drop}
+use borrow.Author.Tests.{le-ltb, eq-eqb}
 use Rattle.laws.specs.Counts.{count}
 use Rattle.laws.specs.Rows.{rows, rowAt}
 use Rattle.laws.specs.Tables.{tabulate}
@@ -17,6 +18,7 @@ use Rattle.laws.proofs.Rows.{Every, length-rows, every-rows, row-at}
 use Rattle.pec.specs.Words.{payloadRight}
 use Rattle.pec.proofs.CheckWords.{seal-right}
 use Rattle.wire.proofs.Order.{write-at}
+use Rattle.refusals.proofs.Deciding.{passes}
 use Rattle.monitor.specs.declared.commands.Command.{Command}
 use Rattle.monitor.specs.declared.commands.Command.the-variants.{Reads, Writes}
 use Rattle.monitor.specs.declared.commands.Write.{Write}
@@ -26,12 +28,11 @@ use Rattle.monitor.specs.Commands.{commands, commandOf, isListed, payloadSize, 
 use Rattle.monitor.specs.Effects.{keeps}
 use Rattle.monitor.specs.Reply.{register, reply}
 use Rattle.chain.specs.declared.frames.Answer.the-variants.{Accepted}
-use Rattle.chain.specs.declared.frames.Judged.the-variants.{Good}
+use Rattle.chain.specs.declared.frames.Judged.the-variants.{Bad, Good}
 use Rattle.chain.specs.Table.{monitors, sound}
-use Rattle.chain.specs.Frame.{commandIn, payloadsIn, replyLength, takenBy, kept, replied, answer, tableAfter, replyAfter}
+use Rattle.chain.specs.Frame.{commandIn, payloadsIn, replyLength, takenBy, kept, replied, frameRefusals, answer, tableAfter, replyAfter}
 use Rattle.chain.specs.Judged.{judged}
 use Rattle.chain.proofs.Soundness.{is-sound}
-use Rattle.chain.proofs.Judging.{pass-1, pass-2, pass-3, pass-4, pass-5, pass-6}
 use Rattle.chain.proofs.Outcome.{head, the-answer, the-table, the-buffer}
 use Rattle.chain.proofs.OwnBytes.{own-record, own-reply}
 use Rattle.chain.proofs.Taken.{taken-read}
@@ -56,16 +57,29 @@ module _ (table values buffer : List ℕ) (code : ℕ) (c : Command) (its : comm
       ∙ ap (λ (k : Command). frameLength k (monitors table)) its
 
   pub judged-good : judged table frame (length buffer) ≡ Good c (monitors table)
+  unfolding judged frameRefusals
   judged-good =
       let n = monitors table in
       let room = length buffer in
       let four : 4 ≤ length frame = omega (arith, frame-length, head c n) in
-      pass-1 table frame room is-sound-table
-      ∙ pass-2 table frame room four
-      ∙ pass-3 table frame room (frame-right code n values)
-      ∙ pass-4 table frame room (ap isListed command-in ∙ listed)
-      ∙ pass-5 table frame room (frame-length ∙ ap (λ (k : Command). frameLength k n) (sym command-in))
-      ∙ pass-6 table frame room (subst (λ (k : Command). replyLength k n ≤ room) (sym command-in) enough)
+      let long : length frame ≡ frameLength (commandIn frame) n = frame-length ∙ ap (λ (k : Command). frameLength k n) (sym command-in) in
+      let fits : replyLength (commandIn frame) n ≤ room = subst (λ (k : Command). replyLength k n ≤ room) (sym command-in) enough in
+      passes (frameRefusals table frame room) Bad (Good (commandIn frame) n) (
+        ap not is-sound-table,
+        (
+          le-ltb _ _ four,
+          (
+            ap not (frame-right code n values),
+            (
+              ap not (ap isListed command-in ∙ listed),
+              (
+                ap not (eq-eqb _ _ long),
+                (le-ltb _ _ fits, tt),
+              ),
+            ),
+          ),
+        ),
+      )
       ∙ ap (λ (k : Command). Good k n) command-in
 
   pub accepted : answer table frame (length buffer) ≡ Accepted (takenBy c (monitors table) frame) (replyLength c (monitors table))

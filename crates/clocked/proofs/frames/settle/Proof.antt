@@ -8,7 +8,7 @@ use lib.ListN.{length, take, drop}
 use lib.Seq.{length-take-le}
 use Rattle.bytes.proofs.Placed.{laid, placed-first}
 use Rattle.monitor.specs.Commands.{mostMonitors, payloadSize}
-use Rattle.clocked.specs.declared.releases.Judged.{Judged}
+use Rattle.chain.specs.declared.frames.Judged.{Judged}
 use Rattle.clocked.specs.Judged.{ReadyIf}
 use Rattle.clocked.specs.State.{clockOf}
 use Rattle.clocked.proofs.Settling.{its-size, size-fits, settled-refusal, settled-room, settled-none}

@@ -3,7 +3,7 @@
 use mathlib.Core.Path.{sym, ap₂, _∙_, subst}
 use Rattle.chain.specs.declared.frames.Answer.the-variants.{Accepted}
 use Rattle.chain.proofs.Judging.{within-most}
-use Rattle.clocked.specs.declared.releases.Judged.{Judged}
+use Rattle.chain.specs.declared.frames.Judged.{Judged}
 use Rattle.clocked.specs.State.{clockOf}
 use Rattle.clocked.specs.Judged.{ReadyIf}
 use Rattle.clocked.proofs.ReleaseOutcome.{the-answer, the-table}
