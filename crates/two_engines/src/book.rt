@@ -1,15 +1,15 @@
-// What a run keeps, in one array: the generator's last number, the digests, and the counts.
+// What a run keeps, in one array: the generator's last number, the digests, and the counts. A constant names each place.
 ghost use Prim.Native.Nat.{_<_, _≤_};
 use chain::Numbers;
 
-// What goes on from one N to the next. The frames and differences of all, and the digests: of the whole-frame engine, of the clocked
-// engine as it drives itself, and of the one clocked by hand.
+// What goes on from one N to the next: the generator's last number, and then what is said at the end.
 pub(crate) const LUCK: usize = 0;
 
 pub(crate) const ALL_FRAMES: usize = 1;
 
 pub(crate) const ALL_DIFFERENCES: usize = 2;
 
+// The digests: of the whole-frame engine, of the clocked engine as it drives itself, and of the one clocked by hand.
 pub(crate) const WHOLE: usize = 3;
 
 pub(crate) const CLOCKED: usize = 4;
@@ -80,7 +80,7 @@ pub(crate) fn turned(book: Book, n: usize) -> Book {
     next
 }
 
-// No count here comes near the largest number: the test only spares each caller a bound.
+// A sum. No count here comes near the largest number: the test only spares each caller a bound.
 fn plus(one: usize, other: usize) -> usize {
     if other <= usize::MAX - one {
         one + other
@@ -102,7 +102,8 @@ pub(crate) fn refused(number: u8) -> usize
     if number == 0 { 0 } else { 1 }
 }
 
-pub(crate) fn differ(book: &mut Book, alike: bool) {
+// Counts a difference where two things that were compared are not alike.
+pub(crate) fn compared(book: &mut Book, alike: bool) {
     if !alike {
         count(book, DIFFERENCES, 1);
         count(book, ALL_DIFFERENCES, 1);

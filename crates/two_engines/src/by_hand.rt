@@ -10,7 +10,7 @@ use crate::engines::BEFORE;
 use crate::engines::Outcome;
 use crate::engines::REPLY_ROOM;
 use crate::engines::compare;
-use crate::engines::unchanged;
+use crate::engines::no_reply;
 use crate::engines::whole;
 use crate::luck::draw;
 use crate::luck::fill;
@@ -35,8 +35,8 @@ fn another(n: usize) -> usize
     if n == 1 { 2 } else { n - 1 }
 }
 
-// Another N at the release; an unsound table at byte four; none with the other bytes, which matter not; an unsound table at the
-// release; another N at byte four; and all as for a whole frame.
+// The ways: another N at the release; an unsound table at byte four; none with the other bytes, which matter not; an unsound table at
+// the release; another N at byte four; and else all as for a whole frame.
 fn lent_in(way: usize, n: usize) -> Lent
     requires { ⌜ (0 < n) × (n ≤ 32) ⌝ }
     ensures { λ r. ⌜ (r .four ≤ 2241) × (r .others ≤ 2241) × (r .release ≤ 2241) ⌝ }
@@ -131,7 +131,16 @@ fn clock_one(state: &mut [u8; STATE_SIZE], table: &[u8], l: Lent, i: usize, byte
     clocked::clock(state, &table[0..others], byte)
 }
 
-// Every byte of a frame. What is answered after the fourth goes to the start of a buffer, as far as it has room.
+// What is answered after the fourth byte goes to the start of a buffer, as far as it has room.
+fn put_back(back: &mut [u8], i: usize, byte: u8) {
+    if 4 <= i {
+        if i - 4 < back.len() {
+            back[i - 4] = byte;
+        }
+    }
+}
+
+// Every byte of a frame.
 fn clock_all(
     state: &mut [u8; STATE_SIZE],
     table: &[u8],
@@ -150,14 +159,6 @@ fn clock_all(
         put_back(back, i, byte);
         now_and_then_look(state, n, book);
         i += 1;
-    }
-}
-
-fn put_back(back: &mut [u8], i: usize, byte: u8) {
-    if 4 <= i {
-        if i - 4 < back.len() {
-            back[i - 4] = byte;
-        }
     }
 }
 
@@ -183,7 +184,7 @@ fn by_hand(
     let mut table = before;
     let came = release(state, &mut table, l.release);
     if came.reply == 0 {
-        return unchanged(came, table);
+        return no_reply(came, table);
     }
     Outcome { came, table, reply }
 }
@@ -196,15 +197,20 @@ fn give_up(state: &mut [u8; STATE_SIZE], book: &mut Book) {
     }
 }
 
-// What is to come of it: the same as of the whole frame; where the lent tables forbid that, refusal 1, or 2 before byte four.
-fn due(table: Table, l: Lent, came: Numbers, frame: &[u8]) -> Outcome
+// What is to come of it: the same as of the whole frame; where the lent tables forbid that, refusal 1, or 2 of a sound table before
+// byte four.
+fn due(table: Table, l: Lent, frame: &[u8]) -> Outcome
     requires { ⌜ l .release ≤ 2241 ⌝ }
 {
     if l.plain {
         return whole(table, l.release, frame, REPLY_ROOM);
     }
-    let number = if came.number == 2 { 2 } else { 1 };
-    unchanged(
+    let number = if frame.len() < 4 && l.release % 70 == 0 {
+        2
+    } else {
+        1
+    };
+    no_reply(
         Numbers {
             number,
             taken: 0,
@@ -220,10 +226,9 @@ fn clock(state: &mut [u8; STATE_SIZE], table: Table, n: usize, frame: &[u8], boo
     give_up(state, book);
     let l = lent_in(draw(book, 8), n);
     let one = by_hand(state, table, l, n, frame, book);
-    let came = one.came;
-    book::numbered(book, book::NUMBERS_BY_HAND, came);
+    book::numbered(book, book::NUMBERS_BY_HAND, one.came);
     engines::digest(book, book::BY_HAND, one);
-    compare(book, one, due(table, l, came, frame));
+    compare(book, one, due(table, l, frame));
 }
 
 pub(crate) fn now_and_then(

@@ -34,7 +34,8 @@ pub(crate) struct Outcome {
     pub reply: [u8; REPLY_ROOM],
 }
 
-pub(crate) fn unchanged(came: Numbers, table: Table) -> Outcome {
+// An outcome with the reply buffer as it was.
+pub(crate) fn no_reply(came: Numbers, table: Table) -> Outcome {
     Outcome {
         came,
         table,
@@ -82,13 +83,13 @@ fn clocked(lent: Table, size: usize, frame: &[u8], room: usize) -> Outcome
 
 // Counts what differs: the numbers, any byte of the table, any byte of the buffer.
 pub(crate) fn compare(book: &mut Book, one: Outcome, other: Outcome) {
-    book::differ(book, book::same_numbers(one.came, other.came));
+    book::compared(book, book::same_numbers(one.came, other.came));
     let table = one.table;
     let other_table = other.table;
-    book::differ(book, check::same(&table, &other_table));
+    book::compared(book, check::same(&table, &other_table));
     let reply = one.reply;
     let other_reply = other.reply;
-    book::differ(book, check::same(&reply, &other_reply));
+    book::compared(book, check::same(&reply, &other_reply));
 }
 
 pub(crate) fn digest(book: &mut Book, place: usize, outcome: Outcome)
@@ -138,6 +139,6 @@ pub(crate) fn both(table: Table, n: usize, command: usize, frame: &[u8], book: &
         return one.table;
     }
     // a refusal changes nothing
-    compare(book, one, unchanged(came, lent));
+    compare(book, one, no_reply(came, lent));
     table
 }

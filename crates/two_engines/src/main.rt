@@ -1,5 +1,6 @@
-// Both engines on the same frames, for 1, 2, 3, 31 and 32 monitors: good frames of every command, frames damaged in every way that
-// has a number, loads between. What each is to come to is worked out by tools/two-engines-model, from the paper alone.
+// Both engines on the same generated frames, for 1, 2, 3, 31 and 32 monitors: good frames of every command, frames damaged in every
+// way that has a number, loads between. Printed: what became of the frames, how much differed, and digests of every table and reply.
+// What that must be is worked out by tools/two-engines-model, from the paper alone.
 mod book;
 mod by_hand;
 mod digest;
