@@ -1,14 +1,14 @@
 -- Document 01, "The clocked engine": what one byte does. All monitors see the first four bytes; what the later ones do is up to
 -- the command that the four hold. Nothing here knows a whole frame.
 -- Assumes nothing.
-use mathlib.Core.Bool.{Bool, cond}
+use mathlib.Core.Bool.{cond}
 use mathlib.Core.List.{List, [], _∷_, map}
 use Prim.Native.Nat.{ℕ, _+_, _*_}
 use lib.Dec.{eqb, ltb}
 use lib.ListN.{set}
 use Rattle.laws.specs.Rows.{rows}
 use Rattle.wire.specs.Windows.{empty, enter, leaves, draw}
-use Rattle.refusals.specs.Order.{Row, decide}
+use Rattle.refusals.specs.Order.{decide}
 use Rattle.monitor.specs.declared.commands.Command.{Command}
 use Rattle.monitor.specs.declared.commands.Command.the-variants.{Reads, Writes, Bares, Unlisted}
 use Rattle.monitor.specs.Record.{recordSize}
@@ -32,17 +32,17 @@ pub record Clock : Type 0 where
   -- the monitors' windows, nearest monitor first, each oldest byte first
   pub windows : List (List ℕ)
 
--- before a frame
+-- before a frame. No N is known yet, so there are no windows
 unfoldable pub start : Clock
 start = record { seen = 0; head = 0 ∷ 0 ∷ 0 ∷ 0 ∷ []; chained = 0; kind = Still; windows = [] }
 
--- what clocks a byte where there is none: the far end's, and the answer to what asks for none
+-- FF: what the last window draws, and the answer where nothing leaves monitor 1
 abbrev pub far : ℕ
 far = 0xFF
 
 -- ---- the first four bytes
 
--- a command is known when refusals 1, 3 and 4 do not hold
+-- a command is known when refusals 1, 3 and 4 do not hold; else it is `Unlisted`
 unfoldable pub known : List ℕ → List ℕ → Command
 known table head = decide (tableRow table ∷ commandRow head ∷ listedRow head ∷ []) (λ r. Unlisted) (commandIn head)
 

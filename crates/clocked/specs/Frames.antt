@@ -44,8 +44,8 @@ settled c table room = decide (settleRefusals c table room) Refused (Accepted (t
 unfoldable pub tableSettled : Clock → List ℕ → ℕ → List ℕ
 tableSettled c table room = decide (settleRefusals c table room) (λ r. table) (keptOf c table)
 
--- the reply is what came back; bytes past it stay
+-- the reply is what came back, as it was kept; bytes past it stay
 unfoldable pub bufferSettled : Clock → List ℕ → List ℕ → List ℕ → List ℕ
-bufferSettled c table back buffer =
+bufferSettled c table own buffer =
     decide (settleRefusals c table (length buffer)) (λ r. buffer)
-    (take (replyLength (commandIn (c .head)) (monitors table)) back ++ drop (replyLength (commandIn (c .head)) (monitors table)) buffer)
+    (take (replyLength (commandIn (c .head)) (monitors table)) own ++ drop (replyLength (commandIn (c .head)) (monitors table)) buffer)

@@ -1,4 +1,5 @@
--- A look at one monitor's window, at any time of a frame. Positions count from 1; before byte four no position is one.
+-- A look at one monitor's window, at any time of a frame. Positions count from 1; before byte four no position is one, nor where the
+-- table was not sound at byte four.
 -- Assumes nothing.
 use mathlib.Core.Bool.{not, _&&_}
 use mathlib.Core.List.{List, [], _∷_, _++_}

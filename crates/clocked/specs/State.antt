@@ -9,7 +9,6 @@ use lib.Dec.{eqb, leb, ltb}
 use lib.ListN.{getD, set, take, drop, replicate}
 use Rattle.wire.specs.Order.{writePayloads, replyParts}
 use Rattle.wire.specs.Windows.{empty, held}
-use Rattle.monitor.specs.declared.commands.Command.{Command}
 use Rattle.monitor.specs.Commands.{mostMonitors, payloadSize}
 use Rattle.chain.specs.Table.{monitors}
 use Rattle.chain.specs.Frame.{replied}

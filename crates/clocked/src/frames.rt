@@ -1,8 +1,7 @@
 // A whole frame clocked a byte at a time.
 ghost use mathlib.Core.Path.{_≡_};
-ghost use mathlib.Core.List.{_++_};
 ghost use Prim.Native.Nat.{_*_};
-ghost use lib.ListN.{length, take, drop};
+ghost use lib.ListN.{length};
 ghost use Rattle.monitor.specs.Commands.{mostMonitors, payloadSize};
 ghost use Rattle.chain.specs.Frame.{answer, tableAfter, replyAfter};
 ghost use Rattle.clocked.specs.Frames.{clockedAll, answeredAll, keptOne, keptBack, settled, tableSettled, bufferSettled};
@@ -66,7 +65,8 @@ fn settle(state: &[u8], table: &mut [u8], back: &[u8], buffer: &mut [u8]) -> Ans
     }
 }
 
-// Handles a frame as the chain does, by clocking it: the same answer, table and reply.
+// Handles a frame as the chain does, by clocking it: the same answer, table and reply. That it is clocked is promised of `start`,
+// `clock` and `release`, not here.
 pub fn handle(table: &mut [u8], frame: &[u8], buffer: &mut [u8]) -> Answer
     ensures { λ r. ⌜ r ≡ answer (now (table .entry)) (now (frame .entry)) (length (now (buffer .entry))) ⌝ }
     ensures { λ _. ⌜ now (table .exit) ≡ tableAfter (now (table .entry)) (now (frame .entry)) (length (now (buffer .entry))) ⌝ }

@@ -1,7 +1,7 @@
 -- Demand 1. Every frame, reply and reading, of any length and content, gets one answer and an end to the work. Bad frames are refused
 -- by number, and every lent buffer stays as it was lent. Three things are stated: every public function is proved to meet its own
--- contract, for all inputs, and leaves one outcome; the number it gives is that of the first condition that holds; and where it
--- refuses, every byte it was lent stays. Each is proved where it is cited from.
+-- contract, for all inputs, and leaves one outcome, which the definitions say; the number it gives is that of the first condition that
+-- holds; and where it refuses, every byte of a table or a buffer that it was lent stays. Each is proved where it is cited from.
 -- Assumes nothing.
 use mathlib.Core.Path.{_≡_, refl}
 use mathlib.Core.Bool.{false}
@@ -116,7 +116,7 @@ pub record Promises : Type 2 where
 -- ---- the demand
 
 pub record Demand1 : Type 2 where
-  -- every call comes to an end, and to what its contract says; that is one outcome
+  -- every call comes to an end, and to what its contract says; that is one outcome, told by the definitions that the demands speak of
   promises : Promises
   one-outcome : OneOutcome
   -- "A number is given exactly when its condition is the first to hold", and 0 where none holds

@@ -40,7 +40,7 @@ use Rattle.host.specs.Ports.{partA}
 use Rattle.host.specs.Parts.{bytesOf}
 use Rattle.story.specs.Numbers.{First}
 use Rattle.story.proofs.Accepted.{frame-refused, write-answer, read-answer, bare-answer, record-after, reply-own, reply-past, write-no-reply, bare-no-reply, load-done, load-own, load-others, host-writes}
-use Rattle.story.proofs.OurHost.{own-six, write-taken-by-all, each-keeps-its-own, reply-right, read-taken-by-all, each-reply-its-own, each-reply-right}
+use Rattle.story.proofs.OurHost.{own-six, write-taken-by-all, bare-taken-by-all, each-keeps-its-own, reply-right, read-taken-by-all, each-reply-its-own, each-reply-right}
 use Rattle.story.proofs.ReadBack.{written-and-read-back}
 use Rattle.story.proofs.BothEnds.{the-replies, handed-from-a, handed-from-b}
 use Rattle.story.proofs.EitherSide.{EitherSide, either-side}
@@ -115,6 +115,9 @@ pub record Demand2 : Type 0 where
       → length values ≡ dataSize * monitors table → (k : ℕ) → k < monitors table
       → rowAt recordSize k (tableAfter table (frameFor code (monitors table) values) (length buffer))
       ≡ keeps (Writes c) (sealed (rowAt dataSize k values)) (rowAt recordSize k table)
+  -- the chain accepts a bare command, and all N monitors take it
+  all-take-bare : (table buffer : List ℕ) (code : ℕ) (c : Bare) → commandOf code commands ≡ Bares c → sound table ≡ true
+      → answer table (frameFor code (monitors table) []) (length buffer) ≡ Accepted (monitors table) 0
   -- the chain accepts the read, and each monitor's part of the reply is what it replies, and right
   all-reply : (table buffer : List ℕ) (code : ℕ) (part : Part) → commandOf code commands ≡ Reads part → sound table ≡ true
       → payloadSize * monitors table ≤ length buffer
@@ -173,6 +176,7 @@ demand-2 =
       own-six = own-six;
       all-take = write-taken-by-all;
       each-keeps = each-keeps-its-own;
+      all-take-bare = bare-taken-by-all;
       all-reply = read-taken-by-all;
       each-replies = each-reply-its-own;
       each-right = each-reply-right;

@@ -4,7 +4,7 @@
 -- (Runs.antt), and the number of monitors stays, so that the reply buffer keeps its room.
 -- Assumes nothing.
 use mathlib.Core.Path.{_≡_, refl, sym, ap, _∙_, subst}
-use mathlib.Core.Bool.{Bool, true, false}
+use mathlib.Core.Bool.{Bool, true, false, cond}
 use mathlib.Core.List.{List, [], _∷_, map}
 use Prim.Native.Nat.{ℕ, _*_, _≤_}
 use native.Mathlib.Omega.{arith}
@@ -12,12 +12,13 @@ use lib.IntN.{ℤ}
 use lib.ListN.{length, drop}
 use Rattle.laws.specs.Rows.{rows}
 use Rattle.wire.specs.Order.{replyData}
+use Rattle.refusals.specs.declared.Refusal.the-variants.{TableNotSound}
 use Rattle.monitor.specs.declared.commands.Command.the-variants.{Reads}
 use Rattle.monitor.specs.declared.record.Part.{Part}
 use Rattle.monitor.specs.Record.{recordSize}
 use Rattle.monitor.specs.Commands.{mostMonitors, payloadSize}
 use Rattle.monitor.specs.Reply.{reply}
-use Rattle.chain.specs.declared.frames.Answer.the-variants.{Accepted}
+use Rattle.chain.specs.declared.frames.Answer.the-variants.{Refused, Accepted}
 use Rattle.chain.specs.Table.{monitors, sound}
 use Rattle.chain.specs.Frame.{commandIn, tableAfter, replyAfter}
 use Rattle.chain.specs.Load.{tableAfterLoad}
@@ -26,12 +27,13 @@ use Rattle.chain.proofs.Keeps.{Keeps, frame-keeps, load-keeps, monitors-after-f
 use Rattle.chain.proofs.LoadJudging.{stop-1 as load-stop-1, the-table as load-table}
 use Rattle.chain.proofs.Outcome.{the-table}
 use Rattle.chain.proofs.Soundness.{is-sound}
-use Rattle.clocked.specs.Clock.{Clock, clocked}
+use Rattle.clocked.specs.Clock.{Clock, chainedBy, clocked}
 use Rattle.clocked.specs.Release.{released}
 use Rattle.clocked.specs.State.{stateSize, clockOf, idle, stateAfter}
 use Rattle.clocked.proofs.View.{view}
 use Rattle.clocked.proofs.Whole.{released-read}
 use Rattle.story.specs.Runs.{Event, Frame, Load, Left, saw, Step, ruled, byRules, byFrames, stateAfterAll, cameBack, byBytes}
+use Rattle.story.proofs.ByteFour.{only-byte-four, at-byte-four, noted-stays, another-n}
 use Rattle.story.proofs.Runs.{frame-step, length-after, load-step, full, has-room, clock-whole, back-whole, clocked-step}
 
 -- ---- the demand. It asks for a sound table; the engines agree on any: one that is not sound is refused by both
@@ -50,6 +52,12 @@ pub record Demand3 : Type 0 where
   -- at every byte, not only at a release, the bytes of the state stand for the windows as the rules move them
   every-byte : (table : List ℕ) (byte : ℕ) (state : List ℕ) → length state ≡ stateSize
       → clockOf (stateAfter table byte state) ≡ clocked table byte (clockOf state)
+  -- N, and whether the command is known, are taken from the table lent with byte four: no other byte looks at a table
+  only-byte-four : (table other : List ℕ) (byte : ℕ) (c : Clock) → (c .seen ≡ 3 → ⊥) → clocked table byte c ≡ clocked other byte c
+  at-byte-four : (table : List ℕ) (byte : ℕ) (c : Clock) → c .seen ≡ 3 → clocked table byte c .chained ≡ cond (sound table) (monitors table) 0
+  noted-stays : (table : List ℕ) (byte : ℕ) (c : Clock) → (c .seen ≡ 3 → ⊥) → clocked table byte c .chained ≡ c .chained
+  -- a release with a table of another N, or after one that was not sound at byte four (0 was noted), is refusal 1
+  another-n : (c : Clock) (table : List ℕ) → 4 ≤ c .seen → (c .chained ≡ monitors table → ⊥) → released c table ≡ Refused TableNotSound
   -- of an accepted read all that came back after byte four is the reply, and no byte is left over
   all-is-reply : (table frame : List ℕ) (taken bytes : ℕ) (part : Part) → commandIn frame ≡ Reads part
       → released (clockOf (stateAfterAll table frame idle)) table ≡ Accepted taken bytes
@@ -121,6 +129,7 @@ rules-keep table (event ∷ events) s =
 -- ---- the answer
 
 pub demand-3 : Demand3
+unfolding chainedBy
 demand-3 =
     record {
       one-to-32 = λ table s. (is-sound table s .some, is-sound table s .few);
@@ -128,6 +137,10 @@ demand-3 =
       by-bytes = bytes-by-rules;
       alike = λ table buffer state events room. frames-by-rules table buffer events room ∙ sym (bytes-by-rules table state events);
       every-byte = view;
+      only-byte-four = only-byte-four;
+      at-byte-four = at-byte-four;
+      noted-stays = noted-stays;
+      another-n = another-n;
       all-is-reply = λ table frame taken bytes part c e.
           ap (drop 4) (back-whole table frame)
           ∙ released-read table frame taken bytes (ap (λ (clock : Clock). released clock table) (sym (clock-whole table frame)) ∙ e) part c;

@@ -9,4 +9,5 @@ pub mod Accepted
 pub mod Runs
 pub mod Demand1
 pub mod Demand2
+pub mod ByteFour
 pub mod Demand3

@@ -1,25 +1,48 @@
--- Document 01, "Nothing left to choose": two outcomes that meet the same promise are equal, for every public function of every
--- library. A promise is a function's own `ensures`, as Rattle reads it: `Reads.Post κ a z e` is what they ask of what comes back, z,
--- and of the parameters at exit, e, for the arguments a. Each is an equation with a definition of what went in, so one law does all.
+-- What every public function promises, by the definitions, and that it leaves nothing to choose. A promise is a function's own
+-- `ensures`, as Rattle reads it: `Reads.Post κ a z e` is what they ask of what comes back, z, and of the parameters at exit, e, for the
+-- arguments a. Each line says that it gives exactly what stands there, so that what the demands say of the definitions they say of
+-- the functions; and that two outcomes that meet it are then equal (document 01, "Nothing left to choose"), by one law for all.
 -- Assumes nothing.
 use mathlib.Core.Path.{_≡_, sym, _∙_}
+use mathlib.Core.Bool.{cond, _&&_}
 use mathlib.Core.List.{List, [], _∷_}
 use Prim.Native.Nat.{ℕ}
 use denote.Ref.{now}
+use lib.Dec.{eqb, leb}
+use lib.ListN.{length, getD}
+use Rattle.bytes.specs.Placed.{placed, fits}
 use Rattle.bytes.proofs as bytes
+use Rattle.refusals.specs.Numbers.{numberOf}
 use Rattle.refusals.proofs as refusals
+use Rattle.pec.specs.Words.{pec15, pec10, commandCheck, commandRight, dataPec, seal, payloadRight}
 use Rattle.pec.proofs as pec
+use Rattle.monitor.specs.Commands.{commands, commandOf, isListed, frameLength, mostMonitors}
+use Rattle.monitor.specs.Record.{isRecord, recordSound}
+use Rattle.monitor.specs.Reply.{reply}
+use Rattle.monitor.specs.Thresholds.{vuv, vov, codesOf}
+use Rattle.monitor.specs.Effects.{takes, keeps}
+use Rattle.monitor.specs.Cells.{store, compare, load}
 use Rattle.monitor.proofs as monitor
+use Rattle.chain.specs.Table.{monitors, sound}
+use Rattle.chain.specs.Frame.{commandIn, replyLength, replied, answer, tableAfter, replyAfter}
+use Rattle.chain.specs.Alone.{hasRecord, servedAt, repliesInto}
+use Rattle.chain.specs.Judged.{headJudged}
+use Rattle.chain.specs.Load.{loaded, tableAfterLoad}
+use Rattle.chain.specs.Numbers.{numbersOf, loadNumber}
 use Rattle.chain.proofs as chain
+use Rattle.clocked.specs.Clock.{answered}
+use Rattle.clocked.specs.Release.{released, tableReleased}
+use Rattle.clocked.specs.Look.{looked, outAfter}
+use Rattle.clocked.specs.State.{clockOf, idle, stateAfter}
 use Rattle.clocked.proofs as clocked
-use Rattle.host.specs.Parts.{lying}
+use Rattle.host.specs.Frames.{built, bufferAfter, checked}
+use Rattle.host.specs.Ports.{portOf}
+use Rattle.host.specs.Parts.{lying, partOf}
 use Rattle.host.proofs as host
+use Rattle.readings.specs.Readings.{microvolts, readingOf, summaryOf}
 use Rattle.readings.proofs as readings
 
-pub one-outcome : {A : Type 0} {one other said : A} → one ≡ said → other ≡ said → one ≡ other
-one-outcome p q = p ∙ sym q
-
--- ---- what is shown
+-- ---- what is shown of each
 
 -- what a call leaves: what comes back, and the bytes of each buffer that it was lent to change
 pub record Outcome (A : Type 0) : Type 0 where
@@ -29,133 +52,149 @@ pub record Outcome (A : Type 0) : Type 0 where
 abbrev pub leaves : {A : Type 0} → A → List (List ℕ) → Outcome A
 leaves z bytes = record { back = z; lent = bytes }
 
--- for any arguments, a promise settles what a call leaves
-abbrev pub Settles : {L : Type 0} {A Z E : L → Type 0} {T : Type 0} → ((κ : L) → A κ → Z κ → E κ → Type 0) → ((κ : L) → Z κ → E κ → Outcome T) → Type 0
-Settles {L} {A} {Z} {E} promise left = (κ : L) (a : A κ) (z z' : Z κ) (e e' : E κ) → promise κ a z e → promise κ a z' e' → left κ z e ≡ left κ z' e'
+module _ {L : Type 0} {A Z E : L → Type 0} {T : Type 0} (promise : (κ : L) → A κ → Z κ → E κ → Type 0) (left : (κ : L) → Z κ → E κ → Outcome T) where
+  -- for any arguments, a call that meets the promise leaves what is said
+  abbrev pub Says : ((κ : L) → A κ → Outcome T) → Type 0
+  Says said = (κ : L) (a : A κ) (z : Z κ) (e : E κ) → promise κ a z e → left κ z e ≡ said κ a
+
+  -- for any arguments, two calls that meet it leave the same
+  abbrev pub One : Type 0
+  One = (κ : L) (a : A κ) (z z' : Z κ) (e e' : E κ) → promise κ a z e → promise κ a z' e' → left κ z e ≡ left κ z' e'
+
+  abbrev pub Settles : ((κ : L) → A κ → Outcome T) → Type 0
+  Settles said = Says said × One
+
+pub one-outcome : {A : Type 0} {one other said : A} → one ≡ said → other ≡ said → one ≡ other
+one-outcome p q = p ∙ sym q
+
+-- the first gives the second
+settles : {L : Type 0} {A Z E : L → Type 0} {T : Type 0} {promise : (κ : L) → A κ → Z κ → E κ → Type 0} {left : (κ : L) → Z κ → E κ → Outcome T} {said : (κ : L) → A κ → Outcome T}
+    → Says promise left said → Settles promise left said
+settles says = (says, λ κ a z z' e e' p q. one-outcome (says κ a z e p) (says κ a z' e' q))
+
+-- ---- every public function of every library
 
 pub record OneOutcome : Type 0 where
-  -- bytes: nothing comes back, and a buffer is lent
+  -- bytes
   put : Settles bytes.put.Reads.Post (λ κ z e. leaves z (now (e .0) ∷ []))
+      (λ κ a. leaves tt (cond (fits (a .1 .0) (now (a .1 .1 .0)) (now (a .0))) (placed (a .1 .0) (now (a .1 .1 .0)) (now (a .0))) (now (a .0)) ∷ []))
   -- refusals
-  number-of : Settles refusals.number_of.Reads.Post (λ κ z e. leaves z [])
+  number-of : Settles refusals.number_of.Reads.Post (λ κ z e. leaves z []) (λ κ a. leaves (numberOf (a .0)) [])
   -- pec
-  command-check : Settles pec.command_check.Reads.Post (λ κ z e. leaves z [])
-  command-right : Settles pec.command_right.Reads.Post (λ κ z e. leaves z [])
-  data-pec : Settles pec.data_pec.Reads.Post (λ κ z e. leaves z [])
-  payload-right : Settles pec.payload_right.Reads.Post (λ κ z e. leaves z [])
-  pec10-bitwise : Settles pec.pec10_bitwise.Reads.Post (λ κ z e. leaves z [])
-  pec10-by-table : Settles pec.pec10_by_table.Reads.Post (λ κ z e. leaves z [])
-  pec15-bitwise : Settles pec.pec15_bitwise.Reads.Post (λ κ z e. leaves z [])
-  pec15-by-table : Settles pec.pec15_by_table.Reads.Post (λ κ z e. leaves z [])
-  seal : Settles pec.seal.Reads.Post (λ κ z e. leaves z [])
-  -- monitor: the last four are lent a record
-  command-of : Settles monitor.command_of.Reads.Post (λ κ z e. leaves z [])
+  command-check : Settles pec.command_check.Reads.Post (λ κ z e. leaves z []) (λ κ a. leaves (commandCheck (a .0)) [])
+  command-right : Settles pec.command_right.Reads.Post (λ κ z e. leaves z []) (λ κ a. leaves (commandRight (now (a .0))) [])
+  data-pec : Settles pec.data_pec.Reads.Post (λ κ z e. leaves z []) (λ κ a. leaves (dataPec (now (a .0)) (a .1 .0)) [])
+  payload-right : Settles pec.payload_right.Reads.Post (λ κ z e. leaves z []) (λ κ a. leaves (payloadRight (now (a .0))) [])
+  pec10-bitwise : Settles pec.pec10_bitwise.Reads.Post (λ κ z e. leaves z []) (λ κ a. leaves (pec10 (now (a .0))) [])
+  pec10-by-table : Settles pec.pec10_by_table.Reads.Post (λ κ z e. leaves z []) (λ κ a. leaves (pec10 (now (a .0))) [])
+  pec15-bitwise : Settles pec.pec15_bitwise.Reads.Post (λ κ z e. leaves z []) (λ κ a. leaves (pec15 (now (a .0))) [])
+  pec15-by-table : Settles pec.pec15_by_table.Reads.Post (λ κ z e. leaves z []) (λ κ a. leaves (pec15 (now (a .0))) [])
+  seal : Settles pec.seal.Reads.Post (λ κ z e. leaves z []) (λ κ a. leaves (seal (now (a .0)) (a .1 .0)) [])
+  -- monitor
+  command-of : Settles monitor.command_of.Reads.Post (λ κ z e. leaves z []) (λ κ a. leaves (commandOf (a .0) commands) [])
   frame-length : Settles monitor.frame_length.Reads.Post (λ κ z e. leaves z [])
-  is-listed : Settles monitor.is_listed.Reads.Post (λ κ z e. leaves z [])
-  record-sound : Settles monitor.record_sound.Reads.Post (λ κ z e. leaves z [])
-  byte-at : Settles monitor.byte_at.Reads.Post (λ κ z e. leaves z [])
-  reply-of : Settles monitor.reply_of.Reads.Post (λ κ z e. leaves z [])
-  codes-of : Settles monitor.codes_of.Reads.Post (λ κ z e. leaves z [])
-  over-threshold : Settles monitor.over_threshold.Reads.Post (λ κ z e. leaves z [])
-  under-threshold : Settles monitor.under_threshold.Reads.Post (λ κ z e. leaves z [])
+      (λ κ a. leaves (cond (leb (a .1 .0) mostMonitors) (frameLength (a .0) (a .1 .0)) 0) [])
+  is-listed : Settles monitor.is_listed.Reads.Post (λ κ z e. leaves z []) (λ κ a. leaves (isListed (a .0)) [])
+  record-sound : Settles monitor.record_sound.Reads.Post (λ κ z e. leaves z []) (λ κ a. leaves (isRecord (now (a .0)) && recordSound (now (a .0))) [])
+  byte-at : Settles monitor.byte_at.Reads.Post (λ κ z e. leaves z []) (λ κ a. leaves (getD (now (a .0)) (a .1 .0) 0) [])
+  reply-of : Settles monitor.reply_of.Reads.Post (λ κ z e. leaves z []) (λ κ a. leaves (reply (a .0) (now (a .1 .0))) [])
+  codes-of : Settles monitor.codes_of.Reads.Post (λ κ z e. leaves z []) (λ κ a. leaves (codesOf (a .0)) [])
+  over-threshold : Settles monitor.over_threshold.Reads.Post (λ κ z e. leaves z []) (λ κ a. leaves (vov (now (a .0))) [])
+  under-threshold : Settles monitor.under_threshold.Reads.Post (λ κ z e. leaves z []) (λ κ a. leaves (vuv (now (a .0))) [])
   act : Settles monitor.act.Reads.Post (λ κ z e. leaves z (now (e .1 .0) ∷ []))
+      (λ κ a. leaves (isRecord (now (a .1 .0)) && takes (a .0) (now (a .1 .1 .0))) (cond (isRecord (now (a .1 .0))) (keeps (a .0) (now (a .1 .1 .0)) (now (a .1 .0))) (now (a .1 .0)) ∷ []))
   store : Settles monitor.store.Reads.Post (λ κ z e. leaves z (now (e .0) ∷ []))
+      (λ κ a. leaves (isRecord (now (a .0)) && eqb (length (now (a .1 .0))) 16) (cond (isRecord (now (a .0)) && eqb (length (now (a .1 .0))) 16) (store (now (a .1 .0)) (now (a .0))) (now (a .0)) ∷ []))
   compare : Settles monitor.compare.Reads.Post (λ κ z e. leaves z (now (e .0) ∷ []))
+      (λ κ a. leaves (isRecord (now (a .0))) (cond (isRecord (now (a .0))) (compare (now (a .0))) (now (a .0)) ∷ []))
   load-record : Settles monitor.load.Reads.Post (λ κ z e. leaves z (now (e .0) ∷ []))
-  -- chain: the last four are lent a table, a buffer, or both
-  sound : Settles chain.sound.Reads.Post (λ κ z e. leaves z [])
-  sound-count : Settles chain.sound_count.Reads.Post (λ κ z e. leaves z [])
-  command-in : Settles chain.command_in.Reads.Post (λ κ z e. leaves z [])
+      (λ κ a. leaves (isRecord (now (a .0)) && eqb (length (now (a .1 .0))) 16) (cond (isRecord (now (a .0)) && eqb (length (now (a .1 .0))) 16) (load (now (a .1 .0)) (now (a .0))) (now (a .0)) ∷ []))
+  -- chain
+  sound-table : Settles chain.sound.Reads.Post (λ κ z e. leaves z []) (λ κ a. leaves (sound (now (a .0))) [])
+  sound-count : Settles chain.sound_count.Reads.Post (λ κ z e. leaves z []) (λ κ a. leaves (cond (sound (now (a .0))) (monitors (now (a .0))) 0) [])
+  command-in : Settles chain.command_in.Reads.Post (λ κ z e. leaves z []) (λ κ a. leaves (commandIn (now (a .0))) [])
   reply-size : Settles chain.reply_size.Reads.Post (λ κ z e. leaves z [])
-  judge-head : Settles chain.judge_head.Reads.Post (λ κ z e. leaves z [])
-  numbers-of : Settles chain.numbers_of.Reads.Post (λ κ z e. leaves z [])
-  load-number : Settles chain.load_number.Reads.Post (λ κ z e. leaves z [])
+      (λ κ a. leaves (cond (leb (a .1 .0) mostMonitors) (replyLength (a .0) (a .1 .0)) 0) [])
+  judge-head : Settles chain.judge_head.Reads.Post (λ κ z e. leaves z []) (λ κ a. leaves (headJudged (now (a .0)) (a .1 .0) (a .1 .1 .0)) [])
+  numbers-of : Settles chain.numbers_of.Reads.Post (λ κ z e. leaves z []) (λ κ a. leaves (numbersOf (a .0)) [])
+  load-number : Settles chain.load_number.Reads.Post (λ κ z e. leaves z []) (λ κ a. leaves (loadNumber (a .0)) [])
   load : Settles chain.load.Reads.Post (λ κ z e. leaves z (now (e .0) ∷ []))
+      (λ κ a. leaves (loaded (now (a .0)) (a .1 .0) (now (a .1 .1 .0))) (tableAfterLoad (now (a .0)) (a .1 .0) (now (a .1 .1 .0)) ∷ []))
   serve-at : Settles chain.serve_at.Reads.Post (λ κ z e. leaves z (now (e .0) ∷ []))
+      (λ κ a. leaves (hasRecord (a .1 .1 .0) (now (a .0)) && takes (a .1 .0) (now (a .1 .1 .1 .0))) (cond (hasRecord (a .1 .1 .0) (now (a .0))) (servedAt (a .1 .1 .0) (a .1 .0) (now (a .1 .1 .1 .0)) (now (a .0))) (now (a .0)) ∷ []))
   reply-all : Settles chain.reply_all.Reads.Post (λ κ z e. leaves z (now (e .1 .1 .0) ∷ []))
+      (λ κ a. leaves (cond (repliesInto (a .1 .0) (now (a .0)) (length (now (a .1 .1 .0)))) (replyLength (a .1 .0) (monitors (now (a .0)))) 0) (cond (repliesInto (a .1 .0) (now (a .0)) (length (now (a .1 .1 .0)))) (replied (a .1 .0) (monitors (now (a .0))) (now (a .0)) (now (a .1 .1 .0))) (now (a .1 .1 .0)) ∷ []))
   handle : Settles chain.handle.Reads.Post (λ κ z e. leaves z (now (e .0) ∷ now (e .1 .1 .0) ∷ []))
-  -- clocked: lent a state; a state; a state and a table; a buffer; a table and a buffer. What `clock` says of the clock besides follows
-  -- from what it says of the state's bytes (`every-byte` of demand 3)
-  start : Settles clocked.start.Reads.Post (λ κ z e. leaves z (now (e .0) ∷ []))
+      (λ κ a. leaves (answer (now (a .0)) (now (a .1 .0)) (length (now (a .1 .1 .0)))) (tableAfter (now (a .0)) (now (a .1 .0)) (length (now (a .1 .1 .0))) ∷ replyAfter (now (a .0)) (now (a .1 .0)) (now (a .1 .1 .0)) ∷ []))
+  -- clocked
+  start : Settles clocked.start.Reads.Post (λ κ z e. leaves z (now (e .0) ∷ [])) (λ κ a. leaves tt (idle ∷ []))
   clock : Settles clocked.clock.Reads.Post (λ κ z e. leaves z (now (e .0) ∷ []))
+      (λ κ a. leaves (answered (clockOf (now (a .0)))) (stateAfter (now (a .1 .0)) (a .1 .1 .0) (now (a .0)) ∷ []))
   release : Settles clocked.release.Reads.Post (λ κ z e. leaves z (now (e .0) ∷ now (e .1 .0) ∷ []))
+      (λ κ a. leaves (released (clockOf (now (a .0))) (now (a .1 .0))) (idle ∷ tableReleased (clockOf (now (a .0))) (now (a .1 .0)) ∷ []))
   look : Settles clocked.look.Reads.Post (λ κ z e. leaves z (now (e .1 .1 .0) ∷ []))
+      (λ κ a. leaves (looked (clockOf (now (a .0))) (a .1 .0) (length (now (a .1 .1 .0)))) (outAfter (clockOf (now (a .0))) (a .1 .0) (now (a .1 .1 .0)) ∷ []))
   handle-clocked : Settles clocked.handle.Reads.Post (λ κ z e. leaves z (now (e .0) ∷ now (e .1 .1 .0) ∷ []))
-  -- host: the last is lent a buffer. What `part_of` hands back is a part of a slice, told by where it lies and its bytes
-  check : Settles host.check.Reads.Post (λ κ z e. leaves z [])
-  port-of : Settles host.port_of.Reads.Post (λ κ z e. leaves z [])
-  part-of : Settles host.part_of.Reads.Post (λ κ z e. leaves (lying z) [])
+      (λ κ a. leaves (answer (now (a .0)) (now (a .1 .0)) (length (now (a .1 .1 .0)))) (tableAfter (now (a .0)) (now (a .1 .0)) (length (now (a .1 .1 .0))) ∷ replyAfter (now (a .0)) (now (a .1 .0)) (now (a .1 .1 .0)) ∷ []))
+  -- host
+  check : Settles host.check.Reads.Post (λ κ z e. leaves z []) (λ κ a. leaves (checked (now (a .0))) [])
+  port-of : Settles host.port_of.Reads.Post (λ κ z e. leaves z []) (λ κ a. leaves (portOf (now (a .0)) (now (a .1 .0)) (a .1 .1 .0) (a .1 .1 .1 .0)) [])
+  part-of : Settles host.part_of.Reads.Post (λ κ z e. leaves (lying z) []) (λ κ a. leaves (partOf (a .0) (a .1 .0) (a .1 .1 .0) (a .1 .1 .1 .0)) [])
   build : Settles host.build.Reads.Post (λ κ z e. leaves z (now (e .1 .1 .1 .0) ∷ []))
+      (λ κ a. leaves (built (a .0) (a .1 .0) (now (a .1 .1 .0)) (length (now (a .1 .1 .1 .0)))) (bufferAfter (a .0) (a .1 .0) (now (a .1 .1 .0)) (now (a .1 .1 .1 .0)) ∷ []))
   -- readings
-  microvolts-of : Settles readings.microvolts_of.Reads.Post (λ κ z e. leaves z [])
-  reading-of : Settles readings.reading_of.Reads.Post (λ κ z e. leaves z [])
-  summary-of : Settles readings.summary_of.Reads.Post (λ κ z e. leaves z [])
-
--- ---- by the one law
-
-one-alone : {z z' : Unit {0}} {x x' after : List ℕ} → x ≡ after → x' ≡ after → leaves z (x ∷ []) ≡ leaves z' (x' ∷ [])
-one-alone {z} p q i = leaves z (one-outcome p q i ∷ [])
-
-module _ {A : Type 0} {z z' said : A} where
-  result : z ≡ said → z' ≡ said → leaves z [] ≡ leaves z' []
-  result p q i = leaves (one-outcome p q i) []
-
-  module _ {x x' after : List ℕ} where
-    and-one : (z ≡ said) × (x ≡ after) → (z' ≡ said) × (x' ≡ after) → leaves z (x ∷ []) ≡ leaves z' (x' ∷ [])
-    and-one p q i = leaves (one-outcome (p .0) (q .0) i) (one-outcome (p .1) (q .1) i ∷ [])
-
-    and-two : {y y' then : List ℕ} → (z ≡ said) × ((x ≡ after) × (y ≡ then)) → (z' ≡ said) × ((x' ≡ after) × (y' ≡ then))
-        → leaves z (x ∷ y ∷ []) ≡ leaves z' (x' ∷ y' ∷ [])
-    and-two p q i = leaves (one-outcome (p .0) (q .0) i) (one-outcome (p .1 .0) (q .1 .0) i ∷ one-outcome (p .1 .1) (q .1 .1) i ∷ [])
+  microvolts-of : Settles readings.microvolts_of.Reads.Post (λ κ z e. leaves z []) (λ κ a. leaves (microvolts (a .0)) [])
+  reading-of : Settles readings.reading_of.Reads.Post (λ κ z e. leaves z []) (λ κ a. leaves (readingOf (a .0)) [])
+  summary-of : Settles readings.summary_of.Reads.Post (λ κ z e. leaves z []) (λ κ a. leaves (summaryOf (now (a .0))) [])
 
 pub one-outcomes : OneOutcome
 one-outcomes =
     record {
-      put = λ κ a z z' e e'. one-alone;
-      number-of = λ κ a z z' e e'. result;
-      command-check = λ κ a z z' e e'. result;
-      command-right = λ κ a z z' e e'. result;
-      data-pec = λ κ a z z' e e'. result;
-      payload-right = λ κ a z z' e e'. result;
-      pec10-bitwise = λ κ a z z' e e'. result;
-      pec10-by-table = λ κ a z z' e e'. result;
-      pec15-bitwise = λ κ a z z' e e'. result;
-      pec15-by-table = λ κ a z z' e e'. result;
-      seal = λ κ a z z' e e'. result;
-      command-of = λ κ a z z' e e'. result;
-      frame-length = λ κ a z z' e e'. result;
-      is-listed = λ κ a z z' e e'. result;
-      record-sound = λ κ a z z' e e'. result;
-      byte-at = λ κ a z z' e e'. result;
-      reply-of = λ κ a z z' e e'. result;
-      codes-of = λ κ a z z' e e'. result;
-      over-threshold = λ κ a z z' e e'. result;
-      under-threshold = λ κ a z z' e e'. result;
-      act = λ κ a z z' e e'. and-one;
-      store = λ κ a z z' e e'. and-one;
-      compare = λ κ a z z' e e'. and-one;
-      load-record = λ κ a z z' e e'. and-one;
-      sound = λ κ a z z' e e'. result;
-      sound-count = λ κ a z z' e e'. result;
-      command-in = λ κ a z z' e e'. result;
-      reply-size = λ κ a z z' e e'. result;
-      judge-head = λ κ a z z' e e'. result;
-      numbers-of = λ κ a z z' e e'. result;
-      load-number = λ κ a z z' e e'. result;
-      load = λ κ a z z' e e'. and-one;
-      serve-at = λ κ a z z' e e'. and-one;
-      reply-all = λ κ a z z' e e'. and-one;
-      handle = λ κ a z z' e e'. and-two;
-      start = λ κ a z z' e e'. one-alone;
-      clock = λ κ a z z' e e' p q. and-one (p .0, p .1 .1) (q .0, q .1 .1);
-      release = λ κ a z z' e e'. and-two;
-      look = λ κ a z z' e e'. and-one;
-      handle-clocked = λ κ a z z' e e'. and-two;
-      check = λ κ a z z' e e'. result;
-      port-of = λ κ a z z' e e'. result;
-      part-of = λ κ a z z' e e' p q. result (p .1) (q .1);
-      build = λ κ a z z' e e'. and-one;
-      microvolts-of = λ κ a z z' e e'. result;
-      reading-of = λ κ a z z' e e'. result;
-      summary-of = λ κ a z z' e e'. result;
+      put = settles (λ κ a z e p i. leaves z (p i ∷ []));
+      number-of = settles (λ κ a z e p i. leaves (p i) []);
+      command-check = settles (λ κ a z e p i. leaves (p i) []);
+      command-right = settles (λ κ a z e p i. leaves (p i) []);
+      data-pec = settles (λ κ a z e p i. leaves (p i) []);
+      payload-right = settles (λ κ a z e p i. leaves (p i) []);
+      pec10-bitwise = settles (λ κ a z e p i. leaves (p i) []);
+      pec10-by-table = settles (λ κ a z e p i. leaves (p i) []);
+      pec15-bitwise = settles (λ κ a z e p i. leaves (p i) []);
+      pec15-by-table = settles (λ κ a z e p i. leaves (p i) []);
+      seal = settles (λ κ a z e p i. leaves (p i) []);
+      command-of = settles (λ κ a z e p i. leaves (p i) []);
+      frame-length = settles (λ κ a z e p i. leaves (p i) []);
+      is-listed = settles (λ κ a z e p i. leaves (p i) []);
+      record-sound = settles (λ κ a z e p i. leaves (p i) []);
+      byte-at = settles (λ κ a z e p i. leaves (p i) []);
+      reply-of = settles (λ κ a z e p i. leaves (p i) []);
+      codes-of = settles (λ κ a z e p i. leaves (p i) []);
+      over-threshold = settles (λ κ a z e p i. leaves (p i) []);
+      under-threshold = settles (λ κ a z e p i. leaves (p i) []);
+      act = settles (λ κ a z e p i. leaves (p .0 i) (p .1 i ∷ []));
+      store = settles (λ κ a z e p i. leaves (p .0 i) (p .1 i ∷ []));
+      compare = settles (λ κ a z e p i. leaves (p .0 i) (p .1 i ∷ []));
+      load-record = settles (λ κ a z e p i. leaves (p .0 i) (p .1 i ∷ []));
+      sound-table = settles (λ κ a z e p i. leaves (p i) []);
+      sound-count = settles (λ κ a z e p i. leaves (p i) []);
+      command-in = settles (λ κ a z e p i. leaves (p i) []);
+      reply-size = settles (λ κ a z e p i. leaves (p i) []);
+      judge-head = settles (λ κ a z e p i. leaves (p i) []);
+      numbers-of = settles (λ κ a z e p i. leaves (p i) []);
+      load-number = settles (λ κ a z e p i. leaves (p i) []);
+      load = settles (λ κ a z e p i. leaves (p .0 i) (p .1 i ∷ []));
+      serve-at = settles (λ κ a z e p i. leaves (p .0 i) (p .1 i ∷ []));
+      reply-all = settles (λ κ a z e p i. leaves (p .0 i) (p .1 i ∷ []));
+      handle = settles (λ κ a z e p i. leaves (p .0 i) (p .1 .0 i ∷ p .1 .1 i ∷ []));
+      start = settles (λ κ a z e p i. leaves z (p i ∷ []));
+      clock = settles (λ κ a z e p i. leaves (p .0 i) (p .1 .1 i ∷ []));
+      release = settles (λ κ a z e p i. leaves (p .0 i) (p .1 .0 i ∷ p .1 .1 i ∷ []));
+      look = settles (λ κ a z e p i. leaves (p .0 i) (p .1 i ∷ []));
+      handle-clocked = settles (λ κ a z e p i. leaves (p .0 i) (p .1 .0 i ∷ p .1 .1 i ∷ []));
+      check = settles (λ κ a z e p i. leaves (p i) []);
+      port-of = settles (λ κ a z e p i. leaves (p i) []);
+      part-of = settles (λ κ a z e p i. leaves (p .1 i) []);
+      build = settles (λ κ a z e p i. leaves (p .0 i) (p .1 i ∷ []));
+      microvolts-of = settles (λ κ a z e p i. leaves (p i) []);
+      reading-of = settles (λ κ a z e p i. leaves (p i) []);
+      summary-of = settles (λ κ a z e p i. leaves (p i) []);
     }

@@ -20,8 +20,9 @@ use Rattle.pec.proofs.CheckWords.{seal-right}
 use Rattle.wire.proofs.Order.{write-at}
 use Rattle.refusals.proofs.Deciding.{passes}
 use Rattle.monitor.specs.declared.commands.Command.{Command}
-use Rattle.monitor.specs.declared.commands.Command.the-variants.{Reads, Writes}
+use Rattle.monitor.specs.declared.commands.Command.the-variants.{Reads, Writes, Bares}
 use Rattle.monitor.specs.declared.commands.Write.{Write}
+use Rattle.monitor.specs.declared.commands.Bare.{Bare}
 use Rattle.monitor.specs.declared.record.Part.{Part}
 use Rattle.monitor.specs.Record.{recordSize, counter, byteOf}
 use Rattle.monitor.specs.Commands.{commands, commandOf, isListed, payloadSize, frameLength}
@@ -35,7 +36,7 @@ use Rattle.chain.specs.Judged.{judged}
 use Rattle.chain.proofs.Soundness.{is-sound}
 use Rattle.chain.proofs.Outcome.{head, the-answer, the-table, the-buffer}
 use Rattle.chain.proofs.OwnBytes.{own-record, own-reply}
-use Rattle.chain.proofs.Taken.{taken-read}
+use Rattle.chain.proofs.Taken.{taken-read, taken-bare}
 use Rattle.host.specs.Frames.{dataSize, sealed, valueCount, frameFor}
 use Rattle.host.proofs.FrameFor.{length-frame, frame-right, frame-code, write-payloads}
 use Rattle.host.proofs.Payloads.{sealed-right}
@@ -164,3 +165,11 @@ module _ (table buffer : List ℕ) (code : ℕ) (part : Part) (its : commandOf c
 
   pub each-reply-right : (k : ℕ) → k < monitors table → payloadRight (rowAt payloadSize k (replyAfter table (frameFor code (monitors table) []) buffer)) ≡ true
   each-reply-right k h = ap payloadRight (each-reply-its-own k h) ∙ reply-right part (rowAt recordSize k table)
+
+-- ---- bare commands
+
+pub bare-taken-by-all : (table buffer : List ℕ) (code : ℕ) (c : Bare) → commandOf code commands ≡ Bares c → sound table ≡ true
+    → answer table (frameFor code (monitors table) []) (length buffer) ≡ Accepted (monitors table) 0
+bare-taken-by-all table buffer code c its is-sound-table =
+    accepted table [] buffer code (Bares c) its refl is-sound-table refl (omega arith)
+    ∙ ap (λ (t : ℕ). Accepted t 0) (taken-bare c (monitors table) (frameFor code (monitors table) []))
