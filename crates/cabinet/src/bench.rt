@@ -100,8 +100,8 @@ fn send(table: &mut [u8], frame: Frame, reply: &mut [u8]) -> usize {
 // The codes of both halves, each to its own monitor. Did both loads go through?
 fn load(table: &mut [u8]) -> bool {
     let cells = CELLS;
-    let near = chain::load_number(chain::load(table, 1, near_of(&cells)));
-    let far = chain::load_number(chain::load(table, 2, far_of(&cells)));
+    let near = loads::load_number(loads::load(table, 1, near_of(&cells)));
+    let far = loads::load_number(loads::load(table, 2, far_of(&cells)));
     near == 0 && far == 0
 }
 

@@ -6,11 +6,7 @@ pub mod Turns
 pub mod EachActs
 pub mod RepliesInto
 pub mod Outcome
-pub mod Codes
-pub mod Loading
-pub mod LoadJudging
 pub mod Refused
 pub mod Keeps
 pub mod OwnBytes
 pub mod Taken
-pub mod OwnLoad

@@ -5,17 +5,14 @@
 use mathlib.Core.Path.{_≡_, refl, sym}
 use mathlib.Core.Bool.{Bool, true, false, cond}
 use mathlib.Core.List.{List, [], _∷_}
-use Prim.Native.Nat.{ℕ, _-_}
+use Prim.Native.Nat.{ℕ}
 use native.Mathlib.Omega.{arith}
-use lib.IntN.{ℤ}
 use lib.ListN.{length}
 use Rattle.refusals.specs.declared.Refusal.{Refusal}
 use Rattle.refusals.specs.Order.{Row, decide}
 use Rattle.chain.specs.declared.frames.Answer.the-variants.{Refused, Accepted}
-use Rattle.chain.specs.declared.loads.Loaded.the-variants.{Unloaded, Done}
 use Rattle.chain.specs.Table.{monitors}
 use Rattle.chain.specs.Frame.{commandIn, frameRefusals, replyLength, takenBy, kept, replied, answer, tableAfter, replyAfter}
-use Rattle.chain.specs.Load.{loadRefusals, loadedAt, loaded, tableAfterLoad}
 
 -- ---- down a list of refusals
 
@@ -102,18 +99,3 @@ module _ (table frame : List ℕ) (taken reply : ℕ) where
 
   pub accepted-length : (room : ℕ) → answer table frame room ≡ Accepted taken reply → reply ≡ replyLength (commandIn frame) (monitors table)
   accepted-length room e = let same = the-values room e in cc
-
--- ---- a load
-
-done-apart : (r : Refusal) → Done ≡ Unloaded r → ⊥
-done-apart r e = let z : _≡_ {A = ℕ} 0 1 = cc in omega arith
-
-pub refused-load : (table : List ℕ) (position : ℕ) (codes : List ℤ) (r : Refusal) → loaded table position codes ≡ Unloaded r
-    → tableAfterLoad table position codes ≡ table
-unfolding loaded tableAfterLoad
-refused-load table position codes r e = stays-so (loadRefusals table position codes) Unloaded Done r table _ (done-apart r) e
-
-pub done-load : (table : List ℕ) (position : ℕ) (codes : List ℤ) → loaded table position codes ≡ Done
-    → tableAfterLoad table position codes ≡ loadedAt (position - 1) codes table
-unfolding loaded tableAfterLoad
-done-load table position codes e = goes-on (loadRefusals table position codes) Unloaded Done Done table _ done-apart e

@@ -2,6 +2,4 @@ pub mod Table
 pub mod Frame
 pub mod Alone
 pub mod Judged
-pub mod Load
-pub mod LoadJudged
 pub mod Numbers

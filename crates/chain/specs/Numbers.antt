@@ -1,18 +1,11 @@
 -- Document 01, "Numbers that come back": the paper's number and values for each answer. A refusal returns its number only.
 -- Assumes nothing.
-use Prim.Native.Nat.{ℕ}
 use Rattle.refusals.specs.Numbers.{numberOf}
 use Rattle.chain.specs.declared.frames.Answer.{Answer}
 use Rattle.chain.specs.declared.frames.Answer.the-variants.{Refused, Accepted}
 use Rattle.chain.specs.declared.numbers.Numbers.{Numbers}
-use Rattle.chain.specs.declared.loads.Loaded.{Loaded}
-use Rattle.chain.specs.declared.loads.Loaded.the-variants.{Unloaded, Done}
 
 -- an accepted frame has no number: 0
 abbrev pub numbersOf : Answer → Numbers
 numbersOf (Refused r) = record { number = numberOf r; taken = 0; reply = 0 }
 numbersOf (Accepted taken reply) = record { number = 0; taken = taken; reply = reply }
-
-abbrev pub loadNumber : Loaded → ℕ
-loadNumber (Unloaded r) = numberOf r
-loadNumber Done = 0

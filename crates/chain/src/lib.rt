@@ -1,9 +1,8 @@
-// The chain: the table of records, the refusals in their order, the engine that handles a whole frame, what the table does with
-// a command alone, and the load.
+// The chain: the table of records, the refusals in their order, the engine that handles a whole frame, and what the table
+// does with a command alone.
 mod alone;
 mod frames;
 mod heads;
-mod loads;
 mod numbers;
 mod tables;
 
@@ -15,10 +14,7 @@ pub use frames::Judged;
 pub use frames::command_in;
 pub use frames::handle;
 pub use heads::judge_head;
-pub use loads::Loaded;
-pub use loads::load;
 pub use numbers::Numbers;
-pub use numbers::load_number;
 pub use numbers::numbers_of;
 pub use tables::sound;
 pub use tables::sound_count;

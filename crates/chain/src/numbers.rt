@@ -1,8 +1,7 @@
 // The paper's numbers and values for the answers.
 ghost use mathlib.Core.Path.{_≡_};
-ghost use Rattle.chain.specs.Numbers.{numbersOf, loadNumber};
+ghost use Rattle.chain.specs.Numbers.{numbersOf};
 use crate::frames::Answer;
-use crate::loads::Loaded;
 
 // A refusal's number, or 0 with how many monitors took the frame and how long the reply is.
 pub struct Numbers {
@@ -25,15 +24,5 @@ pub fn numbers_of(answer: Answer) -> Numbers
             taken,
             reply,
         },
-    }
-}
-
-// A refusal's number, or 0.
-pub fn load_number(loaded: Loaded) -> u8
-    ensures { λ r. ⌜ r ≡ loadNumber loaded ⌝ }
-{
-    match loaded {
-        Loaded::Unloaded(refusal) => refusals::number_of(refusal),
-        Loaded::Done => 0,
     }
 }

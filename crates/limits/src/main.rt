@@ -6,7 +6,7 @@ mod counters;
 mod damage;
 mod frames;
 mod hosts;
-mod loads;
+mod loading;
 mod longest;
 mod order;
 mod room;
@@ -23,7 +23,7 @@ fn main() {
     let t = order::all(t);
     let t = damage::all(t);
     let t = counters::all(t);
-    let t = loads::all(t);
+    let t = loading::all(t);
     let t = hosts::all(t);
     let t = volts::all(t);
     tally::summary(t);

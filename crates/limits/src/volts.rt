@@ -3,7 +3,7 @@ ghost use Prim.Native.Nat.{_≤_};
 use crate::say;
 use crate::tally;
 use crate::tally::Tally;
-use monitor::ResultCode;
+use loads::ResultCode;
 use readings::Pack;
 use readings::Reading;
 

@@ -6,7 +6,3 @@ pub mod Keeping
 pub mod Sound
 pub mod Showing
 pub mod Parts
-pub mod Flags
-pub mod TwosComplement
-pub mod Loaded
-pub mod Examples

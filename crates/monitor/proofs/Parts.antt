@@ -8,16 +8,11 @@ use native.Mathlib.Omega.{arith}
 use lib.ListN.{take, drop, getD, set}
 use lib.Seq.{getD-take, getD-drop, take-set-le, drop-set-lt, drop-set-add}
 use Rattle.monitor.specs.declared.record.Part.{Part}
-use Rattle.monitor.specs.Record.{configurationB, bytesOf, anew}
-use Rattle.monitor.specs.Thresholds.{byteB}
+use Rattle.monitor.specs.Record.{bytesOf, anew}
 
 pub byte-of-part : (p : Part) (r : List ℕ) {i : ℕ} → i < p .size → getD (bytesOf p r) i 0 ≡ getD r (p .at + i) 0
 unfolding bytesOf
 byte-of-part p r {i} h = getD-take (p .size) (drop (p .at) r) i 0 h ∙ getD-drop (p .at) r i 0
-
-pub byte-of-B : (r : List ℕ) {i : ℕ} → i < configurationB .size → byteB r i ≡ getD r (configurationB .at + i) 0
-unfolding byteB
-byte-of-B r h = byte-of-part configurationB r h
 
 -- ---- bytes made anew beside a part
 

@@ -2,5 +2,3 @@ pub mod Record
 pub mod Commands
 pub mod Effects
 pub mod Reply
-pub mod Thresholds
-pub mod Cells

@@ -17,6 +17,10 @@ configurationA = part 0 6
 abbrev pub configurationB : Part
 configurationB = part 6 6
 
+-- the cells of a monitor
+abbrev pub cellCount : ℕ
+cellCount = 16
+
 -- cells 1 to 16, two bytes each, low byte first
 abbrev pub cells : Part
 cells = part 12 32

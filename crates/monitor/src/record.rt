@@ -8,20 +8,20 @@ pub(crate) const CONFIGURATION_A: usize = 0;
 // Byte 5 of configuration A, with SNAP_ST at bit 5 and MUTE_ST at bit 4.
 pub(crate) const STATUS_BITS: usize = CONFIGURATION_A + 5;
 
-pub(crate) const CONFIGURATION_B: usize = 6;
+pub const CONFIGURATION_B: usize = 6;
 // Cells 1 to 16, two bytes each, low byte first.
-pub(crate) const CELLS: usize = 12;
+pub const CELLS: usize = 12;
 
-pub(crate) const CELL_COUNT: usize = 16;
+pub const CELL_COUNT: usize = 16;
 
 pub(crate) const CELLS_SIZE: usize = 32;
 
 pub(crate) const STATUS_C: usize = 44;
 
-pub(crate) const STATUS_D: usize = 50;
+pub const STATUS_D: usize = 50;
 
 // The bytes of status D, from its first on, that hold the cells' flags.
-pub(crate) const FLAG_BYTES: usize = 4;
+pub const FLAG_BYTES: usize = 4;
 
 pub(crate) const RETENTION: usize = 56;
 

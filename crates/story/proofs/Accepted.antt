@@ -22,18 +22,18 @@ use Rattle.monitor.specs.declared.commands.Write.{Write}
 use Rattle.monitor.specs.declared.record.Part.{Part}
 use Rattle.monitor.specs.Record.{recordSize}
 use Rattle.monitor.specs.Commands.{payloadSize}
-use Rattle.monitor.specs.Cells.{load}
 use Rattle.monitor.specs.Effects.{keeps}
 use Rattle.monitor.specs.Reply.{reply}
 use Rattle.monitor.proofs.Answers.{both-first}
 use Rattle.chain.specs.declared.frames.Answer.the-variants.{Refused, Accepted}
-use Rattle.chain.specs.declared.loads.Loaded.the-variants.{Unloaded, Done}
 use Rattle.chain.specs.Table.{monitors, sound}
 use Rattle.chain.specs.Frame.{commandIn, payloadsIn, replyLength, frameRefusals, takenBy, kept, replied, answer, tableAfter, replyAfter}
-use Rattle.chain.specs.Load.{loadRefusals, loadedAt, loaded, tableAfterLoad}
 use Rattle.chain.proofs.OwnBytes.{own-record, own-reply, past-reply}
-use Rattle.chain.proofs.OwnLoad.{loaded-record, other-record}
 use Rattle.chain.proofs.Soundness.{is-sound}
+use Rattle.loads.specs.declared.loads.Loaded.the-variants.{Unloaded, Done}
+use Rattle.loads.specs.Cells.{load}
+use Rattle.loads.specs.Load.{loadRefusals, loadedAt, loaded, tableAfterLoad}
+use Rattle.loads.proofs.OwnLoad.{loaded-record, other-record}
 use Rattle.host.specs.declared.frames.Built.the-variants.{Unbuilt, Length}
 use Rattle.host.specs.Frames.{frameFor, buildRefusals, built, bufferAfter}
 use Rattle.host.proofs.FrameFor.{length-frame}

@@ -24,12 +24,15 @@ use Rattle.monitor.specs.declared.commands.Write.{Write}
 use Rattle.monitor.specs.declared.commands.Bare.{Bare}
 use Rattle.monitor.proofs as monitor
 use Rattle.chain.specs.declared.frames.Answer.the-variants.{Refused}
-use Rattle.chain.specs.declared.loads.Loaded.the-variants.{Unloaded}
 use Rattle.chain.specs.Frame.{roomRow, frameRefusals, answer, tableAfter, replyAfter}
-use Rattle.chain.specs.Load.{loadRefusals, loaded, tableAfterLoad}
-use Rattle.chain.specs.Numbers.{numbersOf, loadNumber}
+use Rattle.chain.specs.Numbers.{numbersOf}
 use Rattle.chain.proofs as chain
-use Rattle.chain.proofs.Refused.{refused-table, refused-reply, refused-load}
+use Rattle.chain.proofs.Refused.{refused-table, refused-reply}
+use Rattle.loads.specs.declared.loads.Loaded.the-variants.{Unloaded}
+use Rattle.loads.specs.Load.{loadRefusals, loaded, tableAfterLoad}
+use Rattle.loads.specs.Numbers.{loadNumber}
+use Rattle.loads.proofs as loads
+use Rattle.loads.proofs.Refused.{refused-load}
 use Rattle.clocked.specs.declared.looks.Looked.the-variants.{Refused as Unseen}
 use Rattle.clocked.specs.Clock.{Clock, start}
 use Rattle.clocked.specs.Release.{releaseRefusals, released, tableReleased}
@@ -78,25 +81,26 @@ pub record Promises : Type 2 where
   record-sound : Promised monitor.record_sound.Statement.statement monitor.record_sound.Reads.Asked
   byte-at : Promised monitor.byte_at.Statement.statement monitor.byte_at.Reads.Asked
   reply-of : Promised monitor.reply_of.Statement.statement monitor.reply_of.Reads.Asked
-  codes-of : Promised monitor.codes_of.Statement.statement monitor.codes_of.Reads.Asked
-  over-threshold : Promised monitor.over_threshold.Statement.statement monitor.over_threshold.Reads.Asked
-  under-threshold : Promised monitor.under_threshold.Statement.statement monitor.under_threshold.Reads.Asked
   act : Promised monitor.act.Statement.statement monitor.act.Reads.Asked
-  store : Promised monitor.store.Statement.statement monitor.store.Reads.Asked
-  compare : Promised monitor.compare.Statement.statement monitor.compare.Reads.Asked
-  load-record : Promised monitor.load.Statement.statement monitor.load.Reads.Asked
   -- chain
   sound : Promised chain.sound.Statement.statement chain.sound.Reads.Asked
   sound-count : Promised chain.sound_count.Statement.statement chain.sound_count.Reads.Asked
   command-in : Promised chain.command_in.Statement.statement chain.command_in.Reads.Asked
   reply-size : Promised chain.reply_size.Statement.statement chain.reply_size.Reads.Asked
   numbers-of : Promised chain.numbers_of.Statement.statement chain.numbers_of.Reads.Asked
-  load-number : Promised chain.load_number.Statement.statement chain.load_number.Reads.Asked
-  load : Promised chain.load.Statement.statement chain.load.Reads.Asked
   serve-at : Promised chain.serve_at.Statement.statement chain.serve_at.Reads.Asked
   reply-all : Promised chain.reply_all.Statement.statement chain.reply_all.Reads.Asked
   judge-head : Promised chain.judge_head.Statement.statement chain.judge_head.Reads.Asked
   handle : Promised chain.handle.Statement.statement chain.handle.Reads.Asked
+  -- loads
+  codes-of : Promised loads.codes_of.Statement.statement loads.codes_of.Reads.Asked
+  over-threshold : Promised loads.over_threshold.Statement.statement loads.over_threshold.Reads.Asked
+  under-threshold : Promised loads.under_threshold.Statement.statement loads.under_threshold.Reads.Asked
+  load-number : Promised loads.load_number.Statement.statement loads.load_number.Reads.Asked
+  store : Promised loads.store.Statement.statement loads.store.Reads.Asked
+  compare : Promised loads.compare.Statement.statement loads.compare.Reads.Asked
+  load-one : Promised loads.load_one.Statement.statement loads.load_one.Reads.Asked
+  load : Promised loads.load.Statement.statement loads.load.Reads.Asked
   -- clocked
   start : Promised clocked.start.Statement.statement clocked.start.Reads.Asked
   clock : Promised clocked.clock.Statement.statement clocked.clock.Reads.Asked
@@ -129,7 +133,7 @@ pub record Demand1 : Type 2 where
   no-6-for-a-bare : (room : ℕ) (c : Bare) (n : ℕ) → roomRow room (Bares c) n .holds ≡ false
   frame-stays : (table frame buffer : List ℕ) (r : Refusal) → answer table frame (length buffer) ≡ Refused r
       → (tableAfter table frame (length buffer) ≡ table) × (replyAfter table frame buffer ≡ buffer)
-  -- a load: `chain::load`
+  -- a load: `loads::load`
   load : (table : List ℕ) (position : ℕ) (codes : List ℤ) → loadNumber (loaded table position codes) ≡ firstNumber (loadRefusals table position codes)
   load-order : (table : List ℕ) (position : ℕ) (codes : List ℤ) → order (loadRefusals table position codes) ≡ 1 ∷ 7 ∷ 8 ∷ 9 ∷ []
   load-stays : (table : List ℕ) (position : ℕ) (codes : List ℤ) (r : Refusal) → loaded table position codes ≡ Unloaded r
@@ -181,24 +185,24 @@ proved =
       record-sound = (λ M. monitor.record_sound.Met.met, λ κ a. tt);
       byte-at = (λ M. monitor.byte_at.Met.met, λ κ a. tt);
       reply-of = (λ M. monitor.reply_of.Met.met, λ κ a. tt);
-      codes-of = (λ M. monitor.codes_of.Met.met, λ κ a. tt);
-      over-threshold = (λ M. monitor.over_threshold.Met.met, λ κ a. tt);
-      under-threshold = (λ M. monitor.under_threshold.Met.met, λ κ a. tt);
       act = (λ M. monitor.act.Met.met, λ κ a. tt);
-      store = (λ M. monitor.store.Met.met, λ κ a. tt);
-      compare = (λ M. monitor.compare.Met.met, λ κ a. tt);
-      load-record = (λ M. monitor.load.Met.met, λ κ a. tt);
       sound = (λ M. chain.sound.Met.met, λ κ a. tt);
       sound-count = (λ M. chain.sound_count.Met.met, λ κ a. tt);
       command-in = (λ M. chain.command_in.Met.met, λ κ a. tt);
       reply-size = (λ M. chain.reply_size.Met.met, λ κ a. tt);
       numbers-of = (λ M. chain.numbers_of.Met.met, λ κ a. tt);
-      load-number = (λ M. chain.load_number.Met.met, λ κ a. tt);
-      load = (λ M. chain.load.Met.met, λ κ a. tt);
       serve-at = (λ M. chain.serve_at.Met.met, λ κ a. tt);
       reply-all = (λ M. chain.reply_all.Met.met, λ κ a. tt);
       judge-head = (λ M. chain.judge_head.Met.met, λ κ a. tt);
       handle = (λ M. chain.handle.Met.met, λ κ a. tt);
+      codes-of = (λ M. loads.codes_of.Met.met, λ κ a. tt);
+      over-threshold = (λ M. loads.over_threshold.Met.met, λ κ a. tt);
+      under-threshold = (λ M. loads.under_threshold.Met.met, λ κ a. tt);
+      load-number = (λ M. loads.load_number.Met.met, λ κ a. tt);
+      store = (λ M. loads.store.Met.met, λ κ a. tt);
+      compare = (λ M. loads.compare.Met.met, λ κ a. tt);
+      load-one = (λ M. loads.load_one.Met.met, λ κ a. tt);
+      load = (λ M. loads.load.Met.met, λ κ a. tt);
       start = (λ M. clocked.start.Met.met, λ κ a. tt);
       clock = (λ M. clocked.clock.Met.met, λ κ a. tt);
       release = (λ M. clocked.release.Met.met, λ κ a. tt);

@@ -26,14 +26,15 @@ use Rattle.monitor.specs.Record.{recordSize, counter, unlocked, byteOf}
 use Rattle.monitor.specs.Commands.{commands, commandOf, isListed, rdcfgb, mostMonitors, payloadSize, frameLength}
 use Rattle.monitor.specs.Effects.{locked, counted, written, done, keeps}
 use Rattle.monitor.specs.Reply.{register, reply}
-use Rattle.monitor.specs.Cells.{load}
 use Rattle.monitor.proofs.Keeping.{keeps-right, keeps-wrong}
 use Rattle.chain.specs.declared.frames.Answer.the-variants.{Refused, Accepted}
-use Rattle.chain.specs.declared.loads.Loaded.the-variants.{Done}
 use Rattle.chain.specs.Table.{monitors, sound}
 use Rattle.chain.specs.Frame.{commandIn, payloadsIn, replyLength, frameRefusals, answer, tableAfter, replyAfter}
-use Rattle.chain.specs.Load.{loadRefusals, loaded, tableAfterLoad}
-use Rattle.chain.proofs.Keeps.{Keeps, frame-keeps, load-keeps}
+use Rattle.chain.proofs.Keeps.{Keeps, frame-keeps}
+use Rattle.loads.specs.declared.loads.Loaded.the-variants.{Done}
+use Rattle.loads.specs.Cells.{load}
+use Rattle.loads.specs.Load.{loadRefusals, loaded, tableAfterLoad}
+use Rattle.loads.proofs.Keeps.{load-keeps}
 use Rattle.host.specs.declared.frames.Built.the-variants.{Length}
 use Rattle.host.specs.Frames.{dataSize, sealed, frameFor, buildRefusals, built, bufferAfter}
 use Rattle.host.specs.Ports.{partA}
@@ -89,10 +90,10 @@ pub record Demand2 : Type 0 where
   -- `monitor::reply_of`: a reply holds the register and the counter as it stands, with a check over both that is right
   reply-holds : (part : Part) (r : List ℕ) → reply part r ≡ register part r ++ seal (register part r) (byteOf counter r)
   reply-is-right : (part : Part) (r : List ℕ) → payloadRight (reply part r) ≡ true
-  -- ---- a load: `chain::load`
+  -- ---- a load: `loads::load`
 
   load-done : (table : List ℕ) (position : ℕ) (codes : List ℤ) → Passed (loadRefusals table position codes) → loaded table position codes ≡ Done
-  -- the monitor at the position is loaded, as `monitor::load` does, and every other stays
+  -- the monitor at the position is loaded, as `loads::load_one` does, and every other stays
   own-load : (table : List ℕ) (position : ℕ) (codes : List ℤ) → Passed (loadRefusals table position codes)
       → rowAt recordSize (position - 1) (tableAfterLoad table position codes) ≡ load codes (rowAt recordSize (position - 1) table)
   others-stay : (table : List ℕ) (position : ℕ) (codes : List ℤ) → Passed (loadRefusals table position codes)

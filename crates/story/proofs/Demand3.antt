@@ -21,12 +21,13 @@ use Rattle.monitor.specs.Reply.{reply}
 use Rattle.chain.specs.declared.frames.Answer.the-variants.{Refused, Accepted}
 use Rattle.chain.specs.Table.{monitors, sound}
 use Rattle.chain.specs.Frame.{commandIn, tableAfter, replyAfter}
-use Rattle.chain.specs.Load.{tableAfterLoad}
 use Rattle.chain.proofs.Judging.{stop-unsound}
-use Rattle.chain.proofs.Keeps.{Keeps, frame-keeps, load-keeps, monitors-after-frame, monitors-after-load}
-use Rattle.chain.proofs.LoadJudging.{stop-1 as load-stop-1, the-table as load-table}
+use Rattle.chain.proofs.Keeps.{Keeps, frame-keeps, monitors-after-frame}
 use Rattle.chain.proofs.Outcome.{the-table}
 use Rattle.chain.proofs.Soundness.{is-sound}
+use Rattle.loads.specs.Load.{tableAfterLoad}
+use Rattle.loads.proofs.Keeps.{load-keeps, monitors-after-load}
+use Rattle.loads.proofs.LoadJudging.{stop-1 as load-stop-1, the-table as load-table}
 use Rattle.clocked.specs.Clock.{Clock, chainedBy, clocked}
 use Rattle.clocked.specs.Release.{released}
 use Rattle.clocked.specs.State.{stateSize, clockOf, idle, stateAfter}
@@ -41,10 +42,10 @@ use Rattle.story.proofs.Runs.{frame-step, length-after, load-step, full
 pub record Demand3 : Type 0 where
   -- a sound table has 1 to 32 monitors
   one-to-32 : (table : List ℕ) → sound table ≡ true → (1 ≤ monitors table) × (monitors table ≤ mostMonitors)
-  -- `chain::handle` and `chain::load`, lent any reply buffer with room for eight bytes a monitor, do what the rules say
+  -- `chain::handle` and `loads::load`, lent any reply buffer with room for eight bytes a monitor, do what the rules say
   by-frames : (table buffer : List ℕ) (events : List Event) → payloadSize * monitors table ≤ length buffer
       → byFrames table buffer events ≡ byRules table events
-  -- `clocked::start`, `clocked::clock`, `clocked::release` and `chain::load`, lent any state, do what the rules say
+  -- `clocked::start`, `clocked::clock`, `clocked::release` and `loads::load`, lent any state, do what the rules say
   by-bytes : (table state : List ℕ) (events : List Event) → byBytes table state events ≡ byRules table events
   -- so the two engines end in the same table and give the same answers and reply bytes
   alike : (table buffer state : List ℕ) (events : List Event) → payloadSize * monitors table ≤ length buffer

@@ -20,13 +20,13 @@ use Rattle.monitor.specs.declared.commands.Write.the-variants.{Wrcfga}
 use Rattle.monitor.specs.declared.record.Part.{Part}
 use Rattle.monitor.specs.Commands.{commands, commandOf, frameLength}
 use Rattle.monitor.specs.Record.{configurationA, configurationB, counter, recordSize, bytesOf, byteOf, anew, onBytes}
-use Rattle.monitor.specs.Thresholds.{signed, byteB, vuv, vov, codesOf}
-use Rattle.monitor.specs.Cells.{flagsFor}
 use Rattle.monitor.specs.Effects.{locked, nextCount, counted, done, keeps}
 use Rattle.monitor.specs.Reply.{register, reply}
 use Rattle.chain.specs.declared.frames.Answer.the-variants.{Refused, Accepted}
 use Rattle.chain.specs.Table.{monitors, sound}
 use Rattle.chain.specs.Frame.{commandIn, frameRefusals, takenBy, answer}
+use Rattle.loads.specs.Thresholds.{signed, byteB, vuv, vov, codesOf}
+use Rattle.loads.specs.Cells.{flagsFor}
 use Rattle.readings.specs.Readings.{microvolts}
 
 -- a record of zeros but for some bytes at the start of a part

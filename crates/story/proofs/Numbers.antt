@@ -16,10 +16,11 @@ use Rattle.refusals.specs.Order.{Row, decide}
 use Rattle.refusals.proofs.Deciding.{holds-here, holds-not, decide-map, Passed, passes, has-passed}
 use Rattle.pec.specs.Words.{payloadRight}
 use Rattle.chain.specs.declared.frames.Answer.the-variants.{Refused as Refuses}
-use Rattle.chain.specs.declared.loads.Loaded.the-variants.{Unloaded, Done}
 use Rattle.chain.specs.Frame.{frameRefusals, answer}
-use Rattle.chain.specs.Load.{loadRefusals, loaded}
-use Rattle.chain.specs.Numbers.{numbersOf, loadNumber}
+use Rattle.chain.specs.Numbers.{numbersOf}
+use Rattle.loads.specs.declared.loads.Loaded.the-variants.{Unloaded, Done}
+use Rattle.loads.specs.Load.{loadRefusals, loaded}
+use Rattle.loads.specs.Numbers.{loadNumber}
 use Rattle.clocked.specs.declared.looks.Looked.the-variants.{Refused as Unseen}
 use Rattle.clocked.specs.Clock.{Clock}
 use Rattle.clocked.specs.Release.{releaseRefusals, released}

@@ -17,18 +17,20 @@ use Rattle.refusals.proofs as refusals
 use Rattle.pec.specs.Words.{pec15, pec10, commandCheck, commandRight, dataPec, seal, payloadRight}
 use Rattle.pec.proofs as pec
 use Rattle.monitor.specs.Commands.{commands, commandOf, isListed, frameLength, mostMonitors}
-use Rattle.monitor.specs.Record.{isRecord, recordSound}
+use Rattle.monitor.specs.Record.{cellCount, isRecord, recordSound}
 use Rattle.monitor.specs.Reply.{reply}
-use Rattle.monitor.specs.Thresholds.{vuv, vov, codesOf}
+use Rattle.loads.specs.Thresholds.{vuv, vov, codesOf}
 use Rattle.monitor.specs.Effects.{takes, keeps}
-use Rattle.monitor.specs.Cells.{store, compare, load}
+use Rattle.loads.specs.Cells.{store, compare, load}
 use Rattle.monitor.proofs as monitor
 use Rattle.chain.specs.Table.{monitors, sound}
 use Rattle.chain.specs.Frame.{commandIn, replyLength, replied, answer, tableAfter, replyAfter}
 use Rattle.chain.specs.Alone.{hasRecord, servedAt, repliesInto}
 use Rattle.chain.specs.Judged.{headJudged}
-use Rattle.chain.specs.Load.{loaded, tableAfterLoad}
-use Rattle.chain.specs.Numbers.{numbersOf, loadNumber}
+use Rattle.loads.specs.Load.{loaded, tableAfterLoad}
+use Rattle.chain.specs.Numbers.{numbersOf}
+use Rattle.loads.specs.Numbers.{loadNumber}
+use Rattle.loads.proofs as loads
 use Rattle.chain.proofs as chain
 use Rattle.clocked.specs.Clock.{answered}
 use Rattle.clocked.specs.Release.{released, tableReleased}
@@ -98,17 +100,8 @@ pub record OneOutcome : Type 0 where
   record-sound : Settles monitor.record_sound.Reads.Post (λ κ z e. leaves z []) (λ κ a. leaves (isRecord (now (a .0)) && recordSound (now (a .0))) [])
   byte-at : Settles monitor.byte_at.Reads.Post (λ κ z e. leaves z []) (λ κ a. leaves (getD (now (a .0)) (a .1 .0) 0) [])
   reply-of : Settles monitor.reply_of.Reads.Post (λ κ z e. leaves z []) (λ κ a. leaves (reply (a .0) (now (a .1 .0))) [])
-  codes-of : Settles monitor.codes_of.Reads.Post (λ κ z e. leaves z []) (λ κ a. leaves (codesOf (a .0)) [])
-  over-threshold : Settles monitor.over_threshold.Reads.Post (λ κ z e. leaves z []) (λ κ a. leaves (vov (now (a .0))) [])
-  under-threshold : Settles monitor.under_threshold.Reads.Post (λ κ z e. leaves z []) (λ κ a. leaves (vuv (now (a .0))) [])
   act : Settles monitor.act.Reads.Post (λ κ z e. leaves z (now (e .1 .0) ∷ []))
       (λ κ a. leaves (isRecord (now (a .1 .0)) && takes (a .0) (now (a .1 .1 .0))) (cond (isRecord (now (a .1 .0))) (keeps (a .0) (now (a .1 .1 .0)) (now (a .1 .0))) (now (a .1 .0)) ∷ []))
-  store : Settles monitor.store.Reads.Post (λ κ z e. leaves z (now (e .0) ∷ []))
-      (λ κ a. leaves (isRecord (now (a .0)) && eqb (length (now (a .1 .0))) 16) (cond (isRecord (now (a .0)) && eqb (length (now (a .1 .0))) 16) (store (now (a .1 .0)) (now (a .0))) (now (a .0)) ∷ []))
-  compare : Settles monitor.compare.Reads.Post (λ κ z e. leaves z (now (e .0) ∷ []))
-      (λ κ a. leaves (isRecord (now (a .0))) (cond (isRecord (now (a .0))) (compare (now (a .0))) (now (a .0)) ∷ []))
-  load-record : Settles monitor.load.Reads.Post (λ κ z e. leaves z (now (e .0) ∷ []))
-      (λ κ a. leaves (isRecord (now (a .0)) && eqb (length (now (a .1 .0))) 16) (cond (isRecord (now (a .0)) && eqb (length (now (a .1 .0))) 16) (load (now (a .1 .0)) (now (a .0))) (now (a .0)) ∷ []))
   -- chain
   sound-table : Settles chain.sound.Reads.Post (λ κ z e. leaves z []) (λ κ a. leaves (sound (now (a .0))) [])
   sound-count : Settles chain.sound_count.Reads.Post (λ κ z e. leaves z []) (λ κ a. leaves (cond (sound (now (a .0))) (monitors (now (a .0))) 0) [])
@@ -117,15 +110,25 @@ pub record OneOutcome : Type 0 where
       (λ κ a. leaves (cond (leb (a .1 .0) mostMonitors) (replyLength (a .0) (a .1 .0)) 0) [])
   judge-head : Settles chain.judge_head.Reads.Post (λ κ z e. leaves z []) (λ κ a. leaves (headJudged (now (a .0)) (a .1 .0) (a .1 .1 .0)) [])
   numbers-of : Settles chain.numbers_of.Reads.Post (λ κ z e. leaves z []) (λ κ a. leaves (numbersOf (a .0)) [])
-  load-number : Settles chain.load_number.Reads.Post (λ κ z e. leaves z []) (λ κ a. leaves (loadNumber (a .0)) [])
-  load : Settles chain.load.Reads.Post (λ κ z e. leaves z (now (e .0) ∷ []))
-      (λ κ a. leaves (loaded (now (a .0)) (a .1 .0) (now (a .1 .1 .0))) (tableAfterLoad (now (a .0)) (a .1 .0) (now (a .1 .1 .0)) ∷ []))
   serve-at : Settles chain.serve_at.Reads.Post (λ κ z e. leaves z (now (e .0) ∷ []))
       (λ κ a. leaves (hasRecord (a .1 .1 .0) (now (a .0)) && takes (a .1 .0) (now (a .1 .1 .1 .0))) (cond (hasRecord (a .1 .1 .0) (now (a .0))) (servedAt (a .1 .1 .0) (a .1 .0) (now (a .1 .1 .1 .0)) (now (a .0))) (now (a .0)) ∷ []))
   reply-all : Settles chain.reply_all.Reads.Post (λ κ z e. leaves z (now (e .1 .1 .0) ∷ []))
       (λ κ a. leaves (cond (repliesInto (a .1 .0) (now (a .0)) (length (now (a .1 .1 .0)))) (replyLength (a .1 .0) (monitors (now (a .0)))) 0) (cond (repliesInto (a .1 .0) (now (a .0)) (length (now (a .1 .1 .0)))) (replied (a .1 .0) (monitors (now (a .0))) (now (a .0)) (now (a .1 .1 .0))) (now (a .1 .1 .0)) ∷ []))
   handle : Settles chain.handle.Reads.Post (λ κ z e. leaves z (now (e .0) ∷ now (e .1 .1 .0) ∷ []))
       (λ κ a. leaves (answer (now (a .0)) (now (a .1 .0)) (length (now (a .1 .1 .0)))) (tableAfter (now (a .0)) (now (a .1 .0)) (length (now (a .1 .1 .0))) ∷ replyAfter (now (a .0)) (now (a .1 .0)) (now (a .1 .1 .0)) ∷ []))
+  -- loads
+  codes-of : Settles loads.codes_of.Reads.Post (λ κ z e. leaves z []) (λ κ a. leaves (codesOf (a .0)) [])
+  over-threshold : Settles loads.over_threshold.Reads.Post (λ κ z e. leaves z []) (λ κ a. leaves (vov (now (a .0))) [])
+  under-threshold : Settles loads.under_threshold.Reads.Post (λ κ z e. leaves z []) (λ κ a. leaves (vuv (now (a .0))) [])
+  load-number : Settles loads.load_number.Reads.Post (λ κ z e. leaves z []) (λ κ a. leaves (loadNumber (a .0)) [])
+  store : Settles loads.store.Reads.Post (λ κ z e. leaves z (now (e .0) ∷ []))
+      (λ κ a. leaves (isRecord (now (a .0)) && eqb (length (now (a .1 .0))) cellCount) (cond (isRecord (now (a .0)) && eqb (length (now (a .1 .0))) cellCount) (store (now (a .1 .0)) (now (a .0))) (now (a .0)) ∷ []))
+  compare : Settles loads.compare.Reads.Post (λ κ z e. leaves z (now (e .0) ∷ []))
+      (λ κ a. leaves (isRecord (now (a .0))) (cond (isRecord (now (a .0))) (compare (now (a .0))) (now (a .0)) ∷ []))
+  load-one : Settles loads.load_one.Reads.Post (λ κ z e. leaves z (now (e .0) ∷ []))
+      (λ κ a. leaves (isRecord (now (a .0)) && eqb (length (now (a .1 .0))) cellCount) (cond (isRecord (now (a .0)) && eqb (length (now (a .1 .0))) cellCount) (load (now (a .1 .0)) (now (a .0))) (now (a .0)) ∷ []))
+  load : Settles loads.load.Reads.Post (λ κ z e. leaves z (now (e .0) ∷ []))
+      (λ κ a. leaves (loaded (now (a .0)) (a .1 .0) (now (a .1 .1 .0))) (tableAfterLoad (now (a .0)) (a .1 .0) (now (a .1 .1 .0)) ∷ []))
   -- clocked
   start : Settles clocked.start.Reads.Post (λ κ z e. leaves z (now (e .0) ∷ [])) (λ κ a. leaves tt (idle ∷ []))
   clock : Settles clocked.clock.Reads.Post (λ κ z e. leaves z (now (e .0) ∷ []))
@@ -167,24 +170,24 @@ one-outcomes =
       record-sound = settles (λ κ a z e p i. leaves (p i) []);
       byte-at = settles (λ κ a z e p i. leaves (p i) []);
       reply-of = settles (λ κ a z e p i. leaves (p i) []);
-      codes-of = settles (λ κ a z e p i. leaves (p i) []);
-      over-threshold = settles (λ κ a z e p i. leaves (p i) []);
-      under-threshold = settles (λ κ a z e p i. leaves (p i) []);
       act = settles (λ κ a z e p i. leaves (p .0 i) (p .1 i ∷ []));
-      store = settles (λ κ a z e p i. leaves (p .0 i) (p .1 i ∷ []));
-      compare = settles (λ κ a z e p i. leaves (p .0 i) (p .1 i ∷ []));
-      load-record = settles (λ κ a z e p i. leaves (p .0 i) (p .1 i ∷ []));
       sound-table = settles (λ κ a z e p i. leaves (p i) []);
       sound-count = settles (λ κ a z e p i. leaves (p i) []);
       command-in = settles (λ κ a z e p i. leaves (p i) []);
       reply-size = settles (λ κ a z e p i. leaves (p i) []);
       judge-head = settles (λ κ a z e p i. leaves (p i) []);
       numbers-of = settles (λ κ a z e p i. leaves (p i) []);
-      load-number = settles (λ κ a z e p i. leaves (p i) []);
-      load = settles (λ κ a z e p i. leaves (p .0 i) (p .1 i ∷ []));
       serve-at = settles (λ κ a z e p i. leaves (p .0 i) (p .1 i ∷ []));
       reply-all = settles (λ κ a z e p i. leaves (p .0 i) (p .1 i ∷ []));
       handle = settles (λ κ a z e p i. leaves (p .0 i) (p .1 .0 i ∷ p .1 .1 i ∷ []));
+      codes-of = settles (λ κ a z e p i. leaves (p i) []);
+      over-threshold = settles (λ κ a z e p i. leaves (p i) []);
+      under-threshold = settles (λ κ a z e p i. leaves (p i) []);
+      load-number = settles (λ κ a z e p i. leaves (p i) []);
+      store = settles (λ κ a z e p i. leaves (p .0 i) (p .1 i ∷ []));
+      compare = settles (λ κ a z e p i. leaves (p .0 i) (p .1 i ∷ []));
+      load-one = settles (λ κ a z e p i. leaves (p .0 i) (p .1 i ∷ []));
+      load = settles (λ κ a z e p i. leaves (p .0 i) (p .1 i ∷ []));
       start = settles (λ κ a z e p i. leaves z (p i ∷ []));
       clock = settles (λ κ a z e p i. leaves (p .0 i) (p .1 .1 i ∷ []));
       release = settles (λ κ a z e p i. leaves (p .0 i) (p .1 .0 i ∷ p .1 .1 i ∷ []));

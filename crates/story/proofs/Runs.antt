@@ -29,13 +29,13 @@ use Rattle.monitor.specs.Reply.{reply}
 use Rattle.monitor.proofs.Sound.{length-reply}
 use Rattle.chain.specs.declared.frames.Answer.{Answer}
 use Rattle.chain.specs.declared.frames.Answer.the-variants.{Refused, Accepted}
-use Rattle.chain.specs.declared.loads.Loaded.the-variants.{Unloaded}
 use Rattle.chain.specs.Table.{monitors}
 use Rattle.chain.specs.Frame.{commandIn, payloadsIn, replyLength, roomRow, frameRefusals, takenBy, kept, replied, answer, tableAfter, replyAfter}
-use Rattle.chain.specs.Load.{loadRefusals, loaded, tableAfterLoad}
 use Rattle.chain.proofs.OwnBytes.{length-replied}
 use Rattle.chain.proofs.Refused.{either-way}
 use Rattle.chain.proofs.Taken.{taken-read, taken-bare}
+use Rattle.loads.specs.declared.loads.Loaded.the-variants.{Unloaded}
+use Rattle.loads.specs.Load.{loadRefusals, loaded, tableAfterLoad}
 use Rattle.clocked.specs.Clock.{Clock, start, answered}
 use Rattle.clocked.specs.Release.{released, tableReleased}
 use Rattle.clocked.specs.Frames.{clockedAll, answeredAll}

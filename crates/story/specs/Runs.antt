@@ -18,12 +18,12 @@ use Rattle.monitor.specs.Effects.{keeps}
 use Rattle.monitor.specs.Reply.{reply}
 use Rattle.chain.specs.declared.frames.Answer.{Answer}
 use Rattle.chain.specs.declared.frames.Answer.the-variants.{Refused, Accepted}
-use Rattle.chain.specs.declared.loads.Loaded.{Loaded}
-use Rattle.chain.specs.declared.loads.Loaded.the-variants.{Unloaded, Done}
 use Rattle.chain.specs.Table.{monitors}
 use Rattle.chain.specs.Frame.{commandIn, payloadsIn, replyLength, tableRow, shortRow, commandRow, listedRow, lengthRow, answer, tableAfter, replyAfter}
-use Rattle.chain.specs.Load.{loadRefusals, loadedAt, loaded, tableAfterLoad}
 use Rattle.chain.specs.Numbers.{numbersOf}
+use Rattle.loads.specs.declared.loads.Loaded.{Loaded}
+use Rattle.loads.specs.declared.loads.Loaded.the-variants.{Unloaded, Done}
+use Rattle.loads.specs.Load.{loadRefusals, loadedAt, loaded, tableAfterLoad}
 use Rattle.clocked.specs.Clock.{answered}
 use Rattle.clocked.specs.Release.{released, tableReleased}
 use Rattle.clocked.specs.State.{clockOf, idle, stateAfter}
@@ -105,7 +105,7 @@ unfoldable pub byRules : List ℕ → List Event → Left
 byRules table [] = record { table = table; seen = [] }
 byRules table (event ∷ events) = saw (ruled table event .seen) (byRules (ruled table event .table) events)
 
--- ---- by whole frames: `chain::handle` promises `answer`, `tableAfter` and `replyAfter`, `chain::load` `loaded` and `tableAfterLoad`. A
+-- ---- by whole frames: `chain::handle` promises `answer`, `tableAfter` and `replyAfter`, `loads::load` `loaded` and `tableAfterLoad`. A
 -- reply buffer is lent, and lent again as it was left; a reply is its first bytes
 
 unfoldable pub byFrames : List ℕ → List ℕ → List Event → Left

@@ -105,7 +105,7 @@ fn load(table: &mut [u8], n: usize, book: &mut Book)
     let to = from + 16;
     let codes = CODES;
     let size = 70 * n;
-    let came = chain::load_number(chain::load(&mut table[0..size], position, &codes[from..to]));
+    let came = loads::load_number(loads::load(&mut table[0..size], position, &codes[from..to]));
     book::count(book, book::LOADS + book::refused(came), 1);
 }
 
