@@ -67,7 +67,7 @@ is-accepted {A} (row ∷ rows) refused accepted other apart e = by (row .holds) 
 
 -- ---- a frame
 
-accepted-apart : (taken reply : ℕ) (r : Refusal) → Accepted taken reply ≡ Refused r → ⊥
+pub accepted-apart : (taken reply : ℕ) (r : Refusal) → Accepted taken reply ≡ Refused r → ⊥
 accepted-apart taken reply r e = let z : _≡_ {A = ℕ} 0 1 = cc in omega arith
 
 pub refused-table : (table frame : List ℕ) (room : ℕ) (r : Refusal) → answer table frame room ≡ Refused r → tableAfter table frame room ≡ table

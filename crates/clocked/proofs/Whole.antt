@@ -28,7 +28,7 @@ use Rattle.chain.specs.declared.frames.Answer.the-variants.{Refused, Accepted}
 use Rattle.chain.specs.Table.{monitors, sound}
 use Rattle.chain.specs.Frame.{commandIn, replyLength, roomRow, frameRefusals, takenBy, kept, replied, answer, tableAfter, replyAfter}
 use Rattle.chain.proofs.Soundness.{is-sound}
-use Rattle.chain.proofs.Refused.{accepted-reply, accepted-length}
+use Rattle.chain.proofs.Refused.{accepted-apart, accepted-reply, accepted-length}
 use Rattle.clocked.specs.Clock.{Clock, start, known}
 use Rattle.clocked.specs.Release.{releaseRefusals, takenOf, keptOf, released, tableReleased}
 use Rattle.clocked.specs.Frames.{clockedAll, answeredAll, keptBack, settleRefusals, settled, tableSettled, bufferSettled}
@@ -160,15 +160,11 @@ module _ (table frame : List ℕ) where
 
   -- ---- the reply is what came back after byte four
 
-  -- no refusal is an acceptance
-  apart : (taken bytes : ℕ) (r : Refusal) → Accepted taken bytes ≡ Refused r → ⊥
-  apart taken bytes r e = let z : _≡_ {A = ℕ} 0 1 = cc in omega arith
-
   module _ (room taken bytes : ℕ) (e : answer table frame room ≡ Accepted taken bytes) where
     -- an accepted frame passes every refusal
     passed : Passed (frameRefusals table frame room)
     unfolding answer
-    passed = has-passed (frameRefusals table frame room) Refused _ (Accepted taken bytes) (apart taken bytes) e
+    passed = has-passed (frameRefusals table frame room) Refused _ (Accepted taken bytes) (accepted-apart taken bytes) e
 
     module _ (part : Part) (c : commandIn frame ≡ Reads part) where
       -- a read's length

@@ -40,6 +40,7 @@ use Rattle.clocked.specs.Clock.{Clock, start, answered}
 use Rattle.clocked.specs.Release.{released, tableReleased}
 use Rattle.clocked.specs.Frames.{clockedAll, answeredAll}
 use Rattle.clocked.specs.State.{stateSize, clockOf, idle, stateAfter}
+use Rattle.clocked.proofs.Known.{reply-short}
 use Rattle.clocked.proofs.Lengths.{length-stateAfter}
 use Rattle.clocked.proofs.View.{view, view-idle}
 use Rattle.clocked.proofs.Whole.{released-whole, table-released-whole, reply-whole}
@@ -90,13 +91,6 @@ same-replies (Writes c) n table buffer = refl
 same-replies (Bares c) n table buffer = refl
 same-replies Unlisted n table buffer = refl
 
--- a reply has at most eight bytes for each monitor
-reply-most : (c : Command) (n : ℕ) → replyLength c n ≤ payloadSize * n
-reply-most (Reads part) n = omega arith
-reply-most (Writes c) n = omega arith
-reply-most (Bares c) n = omega arith
-reply-most Unlisted n = omega arith
-
 -- ---- a whole frame
 
 -- what is seen of an answer and a buffer
@@ -120,7 +114,7 @@ module _ (table frame buffer : List ℕ) (room : payloadSize * monitors table �
   no-sixth refused accepted =
       let sixth = roomRow (length buffer) c n ∷ [] in
       decide-append (ruleRefusals table frame) sixth refused accepted
-      ∙ ap (decide (ruleRefusals table frame) refused) (passes sixth refused accepted (le-ltb (length buffer) (replyLength c n) (le-trans (reply-most c n) room), tt))
+      ∙ ap (decide (ruleRefusals table frame) refused) (passes sixth refused accepted (le-ltb (length buffer) (replyLength c n) (le-trans (reply-short c n) room), tt))
 
   pub frame-step : stepTo (tableAfter table frame (length buffer)) (seenIn (answer table frame (length buffer)) (replyAfter table frame buffer)) ≡ ruled table (Frame frame)
   unfolding tableAfter answer replyAfter ruled obeyed kept
@@ -137,7 +131,7 @@ module _ (table frame buffer : List ℕ) (room : payloadSize * monitors table �
   unfolding replyAfter
   length-after =
       either-way (λ (left : List ℕ). length left ≡ length buffer) (frameRefusals table frame (length buffer)) (λ r. buffer) (replied c n table buffer)
-      (λ r. refl) (length-replied c n table buffer (le-trans (reply-most c n) room))
+      (λ r. refl) (length-replied c n table buffer (le-trans (reply-short c n) room))
 
 -- ---- a load
 

@@ -8,7 +8,7 @@ use native.Mathlib.Omega.{arith}
 use lib.ListN.{length}
 use Rattle.refusals.specs.declared.Refusal.{Refusal}
 use Rattle.chain.specs.declared.frames.Answer.the-variants.{Refused, Accepted}
-use Rattle.chain.proofs.Refused.{stays-so}
+use Rattle.chain.proofs.Refused.{accepted-apart, stays-so}
 use Rattle.clocked.specs.declared.looks.Looked.the-variants.{Refused as Unseen, Holds}
 use Rattle.clocked.specs.Clock.{Clock}
 use Rattle.clocked.specs.Release.{releaseRefusals, released, tableReleased}
@@ -21,9 +21,6 @@ use Rattle.host.specs.Parts.{bytesOf}
 use Rattle.host.proofs.TwoPorts.{byPort, bytes-by-port}
 
 -- a release
-accepted-apart : (taken reply : ℕ) (r : Refusal) → Accepted taken reply ≡ Refused r → ⊥
-accepted-apart taken reply r e = let z : _≡_ {A = ℕ} 0 1 = cc in omega arith
-
 pub refused-release : (c : Clock) (table : List ℕ) (r : Refusal) → released c table ≡ Refused r → tableReleased c table ≡ table
 unfolding released tableReleased
 refused-release c table r e = stays-so (releaseRefusals c table) Refused _ r table _ (accepted-apart _ _ r) e
