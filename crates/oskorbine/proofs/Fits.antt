@@ -1,0 +1,200 @@
+-- The parts of every answer fit their bits: a chain has at most 32 monitors, so at most 32 take a frame, no reply has more than 256
+-- bytes and no frame more than 260; a window has at most 8, and a summary at most 512 cells. A refusal's number is at most 10.
+-- Each is shown where no refusal holds, by what the refusals then say.
+-- Assumes nothing.
+use mathlib.Core.Path.{_≡_, refl, ap, _∙_}
+use mathlib.Core.Bool.{Bool, true, false, cond, not, _&&_, _||_}
+use mathlib.Core.List.{List, [], _∷_}
+use Prim.Native.Nat.{ℕ, _+_, _-_, _*_, _<_, _≤_}
+use native.Mathlib.Omega.{arith}
+use lib.Dec.{leb}
+use lib.IntN.{ℤ}
+use lib.ListN.{length, getD, take, drop, length-take}
+use borrow.Author.Tests.{leb-true, not-false}
+use Rattle.laws.specs.Counts.{count}
+use Rattle.refusals.specs.declared.Refusal.{Refusal}
+use Rattle.refusals.specs.declared.Refusal.the-variants.{TableNotSound, FrameShort, CommandWrong, CodeNotListed, LengthWrong, NoRoom, PositionWrong, CountWrong, CodeCleared, NeitherRight}
+use Rattle.refusals.specs.Numbers.{numberOf}
+use Rattle.refusals.specs.Order.{Row, decide}
+use Rattle.refusals.proofs.Deciding.{Passed}
+use Rattle.wire.proofs.Order.{length-writePayloads}
+use Rattle.monitor.specs.declared.commands.Command.{Command}
+use Rattle.monitor.specs.declared.commands.Command.the-variants.{Reads, Writes, Bares, Unlisted}
+use Rattle.monitor.specs.Commands.{commands, commandOf, mostMonitors, payloadSize, frameLength}
+use Rattle.monitor.specs.Effects.{takes}
+use Rattle.chain.specs.declared.frames.Answer.the-variants.{Refused, Accepted}
+use Rattle.chain.specs.declared.loads.Loaded.{Loaded}
+use Rattle.chain.specs.declared.loads.Loaded.the-variants.{Unloaded, Done}
+use Rattle.chain.specs.Table.{monitors, sound}
+use Rattle.chain.specs.Frame.{commandIn, payloadsIn, frameRefusals, takenBy, answer}
+use Rattle.chain.specs.Load.{loaded}
+use Rattle.chain.proofs.Soundness.{both, is-sound}
+use Rattle.clocked.specs.declared.looks.Looked.the-variants.{Refused as Unseen, Holds}
+use Rattle.clocked.specs.declared.state.Kind.{Kind}
+use Rattle.clocked.specs.declared.state.Kind.the-variants.{Fills, Drains, Still}
+use Rattle.clocked.specs.Release.{releaseRefusals, takenOf, released, another}
+use Rattle.clocked.specs.Look.{windowOf, lookRefusals, looked}
+use Rattle.clocked.specs.State.{windowsAt, seenIn, kindIn, chainedIn, registerIn, windowsIn, clockOf}
+use Rattle.clocked.proofs.Known.{reply-short}
+use Rattle.clocked.proofs.Register.{come, chained-few, length-windows, fills-at, drains-at, still-at}
+use Rattle.host.specs.declared.frames.Built.the-variants.{Unbuilt, Length}
+use Rattle.host.specs.declared.frames.Checked.{Checked}
+use Rattle.host.specs.declared.frames.Checked.the-variants.{Unchecked, Right, Wrong}
+use Rattle.host.specs.declared.ports.Port.{Port}
+use Rattle.host.specs.declared.ports.Port.the-variants.{Refused as Unported, A, B}
+use Rattle.host.specs.Frames.{buildRefusals, built}
+use Rattle.host.specs.Ports.{placeA, placeB, portOf}
+use Rattle.host.proofs.TwoPorts.{Asked, only-a, only-b}
+use Rattle.readings.specs.declared.pack_summary.Pack.{Pack}
+use Rattle.readings.specs.declared.pack_summary.Pack.the-variants.{Refused as Unsummed, Nothing, Whole}
+use Rattle.readings.specs.Readings.{mostCodes, measured, wholeOf, summaryOf}
+use Rattle.readings.proofs.Sizes.{cells-at-most-codes}
+use Rattle.readings.proofs.Summaries.{cellsOf}
+use Rattle.oskorbine.specs.Packed.{Parts, Fit, refused, accepted, frameParts, loadParts, builtParts, checkedParts, portParts, lookedParts}
+use Rattle.oskorbine.specs.Volts.{roomRow, summaryParts}
+
+-- ---- of any answer
+
+-- what is accepted fits by its values
+pub accepted-fits : (first second : ℕ) → first < 256 → second < 65536 → Fit (accepted first second)
+accepted-fits first second f s = record { number-fits = omega arith; first-fits = f; second-fits = s }
+
+pub refused-fits : (r : Refusal) → Fit (refused r)
+refused-fits r = record { number-fits = at-most-ten r; first-fits = omega arith; second-fits = omega arith }
+  where
+    at-most-ten : (r : Refusal) → numberOf r < 256
+    at-most-ten TableNotSound = omega arith
+    at-most-ten FrameShort = omega arith
+    at-most-ten CommandWrong = omega arith
+    at-most-ten CodeNotListed = omega arith
+    at-most-ten LengthWrong = omega arith
+    at-most-ten NoRoom = omega arith
+    at-most-ten PositionWrong = omega arith
+    at-most-ten CountWrong = omega arith
+    at-most-ten CodeCleared = omega arith
+    at-most-ten NeitherRight = omega arith
+
+-- what holds of every refusal, and of what is accepted where none holds, holds of the outcome
+decided : {A : Type 0} (P : A → Type 0) (rows : List Row) (refuses : Refusal → A) (a : A) → ((r : Refusal) → P (refuses r)) → (Passed rows → P a)
+    → P (decide rows refuses a)
+unfolding decide
+decided P [] refuses a h k = k tt
+decided P (row ∷ rows) refuses a h k = by (row .holds) refl (λ e. decided P rows refuses a h (λ p. k (e, p)))
+  where
+    by : (x : Bool) → row .holds ≡ x → (row .holds ≡ false → P (decide rows refuses a)) → P (cond x (refuses (row .refusal)) (decide rows refuses a))
+    by true e rest = h (row .refusal)
+    by false e rest = rest e
+
+-- ---- a frame and a release
+
+-- no more are counted than there are
+count-most : {A : Type 0} (test : A → Bool) (xs : List A) → count test xs ≤ length xs
+unfolding count
+count-most test [] = omega arith
+count-most test (x ∷ xs) = by (test x) (count-most test xs)
+  where
+    by : (b : Bool) → count test xs ≤ length xs → cond b 1 0 + count test xs ≤ length (x ∷ xs)
+    by true h = omega arith
+    by false h = omega arith
+
+few-taken : (c : Command) (n : ℕ) (frame : List ℕ) → takenBy c n frame ≤ n
+unfolding takenBy payloadsIn
+few-taken c n frame = omega (arith, count-most (takes c) (payloadsIn frame n), length-writePayloads payloadSize n (drop 4 frame))
+
+pub frame-fits : (table frame : List ℕ) (room : ℕ) → Fit (frameParts (answer table frame room))
+unfolding answer frameRefusals
+frame-fits table frame room =
+    decided (λ x. Fit (frameParts x)) (frameRefusals table frame room) Refused _ refused-fits
+    (λ none. let few = is-sound table (not-false (sound table) (none .0)) .few in
+    accepted-fits _ _ (omega (arith, few, few-taken (commandIn frame) (monitors table) frame)) (omega (arith, few, reply-short (commandIn frame) (monitors table))))
+
+-- neither of the two holds
+neither : (a b : Bool) → a || b ≡ false → a ≡ false
+neither true b e = e
+neither false b e = refl
+
+pub release-fits : (s table : List ℕ) → Fit (frameParts (released (clockOf s) table))
+unfolding released releaseRefusals takenOf clockOf
+release-fits s table =
+    decided (λ x. Fit (frameParts x)) (releaseRefusals (clockOf s) table) Refused _ refused-fits
+    (λ none. let few = is-sound table (not-false (sound table) (neither _ _ (none .0))) .few in
+    let taken = count-most (takes (commandIn (clockOf s .head))) (clockOf s .windows) in
+    accepted-fits _ _ (omega (arith, taken, chained-few s, length-windows (kindIn s) (seenIn s) (chainedIn s) (registerIn (chainedIn s) s)))
+    (omega (arith, few, reply-short (commandIn (clockOf s .head)) (monitors table))))
+
+-- ---- a load
+
+pub load-fits : (l : Loaded) → Fit (loadParts l)
+load-fits (Unloaded r) = refused-fits r
+load-fits Done = accepted-fits 0 0 (omega arith) (omega arith)
+
+-- ---- the host
+
+long : (c : Command) (n : ℕ) → frameLength c n ≤ 4 + payloadSize * n
+long (Reads part) n = omega arith
+long (Writes c) n = omega arith
+long (Bares c) n = omega arith
+long Unlisted n = omega arith
+
+pub built-fits : (code n : ℕ) (values : List ℕ) (room : ℕ) → Fit (builtParts (built code n values room))
+unfolding built buildRefusals
+built-fits code n values room =
+    decided (λ x. Fit (builtParts x)) (buildRefusals code n values room) Unbuilt _ refused-fits
+    (λ none. let few = leb-true n mostMonitors (both (leb 1 n) (leb n mostMonitors) (not-false _ (none .1 .0)) .1) in
+    accepted-fits 0 _ (omega arith) (omega (arith, few, long (commandOf code commands) n)))
+
+pub checked-fits : (c : Checked) → Fit (checkedParts c)
+checked-fits (Unchecked r) = refused-fits r
+checked-fits Right = accepted-fits 1 0 (omega arith) (omega arith)
+checked-fits Wrong = accepted-fits 2 0 (omega arith) (omega arith)
+
+pub port-fits : (a b : List ℕ) (n k : ℕ) → Fit (portParts n k (portOf a b n k))
+unfolding placeA placeB
+port-fits a b n k = by (portOf a b n k) refl
+  where
+    by : (port : Port) → portOf a b n k ≡ port → Fit (portParts n k port)
+    by (Unported r) e = refused-fits r
+    by A e = let asked = only-a a b n k e .0 in accepted-fits 1 _ (omega arith) (omega (arith, asked .most, asked .last))
+    by B e = let asked = only-b a b n k e .0 in accepted-fits 2 _ (omega arith) (omega (arith, asked .most, asked .last))
+
+-- ---- a look
+
+-- a window has at most a payload's bytes
+short : (kind : Kind) (seen n k : ℕ) (s : List ℕ) → k < n → length (getD (windowsIn kind seen n (registerIn n s)) k []) ≤ payloadSize
+short Fills seen n k s h =
+    let size = come seen k in
+    omega (arith, ap length (fills-at seen n k s h) ∙ length-take size (drop (windowsAt + payloadSize * (n - k) - size) s))
+short Drains seen n k s h = omega (arith, ap length (drains-at seen n k s h) ∙ length-take payloadSize (drop (windowsAt + payloadSize * k) s))
+short Still seen n k s h = omega (arith, ap length (still-at seen n k (registerIn n s)))
+
+pub look-fits : (s : List ℕ) (position room : ℕ) → Fit (lookedParts (looked (clockOf s) position room))
+unfolding looked lookRefusals windowOf clockOf
+look-fits s position room =
+    decided (λ x. Fit (lookedParts x)) (lookRefusals (clockOf s) position room) Unseen _ refused-fits
+    (λ none. let there = both (leb 1 position) (leb position (chainedIn s)) (not-false _ (none .0)) in
+    let first = leb-true 1 position (there .0) in
+    let last = leb-true position (chainedIn s) (there .1) in
+    accepted-fits 0 _ (omega arith) (omega (arith, short (kindIn s) (seenIn s) (chainedIn s) (position - 1) s (omega arith))))
+
+-- ---- a summary
+
+-- the cells of wholeOf are those measured
+whole-cells : (ms : List ℤ) → cellsOf (wholeOf ms) ≡ length ms
+unfolding wholeOf
+whole-cells [] = refl
+whole-cells (m ∷ ms) = refl
+
+pub few-cells : (codes : List ℤ) → cellsOf (summaryOf codes) ≤ mostCodes
+unfolding summaryOf
+few-cells codes =
+    decided (λ p. cellsOf p ≤ mostCodes) _ Unsummed _ (λ r. omega arith)
+    (λ none. let few = leb-true (length codes) mostCodes (both (leb 1 (length codes)) _ (not-false _ (none .0)) .1) in
+    omega (arith, few, cells-at-most-codes codes, whole-cells (measured codes)))
+
+pub summary-fits : (codes : List ℤ) (room : ℕ) → Fit (summaryParts (summaryOf codes) room)
+summary-fits codes room = by (summaryOf codes) (few-cells codes)
+  where
+    by : (p : Pack) → cellsOf p ≤ mostCodes → Fit (summaryParts p room)
+    by (Unsummed r) few = refused-fits r
+    by Nothing few = decided Fit (roomRow room ∷ []) refused _ refused-fits (λ none. accepted-fits 0 0 (omega arith) (omega arith))
+    by (Whole s) few = decided Fit (roomRow room ∷ []) refused _ refused-fits (λ none. accepted-fits 1 (s .cells) (omega arith) (omega arith))

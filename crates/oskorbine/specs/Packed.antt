@@ -1,0 +1,81 @@
+-- The answer of a function of the surface: one number of 32 bits, which holds the paper's number and two values. A refusal returns its
+-- number only, and a value that a function does not have is 0.
+-- Assumes nothing.
+use Prim.Native.Nat.{ℕ, _+_, _*_, _/_, _%_, _<_}
+use Rattle.refusals.specs.declared.Refusal.{Refusal}
+use Rattle.refusals.specs.Numbers.{numberOf}
+use Rattle.monitor.specs.Commands.{payloadSize}
+use Rattle.chain.specs.declared.frames.Answer.{Answer}
+use Rattle.chain.specs.declared.frames.Answer.the-variants.{Refused, Accepted}
+use Rattle.chain.specs.declared.loads.Loaded.{Loaded}
+use Rattle.chain.specs.Numbers.{loadNumber}
+use Rattle.clocked.specs.declared.looks.Looked.{Looked}
+use Rattle.clocked.specs.declared.looks.Looked.the-variants.{Refused as Unseen, Holds}
+use Rattle.host.specs.declared.frames.Built.{Built}
+use Rattle.host.specs.declared.frames.Built.the-variants.{Unbuilt, Length}
+use Rattle.host.specs.declared.frames.Checked.{Checked}
+use Rattle.host.specs.declared.frames.Checked.the-variants.{Unchecked, Right, Wrong}
+use Rattle.host.specs.declared.ports.Port.{Port}
+use Rattle.host.specs.declared.ports.Port.the-variants.{Refused as Unported, A, B}
+use Rattle.host.specs.Ports.{placeA, placeB}
+
+-- ---- the packing
+
+pub record Parts : Type 0 where
+  -- the refusal's, and 0 where it was accepted
+  pub number : ℕ
+  pub first : ℕ
+  pub second : ℕ
+
+-- bits 0 to 7 the number, bits 8 to 15 the first value, bits 16 to 31 the second
+unfoldable pub packed : Parts → ℕ
+packed p = p .number + 256 * p .first + 65536 * p .second
+
+-- and taken apart again
+unfoldable pub apart : ℕ → Parts
+apart answer = record { number = answer % 256; first = answer / 256 % 256; second = answer / 65536 }
+
+-- each has room in its bits
+pub record Fit (p : Parts) : Type 0 where
+  pub number-fits : p .number < 256
+  pub first-fits : p .first < 256
+  pub second-fits : p .second < 65536
+
+-- ---- the parts of each answer
+
+abbrev pub refused : Refusal → Parts
+refused r = record { number = numberOf r; first = 0; second = 0 }
+
+abbrev pub accepted : ℕ → ℕ → Parts
+accepted first second = record { number = 0; first = first; second = second }
+
+-- a frame, and a release: how many monitors took it, and the length of the reply
+abbrev pub frameParts : Answer → Parts
+frameParts (Refused r) = refused r
+frameParts (Accepted taken reply) = accepted taken reply
+
+-- a load has no values
+abbrev pub loadParts : Loaded → Parts
+loadParts l = record { number = loadNumber l; first = 0; second = 0 }
+
+-- a host's frame: its length
+abbrev pub builtParts : Built → Parts
+builtParts (Unbuilt r) = refused r
+builtParts (Length size) = accepted 0 size
+
+-- the check of one payload: 1 where it is right, 2 where it is damaged
+abbrev pub checkedParts : Checked → Parts
+checkedParts (Unchecked r) = refused r
+checkedParts Right = accepted 1 0
+checkedParts Wrong = accepted 2 0
+
+-- monitor k of n by two ports: 1 for port A, 2 for port B, and the byte of that port's reply that k's eight start at
+abbrev pub portParts : ℕ → ℕ → Port → Parts
+portParts n k (Unported r) = refused r
+portParts n k A = accepted 1 (placeA n k * payloadSize)
+portParts n k B = accepted 2 (placeB n k * payloadSize)
+
+-- a look at a window: how many bytes it holds
+abbrev pub lookedParts : Looked → Parts
+lookedParts (Unseen r) = refused r
+lookedParts (Holds size) = accepted 0 size
