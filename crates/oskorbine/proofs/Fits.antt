@@ -1,15 +1,17 @@
 -- The parts of every answer fit their bits: a chain has at most 32 monitors, so at most 32 take a frame, no reply has more than 256
--- bytes and no frame more than 260; a window has at most 8, and a summary at most 512 cells. A refusal's number is at most 10.
+-- bytes and no frame more than 260; a window has at most 8, and a summary at most 512 cells. A refusal's number is at most 10. What a
+-- byte clocked answers is FF or a byte of the state.
 -- Each is shown where no refusal holds, by what the refusals then say.
 -- Assumes nothing.
-use mathlib.Core.Path.{_≡_, refl, ap, _∙_}
+use mathlib.Core.Path.{_≡_, refl, ap, _∙_, subst⁻¹}
 use mathlib.Core.Bool.{Bool, true, false, cond, not, _&&_, _||_}
 use mathlib.Core.List.{List, [], _∷_}
-use Prim.Native.Nat.{ℕ, _+_, _-_, _*_, _<_, _≤_}
+use Prim.Native.Nat.{ℕ, zero, suc, _+_, _-_, _*_, _<_, _≤_}
 use native.Mathlib.Omega.{arith}
-use lib.Dec.{leb}
+use lib.Dec.{leb, ltb}
 use lib.IntN.{ℤ}
 use lib.ListN.{length, getD, take, drop, length-take}
+use lib.Seq.{getD-drop}
 use borrow.Author.Tests.{leb-true, not-false}
 use Rattle.laws.specs.Counts.{count}
 use Rattle.refusals.specs.declared.Refusal.{Refusal}
@@ -32,11 +34,12 @@ use Rattle.chain.proofs.Soundness.{both, is-sound}
 use Rattle.clocked.specs.declared.looks.Looked.the-variants.{Refused as Unseen, Holds}
 use Rattle.clocked.specs.declared.state.Kind.{Kind}
 use Rattle.clocked.specs.declared.state.Kind.the-variants.{Fills, Drains, Still}
+use Rattle.clocked.specs.Clock.{far, leaving, answered}
 use Rattle.clocked.specs.Release.{releaseRefusals, takenOf, released, another}
 use Rattle.clocked.specs.Look.{windowOf, lookRefusals, looked}
 use Rattle.clocked.specs.State.{windowsAt, seenIn, kindIn, chainedIn, registerIn, windowsIn, clockOf}
 use Rattle.clocked.proofs.Known.{reply-short}
-use Rattle.clocked.proofs.Register.{come, chained-few, length-windows, fills-at, drains-at, still-at}
+use Rattle.clocked.proofs.Register.{come, chained-few, length-windows, leaves-first, fills-at, drains-at, still-at}
 use Rattle.host.specs.declared.frames.Built.the-variants.{Unbuilt, Length}
 use Rattle.host.specs.declared.frames.Checked.{Checked}
 use Rattle.host.specs.declared.frames.Checked.the-variants.{Unchecked, Right, Wrong}
@@ -175,6 +178,31 @@ look-fits s position room =
     let first = leb-true 1 position (there .0) in
     let last = leb-true position (chainedIn s) (there .1) in
     accepted-fits 0 _ (omega arith) (omega (arith, short (kindIn s) (seenIn s) (chainedIn s) (position - 1) s (omega arith))))
+
+-- ---- a byte clocked
+
+-- what leaves is FF, or a byte of the state
+leaves-byte : (n : ℕ) (s : List ℕ) → ((k : ℕ) → getD s k 0 < 256) → getD (registerIn n s) 0 far < 256
+unfolding registerIn
+leaves-byte n s bytes = first (payloadSize * n) (drop windowsAt s) (omega (arith, getD-drop windowsAt s 0 0, bytes (windowsAt + 0)))
+  where
+    first : (m : ℕ) (l : List ℕ) → getD l 0 0 < 256 → getD (take m l) 0 far < 256
+    first zero l h = omega arith
+    first (suc m) [] h = omega arith
+    first (suc m) (x ∷ xs) h = h
+
+pub byte-fits : (s : List ℕ) → ((k : ℕ) → getD s k 0 < 256) → Fit (accepted (answered (clockOf s)) 0)
+unfolding answered clockOf leaving
+byte-fits s bytes = accepted-fits _ 0 (by (ltb (seenIn s) 4) (kindIn s)) (omega arith)
+  where
+    n : ℕ
+    n = chainedIn s
+
+    by : (early : Bool) (kind : Kind) → cond early far (leaving kind (windowsIn kind (seenIn s) n (registerIn n s))) < 256
+    by true kind = omega arith
+    by false Fills = omega arith
+    by false Drains = subst⁻¹ (λ (x : ℕ). x < 256) (leaves-first (seenIn s) n s) (leaves-byte n s bytes)
+    by false Still = omega arith
 
 -- ---- a summary
 

@@ -1,7 +1,11 @@
 -- The answer of a function of the surface: one number of 32 bits, which holds the paper's number and two values. A refusal returns its
 -- number only, and a value that a function does not have is 0.
 -- Assumes nothing.
+use mathlib.Core.Bool.{cond}
+use mathlib.Core.List.{List, []}
 use Prim.Native.Nat.{ℕ, _+_, _*_, _/_, _%_, _<_}
+use lib.Dec.{eqb}
+use lib.ListN.{take, drop}
 use Rattle.refusals.specs.declared.Refusal.{Refusal}
 use Rattle.refusals.specs.Numbers.{numberOf}
 use Rattle.monitor.specs.Commands.{payloadSize}
@@ -74,6 +78,11 @@ abbrev pub portParts : ℕ → ℕ → Port → Parts
 portParts n k (Unported r) = refused r
 portParts n k A = accepted 1 (placeA n k * payloadSize)
 portParts n k B = accepted 2 (placeB n k * payloadSize)
+
+-- the eight bytes that such an answer points at, in one of the two replies; none where it is refused
+abbrev pub pointed : Parts → List ℕ → List ℕ → List ℕ
+pointed p a b =
+    cond (eqb (p .first) 1) (take payloadSize (drop (p .second) a)) (cond (eqb (p .first) 2) (take payloadSize (drop (p .second) b)) [])
 
 -- a look at a window: how many bytes it holds
 abbrev pub lookedParts : Looked → Parts

@@ -70,7 +70,7 @@ pub one-outcome : {A : Type 0} {one other said : A} → one ≡ said → other �
 one-outcome p q = p ∙ sym q
 
 -- the first gives the second
-settles : {L : Type 0} {A Z E : L → Type 0} {T : Type 0} {promise : (κ : L) → A κ → Z κ → E κ → Type 0} {left : (κ : L) → Z κ → E κ → Outcome T} {said : (κ : L) → A κ → Outcome T}
+pub settles : {L : Type 0} {A Z E : L → Type 0} {T : Type 0} {promise : (κ : L) → A κ → Z κ → E κ → Type 0} {left : (κ : L) → Z κ → E κ → Outcome T} {said : (κ : L) → A κ → Outcome T}
     → Says promise left said → Settles promise left said
 settles says = (says, λ κ a z z' e e' p q. one-outcome (says κ a z e p) (says κ a z' e' q))
 

@@ -1,0 +1,110 @@
+-- The number that an answer holds is that of the first refusal that holds, and 0 where none does: what is made of the outcome of a list
+-- of refusals may be made of each outcome. A summary's own refusal comes before that of the room.
+-- Assumes nothing.
+use mathlib.Core.Path.{_≡_, refl, sym, ap, _∙_}
+use mathlib.Core.Bool.{Bool, true, false, cond}
+use mathlib.Core.List.{List, [], _∷_, _++_}
+use Prim.Native.Nat.{ℕ}
+use native.Mathlib.Omega.{arith}
+use lib.Dec.{ltb}
+use lib.Ieee.{Float}
+use lib.IntN.{ℤ}
+use lib.ListN.{length}
+use Rattle.refusals.specs.declared.Refusal.{Refusal}
+use Rattle.refusals.specs.declared.Refusal.the-variants.{NoRoom}
+use Rattle.refusals.specs.Numbers.{numberOf}
+use Rattle.refusals.specs.Order.{Row, decide}
+use Rattle.refusals.proofs.Deciding.{decide-map, decide-append}
+use Rattle.pec.specs.Words.{payloadRight}
+use Rattle.chain.specs.declared.frames.Answer.the-variants.{Refused}
+use Rattle.chain.specs.declared.loads.Loaded.the-variants.{Unloaded, Done}
+use Rattle.chain.specs.Frame.{frameRefusals, answer}
+use Rattle.chain.specs.Load.{loadRefusals, loaded}
+use Rattle.clocked.specs.declared.looks.Looked.the-variants.{Refused as Unseen}
+use Rattle.clocked.specs.Clock.{Clock}
+use Rattle.clocked.specs.Release.{releaseRefusals, released}
+use Rattle.clocked.specs.Look.{lookRefusals, looked}
+use Rattle.host.specs.declared.frames.Built.the-variants.{Unbuilt}
+use Rattle.host.specs.declared.frames.Checked.the-variants.{Unchecked, Right, Wrong}
+use Rattle.host.specs.declared.ports.Port.the-variants.{Refused as Unported, A, B}
+use Rattle.host.specs.Frames.{buildRefusals, built, checkRefusals, checked}
+use Rattle.host.specs.Ports.{partA, portRefusals, portOf}
+use Rattle.readings.specs.declared.pack_summary.Pack.{Pack}
+use Rattle.readings.specs.declared.pack_summary.Pack.the-variants.{Refused as Unsummed, Nothing, Whole}
+use Rattle.readings.specs.Readings.{measured, wholeOf, summaryOf}
+use Rattle.story.specs.Numbers.{firstNumber, summaryRefusals}
+use Rattle.oskorbine.specs.Packed.{Parts, refused, accepted, frameParts, loadParts, builtParts, checkedParts, portParts, lookedParts}
+use Rattle.oskorbine.specs.Volts.{summarySize, roomRow, summaryParts, summaryOut}
+
+pub frame-number : (table frame : List ℕ) (room : ℕ) → frameParts (answer table frame room) .number ≡ firstNumber (frameRefusals table frame room)
+unfolding answer
+frame-number table frame room = decide-map (λ x. frameParts x .number) (frameRefusals table frame room) Refused _
+
+pub load-number : (table : List ℕ) (position : ℕ) (codes : List ℤ) → loadParts (loaded table position codes) .number ≡ firstNumber (loadRefusals table position codes)
+unfolding loaded
+load-number table position codes = decide-map (λ x. loadParts x .number) (loadRefusals table position codes) Unloaded Done
+
+pub release-number : (c : Clock) (table : List ℕ) → frameParts (released c table) .number ≡ firstNumber (releaseRefusals c table)
+unfolding released
+release-number c table = decide-map (λ x. frameParts x .number) (releaseRefusals c table) Refused _
+
+pub look-number : (c : Clock) (position room : ℕ) → lookedParts (looked c position room) .number ≡ firstNumber (lookRefusals c position room)
+unfolding looked
+look-number c position room = decide-map (λ x. lookedParts x .number) (lookRefusals c position room) Unseen _
+
+pub built-number : (code n : ℕ) (values : List ℕ) (room : ℕ) → builtParts (built code n values room) .number ≡ firstNumber (buildRefusals code n values room)
+unfolding built
+built-number code n values room = decide-map (λ x. builtParts x .number) (buildRefusals code n values room) Unbuilt _
+
+pub checked-number : (payload : List ℕ) → checkedParts (checked payload) .number ≡ firstNumber (checkRefusals payload)
+unfolding checked
+checked-number payload =
+    decide-map (λ x. checkedParts x .number) (checkRefusals payload) Unchecked _ ∙ ap (decide (checkRefusals payload) numberOf) (none (payloadRight payload))
+  where
+    none : (right : Bool) → checkedParts (cond right Right Wrong) .number ≡ 0
+    none true = refl
+    none false = refl
+
+pub port-number : (a b : List ℕ) (n k : ℕ) → portParts n k (portOf a b n k) .number ≡ firstNumber (portRefusals a b n k)
+unfolding portOf
+port-number a b n k =
+    decide-map (λ x. portParts n k x .number) (portRefusals a b n k) Unported _
+    ∙ ap (decide (portRefusals a b n k) numberOf) (none (payloadRight (partA a n k)))
+  where
+    none : (right : Bool) → portParts n k (cond right A B) .number ≡ 0
+    none true = refl
+    none false = refl
+
+-- ---- a summary
+
+-- 8, then 6
+pub summary-number : (codes : List ℤ) (room : ℕ)
+    → summaryParts (summaryOf codes) room .number ≡ firstNumber (summaryRefusals codes ++ roomRow room ∷ [])
+unfolding summaryOf wholeOf
+summary-number codes room =
+    decide-map (λ x. summaryParts x room .number) (summaryRefusals codes) Unsummed (wholeOf (measured codes))
+    ∙ ap (decide (summaryRefusals codes) numberOf) (by-room (measured codes))
+    ∙ sym (decide-append (summaryRefusals codes) (roomRow room ∷ []) numberOf 0)
+  where
+    by-room : (ms : List ℤ) → summaryParts (wholeOf ms) room .number ≡ firstNumber (roomRow room ∷ [])
+    by-room [] = decide-map (λ p. p .number) (roomRow room ∷ []) refused _
+    by-room (m ∷ ms) = decide-map (λ p. p .number) (roomRow room ∷ []) refused _
+
+-- where it is refused the buffer stays
+pub summary-stays : (codes : List ℤ) (out : List Float) (r : Refusal) → summaryParts (summaryOf codes) (length out) ≡ refused r
+    → summaryOut (summaryOf codes) out ≡ out
+unfolding decide
+summary-stays codes out r = by (summaryOf codes)
+  where
+    stays : (cells : ℕ) (written : List Float) (b : Bool) → cond b (refused NoRoom) (accepted 1 cells) ≡ refused r → cond b out written ≡ out
+    stays cells written true e = refl
+    stays cells written false e = absurd (omega (arith, ap (λ (p : Parts). p .first) e))
+
+    by : (p : Pack) → summaryParts p (length out) ≡ refused r → summaryOut p out ≡ out
+    by (Unsummed r') e = refl
+    by Nothing e = refl
+    by (Whole s) e = stays (s .cells) _ (ltb (length out) summarySize) e
+
+-- and where all cells are cleared
+pub nothing-stays : (codes : List ℤ) (out : List Float) → summaryOf codes ≡ Nothing → summaryOut (summaryOf codes) out ≡ out
+nothing-stays codes out e = ap (λ (p : Pack). summaryOut p out) e

@@ -1,0 +1,169 @@
+-- What the surface promises, in one record. Every function is proved to meet its own contract, asks nothing of its arguments, and leaves
+-- one outcome, which the definitions of the crates below say, as for theirs (`story`, demand 1); a u32 that it answers with is taken
+-- apart again into the paper's number and the two values, with nothing lost; the eight bytes of two ports are those that the host
+-- hands back; and a summary refuses in its order, and leaves its buffer where it does.
+-- Assumes nothing.
+use mathlib.Core.Path.{_≡_}
+use mathlib.Core.List.{List, [], _∷_, _++_}
+use Prim.Native.Nat.{ℕ, _<_}
+use denote.Ref.{now}
+use lib.Ieee.{Float}
+use lib.IntN.{ℤ}
+use lib.ListN.{length, getD}
+use Rattle.refusals.specs.declared.Refusal.{Refusal}
+use Rattle.chain.specs.declared.loads.Loaded.{Loaded}
+use Rattle.chain.specs.Frame.{frameRefusals, answer, tableAfter, replyAfter}
+use Rattle.chain.specs.Load.{loadRefusals, loaded, tableAfterLoad}
+use Rattle.clocked.specs.Clock.{Clock, answered}
+use Rattle.clocked.specs.Release.{releaseRefusals, released, tableReleased}
+use Rattle.clocked.specs.Look.{lookRefusals, looked, outAfter}
+use Rattle.clocked.specs.State.{clockOf, idle, stateAfter}
+use Rattle.host.specs.declared.frames.Checked.{Checked}
+use Rattle.host.specs.Frames.{buildRefusals, built, bufferAfter, checkRefusals, checked}
+use Rattle.host.specs.Ports.{portRefusals, portOf}
+use Rattle.host.specs.Parts.{bytesOf}
+use Rattle.readings.specs.declared.pack_summary.Pack.the-variants.{Nothing}
+use Rattle.readings.specs.Readings.{microvolts, readingOf, summaryOf}
+use Rattle.story.specs.Numbers.{firstNumber, summaryRefusals}
+use Rattle.story.proofs.OneOutcome.{Settles, leaves, settles}
+use Rattle.story.proofs.Demand1.{Promised}
+use Rattle.oskorbine.specs.Packed.{packed, apart, refused, accepted, frameParts, loadParts, builtParts, checkedParts, portParts, pointed, lookedParts}
+use Rattle.oskorbine.specs.Volts.{voltsOrNan, roomRow, summaryParts, summaryOut}
+use Rattle.oskorbine.proofs.Packed.{apart-packed}
+use Rattle.oskorbine.proofs.Fits.{frame-fits, release-fits, load-fits, built-fits, checked-fits, port-fits, look-fits, byte-fits, summary-fits}
+use Rattle.oskorbine.proofs.Pointed.{pointed-bytes}
+use Rattle.oskorbine.proofs.Numbers.{frame-number, load-number, release-number, look-number, built-number, checked-number, port-number, summary-number, summary-stays, nothing-stays}
+use Rattle.oskorbine.proofs as oskorbine
+
+-- ---- every function
+
+pub record Promises : Type 2 where
+  frame : Promised oskorbine.osk_frame.Statement.statement oskorbine.osk_frame.Reads.Asked
+  load : Promised oskorbine.osk_load.Statement.statement oskorbine.osk_load.Reads.Asked
+  host-frame : Promised oskorbine.osk_host_frame.Statement.statement oskorbine.osk_host_frame.Reads.Asked
+  check : Promised oskorbine.osk_check.Statement.statement oskorbine.osk_check.Reads.Asked
+  two-ports : Promised oskorbine.osk_two_ports.Statement.statement oskorbine.osk_two_ports.Reads.Asked
+  clock-start : Promised oskorbine.osk_clock_start.Statement.statement oskorbine.osk_clock_start.Reads.Asked
+  clock-byte : Promised oskorbine.osk_clock_byte.Statement.statement oskorbine.osk_clock_byte.Reads.Asked
+  clock-window : Promised oskorbine.osk_clock_window.Statement.statement oskorbine.osk_clock_window.Reads.Asked
+  clock-release : Promised oskorbine.osk_clock_release.Statement.statement oskorbine.osk_clock_release.Reads.Asked
+  microvolts-of : Promised oskorbine.osk_microvolts.Statement.statement oskorbine.osk_microvolts.Reads.Asked
+  volts-of : Promised oskorbine.osk_volts.Statement.statement oskorbine.osk_volts.Reads.Asked
+  summary : Promised oskorbine.osk_summary.Statement.statement oskorbine.osk_summary.Reads.Asked
+
+-- what each leaves: what comes back, and the bytes of each buffer that it was lent to change. A summary's buffer is no bytes, so it stands
+-- beside what comes back
+pub record Outcomes : Type 0 where
+  frame : Settles oskorbine.osk_frame.Reads.Post (λ κ z e. leaves z (now (e .0) ∷ now (e .1 .1 .0) ∷ []))
+      (λ κ a. leaves (packed (frameParts (answer (now (a .0)) (now (a .1 .0)) (length (now (a .1 .1 .0)))))) (tableAfter (now (a .0)) (now (a .1 .0)) (length (now (a .1 .1 .0))) ∷ replyAfter (now (a .0)) (now (a .1 .0)) (now (a .1 .1 .0)) ∷ []))
+  load : Settles oskorbine.osk_load.Reads.Post (λ κ z e. leaves z (now (e .0) ∷ []))
+      (λ κ a. leaves (packed (loadParts (loaded (now (a .0)) (a .1 .0) (now (a .1 .1 .0))))) (tableAfterLoad (now (a .0)) (a .1 .0) (now (a .1 .1 .0)) ∷ []))
+  host-frame : Settles oskorbine.osk_host_frame.Reads.Post (λ κ z e. leaves z (now (e .1 .1 .1 .0) ∷ []))
+      (λ κ a. leaves (packed (builtParts (built (a .0) (a .1 .0) (now (a .1 .1 .0)) (length (now (a .1 .1 .1 .0)))))) (bufferAfter (a .0) (a .1 .0) (now (a .1 .1 .0)) (now (a .1 .1 .1 .0)) ∷ []))
+  check : Settles oskorbine.osk_check.Reads.Post (λ κ z e. leaves z []) (λ κ a. leaves (packed (checkedParts (checked (now (a .0))))) [])
+  two-ports : Settles oskorbine.osk_two_ports.Reads.Post (λ κ z e. leaves z [])
+      (λ κ a. leaves (packed (portParts (a .1 .1 .0) (a .1 .1 .1 .0) (portOf (now (a .0)) (now (a .1 .0)) (a .1 .1 .0) (a .1 .1 .1 .0)))) [])
+  clock-start : Settles oskorbine.osk_clock_start.Reads.Post (λ κ z e. leaves z (now (e .0) ∷ [])) (λ κ a. leaves tt (idle ∷ []))
+  clock-byte : Settles oskorbine.osk_clock_byte.Reads.Post (λ κ z e. leaves z (now (e .0) ∷ []))
+      (λ κ a. leaves (packed (accepted (answered (clockOf (now (a .0)))) 0)) (stateAfter (now (a .1 .0)) (a .1 .1 .0) (now (a .0)) ∷ []))
+  clock-window : Settles oskorbine.osk_clock_window.Reads.Post (λ κ z e. leaves z (now (e .1 .1 .0) ∷ []))
+      (λ κ a. leaves (packed (lookedParts (looked (clockOf (now (a .0))) (a .1 .0) (length (now (a .1 .1 .0)))))) (outAfter (clockOf (now (a .0))) (a .1 .0) (now (a .1 .1 .0)) ∷ []))
+  clock-release : Settles oskorbine.osk_clock_release.Reads.Post (λ κ z e. leaves z (now (e .0) ∷ now (e .1 .0) ∷ []))
+      (λ κ a. leaves (packed (frameParts (released (clockOf (now (a .0))) (now (a .1 .0))))) (idle ∷ tableReleased (clockOf (now (a .0))) (now (a .1 .0)) ∷ []))
+  microvolts-of : Settles oskorbine.osk_microvolts.Reads.Post (λ κ z e. leaves z []) (λ κ a. leaves (microvolts (record { 0 = a .0 })) [])
+  volts-of : Settles oskorbine.osk_volts.Reads.Post (λ κ z e. leaves z []) (λ κ a. leaves (voltsOrNan (readingOf (record { 0 = a .0 }))) [])
+  summary : Settles oskorbine.osk_summary.Reads.Post (λ κ z e. leaves {A = ℕ × List Float} (z, now (e .1 .0)) [])
+      (λ κ a. leaves {A = ℕ × List Float} (packed (summaryParts (summaryOf (now (a .0))) (length (now (a .1 .0)))), summaryOut (summaryOf (now (a .0))) (now (a .1 .0))) [])
+
+-- ---- the surface
+
+pub record Surface : Type 2 where
+  promises : Promises
+  outcomes : Outcomes
+  -- an answer is taken apart again: nothing is lost in the packing. A byte clocked is one of a state of bytes
+  frame-apart : (table frame : List ℕ) (room : ℕ) → apart (packed (frameParts (answer table frame room))) ≡ frameParts (answer table frame room)
+  load-apart : (l : Loaded) → apart (packed (loadParts l)) ≡ loadParts l
+  host-frame-apart : (code n : ℕ) (values : List ℕ) (room : ℕ) → apart (packed (builtParts (built code n values room))) ≡ builtParts (built code n values room)
+  check-apart : (c : Checked) → apart (packed (checkedParts c)) ≡ checkedParts c
+  two-ports-apart : (a b : List ℕ) (n k : ℕ) → apart (packed (portParts n k (portOf a b n k))) ≡ portParts n k (portOf a b n k)
+  byte-apart : (s : List ℕ) → ((k : ℕ) → getD s k 0 < 256) → apart (packed (accepted (answered (clockOf s)) 0)) ≡ accepted (answered (clockOf s)) 0
+  window-apart : (s : List ℕ) (position room : ℕ) → apart (packed (lookedParts (looked (clockOf s) position room))) ≡ lookedParts (looked (clockOf s) position room)
+  release-apart : (s table : List ℕ) → apart (packed (frameParts (released (clockOf s) table))) ≡ frameParts (released (clockOf s) table)
+  summary-apart : (codes : List ℤ) (room : ℕ) → apart (packed (summaryParts (summaryOf codes) room)) ≡ summaryParts (summaryOf codes) room
+  -- its number is that of the first refusal that holds, and 0 where none does
+  frame-number : (table frame : List ℕ) (room : ℕ) → frameParts (answer table frame room) .number ≡ firstNumber (frameRefusals table frame room)
+  load-number : (table : List ℕ) (position : ℕ) (codes : List ℤ) → loadParts (loaded table position codes) .number ≡ firstNumber (loadRefusals table position codes)
+  host-frame-number : (code n : ℕ) (values : List ℕ) (room : ℕ) → builtParts (built code n values room) .number ≡ firstNumber (buildRefusals code n values room)
+  check-number : (payload : List ℕ) → checkedParts (checked payload) .number ≡ firstNumber (checkRefusals payload)
+  two-ports-number : (a b : List ℕ) (n k : ℕ) → portParts n k (portOf a b n k) .number ≡ firstNumber (portRefusals a b n k)
+  window-number : (c : Clock) (position room : ℕ) → lookedParts (looked c position room) .number ≡ firstNumber (lookRefusals c position room)
+  release-number : (c : Clock) (table : List ℕ) → frameParts (released c table) .number ≡ firstNumber (releaseRefusals c table)
+  summary-number : (codes : List ℤ) (room : ℕ) → summaryParts (summaryOf codes) room .number ≡ firstNumber (summaryRefusals codes ++ roomRow room ∷ [])
+  -- the eight bytes that an answer of two ports points at are those that the host hands back
+  pointed-bytes : (a b : List ℕ) (n k : ℕ) → pointed (portParts n k (portOf a b n k)) a b ≡ bytesOf a b n k
+  -- a summary's buffer stays where it is refused, and where all cells are cleared. The other buffers are those of demand 1
+  summary-stays : (codes : List ℤ) (out : List Float) (r : Refusal) → summaryParts (summaryOf codes) (length out) ≡ refused r → summaryOut (summaryOf codes) out ≡ out
+  nothing-stays : (codes : List ℤ) (out : List Float) → summaryOf codes ≡ Nothing → summaryOut (summaryOf codes) out ≡ out
+
+-- ---- the answer
+
+proved : Promises
+proved =
+    record {
+      frame = (λ M. oskorbine.osk_frame.Met.met, λ κ a. tt);
+      load = (λ M. oskorbine.osk_load.Met.met, λ κ a. tt);
+      host-frame = (λ M. oskorbine.osk_host_frame.Met.met, λ κ a. tt);
+      check = (λ M. oskorbine.osk_check.Met.met, λ κ a. tt);
+      two-ports = (λ M. oskorbine.osk_two_ports.Met.met, λ κ a. tt);
+      clock-start = (λ M. oskorbine.osk_clock_start.Met.met, λ κ a. tt);
+      clock-byte = (λ M. oskorbine.osk_clock_byte.Met.met, λ κ a. tt);
+      clock-window = (λ M. oskorbine.osk_clock_window.Met.met, λ κ a. tt);
+      clock-release = (λ M. oskorbine.osk_clock_release.Met.met, λ κ a. tt);
+      microvolts-of = (λ M. oskorbine.osk_microvolts.Met.met, λ κ a. tt);
+      volts-of = (λ M. oskorbine.osk_volts.Met.met, λ κ a. tt);
+      summary = (λ M. oskorbine.osk_summary.Met.met, λ κ a. tt);
+    }
+
+settled : Outcomes
+settled =
+    record {
+      frame = settles (λ κ a z e p i. leaves (p .0 i) (p .1 .0 i ∷ p .1 .1 i ∷ []));
+      load = settles (λ κ a z e p i. leaves (p .0 i) (p .1 i ∷ []));
+      host-frame = settles (λ κ a z e p i. leaves (p .0 i) (p .1 i ∷ []));
+      check = settles (λ κ a z e p i. leaves (p i) []);
+      two-ports = settles (λ κ a z e p i. leaves (p i) []);
+      clock-start = settles (λ κ a z e p i. leaves z (p i ∷ []));
+      clock-byte = settles (λ κ a z e p i. leaves (p .0 i) (p .1 .1 i ∷ []));
+      clock-window = settles (λ κ a z e p i. leaves (p .0 i) (p .1 i ∷ []));
+      clock-release = settles (λ κ a z e p i. leaves (p .0 i) (p .1 .0 i ∷ p .1 .1 i ∷ []));
+      microvolts-of = settles (λ κ a z e p i. leaves (p i) []);
+      volts-of = settles (λ κ a z e p i. leaves (p i) []);
+      summary = settles (λ κ a z e p i. leaves (p .0 i, p .1 i) []);
+    }
+
+pub surface : Surface
+surface =
+    record {
+      promises = proved;
+      outcomes = settled;
+      frame-apart = λ table frame room. apart-packed _ (frame-fits table frame room);
+      load-apart = λ l. apart-packed _ (load-fits l);
+      host-frame-apart = λ code n values room. apart-packed _ (built-fits code n values room);
+      check-apart = λ c. apart-packed _ (checked-fits c);
+      two-ports-apart = λ a b n k. apart-packed _ (port-fits a b n k);
+      byte-apart = λ s bytes. apart-packed _ (byte-fits s bytes);
+      window-apart = λ s position room. apart-packed _ (look-fits s position room);
+      release-apart = λ s table. apart-packed _ (release-fits s table);
+      summary-apart = λ codes room. apart-packed _ (summary-fits codes room);
+      frame-number = frame-number;
+      load-number = load-number;
+      host-frame-number = built-number;
+      check-number = checked-number;
+      two-ports-number = port-number;
+      window-number = look-number;
+      release-number = release-number;
+      summary-number = summary-number;
+      pointed-bytes = pointed-bytes;
+      summary-stays = summary-stays;
+      nothing-stays = nothing-stays;
+    }
