@@ -23,9 +23,6 @@ pub extern "C" fn osk_load(table: &mut [u8], position: usize, codes: &[i16]) -> 
     ensures { λ r. ⌜ r ≡ packed (loadParts (loaded (now (table .entry)) position (now (codes .entry)))) ⌝ }
     ensures { λ _. ⌜ now (table .exit) ≡ tableAfterLoad (now (table .entry)) position (now (codes .entry)) ⌝ }
 {
-    pack(
-        chain::load_number(chain::load(table, position, codes)),
-        0,
-        0,
-    )
+    let loaded = chain::load(table, position, codes);
+    pack(chain::load_number(loaded), 0, 0)
 }

@@ -1,8 +1,8 @@
 -- `oskorbine::clocks::osk_clock_window` meets its contract, answer by answer: a window's size fits.
 -- Assumes nothing.
 use mathlib.Core.Path.{_≡_, sym, ap, _∙_, subst}
-use lib.ListN.{length}
 use native.Mathlib.Omega.{arith}
+use lib.ListN.{length}
 use Rattle.clocked.specs.declared.looks.Looked.{Looked}
 use Rattle.oskorbine.specs.Packed.{packed, lookedParts, Fit}
 use Rattle.oskorbine.proofs.Fits.{look-fits}
@@ -27,7 +27,7 @@ accepted-requires c κs =
     let call = c .before .before .before .before .before in
     let a = call .before .before .before .args in
     let fit = subst (λ (x : Looked). Fit (lookedParts x)) (sym (call .look .ensures .0) ∙ c .before .size .given .1) (look-fits (a .state .now) (a .position) (length (a .out .now))) in
-    (fit .first-fits, fit .second-fits)
+    (omega arith, fit .second-fits)
 
 same-length : tie.Need-same-length
 same-length c = search needs

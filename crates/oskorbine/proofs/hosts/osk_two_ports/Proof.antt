@@ -36,7 +36,7 @@ asked-b c =
     only-b (q .a .now) (q .b .now) (q .monitors) (q .position) (sym (c .before .before .port-of .ensures) ∙ c .enum-told2 .given .1) .0
 
 sub-accepted : tie.Need-sub-accepted
-sub-accepted c = asked-a c .first
+sub-accepted c = omega (arith, asked-a c .first, asked-a c .last)
 
 mul-accepted : tie.Need-mul-accepted
 mul-accepted c = omega (arith, asked-a c .most, asked-a c .last)
@@ -48,13 +48,13 @@ enum-told-2 : tie.Need-enum-told-2
 enum-told-2 c = search needs
 
 sub-accepted-2 : tie.Need-sub-accepted-2
-sub-accepted-2 c = asked-b c .last
+sub-accepted-2 c = omega (arith, asked-b c .first, asked-b c .last)
 
 mul-accepted-2 : tie.Need-mul-accepted-2
-mul-accepted-2 c = omega (arith, asked-b c .most)
+mul-accepted-2 c = omega (arith, asked-b c .most, asked-b c .last)
 
 accepted-requires-2 : tie.Need-accepted-requires-2
-accepted-requires-2 c κs = (omega arith, omega (arith, asked-b c .most))
+accepted-requires-2 c κs = (omega arith, omega (arith, asked-b c .most, asked-b c .last))
 
 returns : tie.Need-returns
 returns c =
