@@ -3,7 +3,7 @@
 -- apart again into the paper's number and the two values, with nothing lost; the eight bytes of two ports are those that the host
 -- hands back; and a summary refuses in its order, and leaves its buffer where it does.
 -- Assumes nothing.
-use mathlib.Core.Path.{_≡_}
+use mathlib.Core.Path.{_≡_, refl}
 use mathlib.Core.List.{List, [], _∷_, _++_}
 use Prim.Native.Nat.{ℕ, _<_}
 use denote.Ref.{now}
@@ -17,7 +17,7 @@ use Rattle.chain.specs.Load.{loadRefusals, loaded, tableAfterLoad}
 use Rattle.clocked.specs.Clock.{Clock, answered}
 use Rattle.clocked.specs.Release.{releaseRefusals, released, tableReleased}
 use Rattle.clocked.specs.Look.{lookRefusals, looked, outAfter}
-use Rattle.clocked.specs.State.{clockOf, idle, stateAfter}
+use Rattle.clocked.specs.State.{stateSize, clockOf, idle, stateAfter}
 use Rattle.host.specs.declared.frames.Checked.{Checked}
 use Rattle.host.specs.Frames.{buildRefusals, built, bufferAfter, checkRefusals, checked}
 use Rattle.host.specs.Ports.{portRefusals, portOf}
@@ -99,6 +99,8 @@ pub record Surface : Type 2 where
   window-number : (c : Clock) (position room : ℕ) → lookedParts (looked c position room) .number ≡ firstNumber (lookRefusals c position room)
   release-number : (c : Clock) (table : List ℕ) → frameParts (released c table) .number ≡ firstNumber (releaseRefusals c table)
   summary-number : (codes : List ℤ) (room : ℕ) → summaryParts (summaryOf codes) room .number ≡ firstNumber (summaryRefusals codes ++ roomRow room ∷ [])
+  -- the state's size is the header's OSK_CLOCK_STATE
+  clock-state : stateSize ≡ 264
   -- the eight bytes that an answer of two ports points at are those that the host hands back
   pointed-bytes : (a b : List ℕ) (n k : ℕ) → pointed (portParts n k (portOf a b n k)) a b ≡ bytesOf a b n k
   -- a summary's buffer stays where it is refused, and where all cells are cleared. The other buffers are those of demand 1
@@ -163,6 +165,7 @@ surface =
       window-number = look-number;
       release-number = release-number;
       summary-number = summary-number;
+      clock-state = refl;
       pointed-bytes = pointed-bytes;
       summary-stays = summary-stays;
       nothing-stays = nothing-stays;

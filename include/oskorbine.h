@@ -1,0 +1,128 @@
+/* The bench chain for C and C++: 1 to 32 battery monitors (ADBMS6830B) in a table that the caller lends, the host that writes their
+ * frames and reads their replies, a second engine that clocks the same frames a byte at a time, and readings of cells.
+ *
+ * Link with liboskorbine.a. Every function is proved: it ends, for every input of any length, with the answer and the bytes that the
+ * definitions of the project say. It keeps nothing between calls and asks nothing of the bytes it is lent.
+ *
+ * A pointer and the length behind it are one buffer, and the length counts elements. The caller owes what C cannot check: the pointer
+ * is valid and aligned for so many elements, also where the length is 0 (then any object's address will do), and a buffer that is
+ * written overlaps no other one of the same call.
+ */
+#ifndef OSKORBINE_H
+#define OSKORBINE_H
+
+#include <stddef.h>
+#include <stdint.h>
+
+#ifdef __cplusplus
+extern "C" {
+#endif
+
+/* ---- answers */
+
+/* Bits 0 to 7: the number of the refusal, and 0 where nothing is refused. Bits 8 to 15: the first value. Bits 16 to 31: the second.
+ * A refusal is its number only, and every lent buffer then keeps all its bytes (the state of a release starts anew all the same). A
+ * value that a function does not have is 0.
+ */
+typedef uint32_t osk_answer;
+
+static inline unsigned osk_number(osk_answer answer) { return (unsigned)(answer & 0xffu); }
+static inline unsigned osk_first(osk_answer answer) { return (unsigned)(answer >> 8 & 0xffu); }
+static inline unsigned osk_second(osk_answer answer) { return (unsigned)(answer >> 16); }
+
+/* The refusals. A number is given exactly when its condition is the first to hold, in the order that each function names. */
+enum {
+    OSK_ACCEPTED = 0,
+    OSK_TABLE_NOT_SOUND = 1, /* the table is not sound; at a release also: it was not, or had another N, at byte four */
+    OSK_FRAME_SHORT = 2,     /* frame under 4 bytes */
+    OSK_COMMAND_WRONG = 3,   /* command PEC wrong */
+    OSK_CODE_NOT_LISTED = 4, /* code not listed */
+    OSK_LENGTH_WRONG = 5,    /* length not the one for this command and N; a reply or payload of the wrong length */
+    OSK_NO_ROOM = 6,         /* the buffer to be written is too small */
+    OSK_POSITION_WRONG = 7,  /* N not 1 to 32, or position not 1 to N */
+    OSK_COUNT_WRONG = 8,     /* wrong number of codes or value bytes */
+    OSK_CODE_CLEARED = 9,    /* a loaded code is -32768 */
+    OSK_NEITHER_RIGHT = 10   /* neither port's bytes are right */
+};
+
+/* ---- the chain: a table of N records, nearest monitor first */
+
+/* Handles a frame. The table becomes what the monitors keep of it; the reply to a read, nearest monitor first, goes to the start of
+ * `reply`, and bytes past it stay.
+ * First: how many monitors took the frame (N for a read or a bare command). Second: the length of the reply (8N for a read, else 0).
+ * Refusals: 1, 2, 3, 4, 5, 6 (6 only for reads).
+ */
+osk_answer osk_frame(uint8_t *table, size_t table_length, const uint8_t *frame, size_t frame_length, uint8_t *reply, size_t reply_length);
+
+/* Loads 16 codes of 150 microvolts into the monitor at a position, 1 to N: stores them, and then sets UV for each cell below the lower
+ * threshold and OV for each above the upper one. Flags are only ever set by a load.
+ * Refusals: 1, 7, 8, 9.
+ */
+osk_answer osk_load(uint8_t *table, size_t table_length, size_t position, const int16_t *codes, size_t codes_length);
+
+/* ---- the host */
+
+/* Builds the frame for a command and so many monitors at the start of `out`; bytes past it stay. The values are six bytes for each
+ * monitor in a write, nearest monitor first, and none otherwise.
+ * Second: the length of the frame. Refusals: 4, 7, 8, 6.
+ */
+osk_answer osk_host_frame(uint16_t command, size_t monitors, const uint8_t *values, size_t values_length, uint8_t *out, size_t out_length);
+
+enum { OSK_RIGHT = 1, OSK_DAMAGED = 2 };
+
+/* Checks the data PEC of one payload of eight bytes.
+ * First: OSK_RIGHT or OSK_DAMAGED. Refusals: 5.
+ */
+osk_answer osk_check(const uint8_t *payload, size_t payload_length);
+
+enum { OSK_PORT_A = 1, OSK_PORT_B = 2 };
+
+/* The chain was read from both ends: port A's reply `a` has monitor 1 first, port B's `b` has monitor N first. Asked for the monitor at
+ * a position: its eight bytes as they lie in one of the two, A's if their data PEC is right, otherwise B's if right.
+ * First: OSK_PORT_A or OSK_PORT_B. Second: the byte of that reply that the eight start at. Refusals: 7, 5 (either reply not 8N bytes), 10.
+ */
+osk_answer osk_two_ports(const uint8_t *a, size_t a_length, const uint8_t *b, size_t b_length, size_t monitors, size_t position);
+
+/* ---- the clocked engine: the same frames, a byte at a time */
+
+/* The bytes of one clock's state. Two clocks used in turn do not disturb each other. */
+#define OSK_CLOCK_STATE 264
+
+/* Before a frame: the windows are empty. It takes any bytes for the state, and gives up a frame that had begun, at any byte. */
+void osk_clock_start(uint8_t state[OSK_CLOCK_STATE]);
+
+/* Clocks one byte in. N, and whether the command is known, are taken from the table lent with byte four; the table is only read.
+ * First: the byte answered: what leaves monitor 1 in a known read, otherwise FF. Nothing is refused.
+ */
+osk_answer osk_clock_byte(uint8_t state[OSK_CLOCK_STATE], const uint8_t *table, size_t table_length, uint8_t byte);
+
+/* The window of the monitor at a position as it stands, oldest byte first, at the start of `out`; bytes past it stay. N is known from
+ * byte four on, where the table lent then was sound; before that no position is one.
+ * Second: how many bytes the window holds. Refusals: 7, 6.
+ */
+osk_answer osk_clock_window(const uint8_t state[OSK_CLOCK_STATE], size_t position, uint8_t *out, size_t out_length);
+
+/* Releases: each monitor acts on its own window, and the table becomes what they keep. The next frame starts empty, refused or not.
+ * Values as for osk_frame; the bytes answered after the fourth are the reply if a read is accepted. Refusals: 1, 2, 3, 4, 5.
+ */
+osk_answer osk_clock_release(uint8_t state[OSK_CLOCK_STATE], uint8_t *table, size_t table_length);
+
+/* ---- readings */
+
+/* The microvolts of a code: 1,500,000 + 150 code. */
+int32_t osk_microvolts(int16_t code);
+
+/* A code in volts: the quotient of the microvolts by 1,000,000, rounded once. NaN where the cell is cleared (code -32768). */
+double osk_volts(int16_t code);
+
+/* The summary of 1 to 512 codes, over the cells not cleared: the lowest, the highest and the total in volts go to out[0], out[1] and
+ * out[2]; what lies past them stays. If all are cleared there is none, and all of `out` stays.
+ * First: 1 a summary, 0 none. Second: the number of cells not cleared. Refusals: 8, 6 (`out` under three, also where there would be none).
+ */
+osk_answer osk_summary(const int16_t *codes, size_t codes_length, double *out, size_t out_length);
+
+#ifdef __cplusplus
+}
+#endif
+
+#endif
