@@ -4,7 +4,7 @@
 -- Each is shown where no refusal holds, by what the refusals then say.
 -- Assumes nothing.
 use mathlib.Core.Path.{_≡_, refl, ap, _∙_, subst⁻¹}
-use mathlib.Core.Bool.{Bool, true, false, cond, not, _&&_, _||_}
+use mathlib.Core.Bool.{Bool, true, false, cond, _||_}
 use mathlib.Core.List.{List, [], _∷_}
 use Prim.Native.Nat.{ℕ, zero, suc, _+_, _-_, _*_, _<_, _≤_}
 use native.Mathlib.Omega.{arith}
@@ -24,36 +24,35 @@ use Rattle.monitor.specs.declared.commands.Command.{Command}
 use Rattle.monitor.specs.declared.commands.Command.the-variants.{Reads, Writes, Bares, Unlisted}
 use Rattle.monitor.specs.Commands.{commands, commandOf, mostMonitors, payloadSize, frameLength}
 use Rattle.monitor.specs.Effects.{takes}
-use Rattle.chain.specs.declared.frames.Answer.the-variants.{Refused, Accepted}
+use Rattle.chain.specs.declared.frames.Answer.the-variants.{Refused}
 use Rattle.chain.specs.declared.loads.Loaded.{Loaded}
 use Rattle.chain.specs.declared.loads.Loaded.the-variants.{Unloaded, Done}
 use Rattle.chain.specs.Table.{monitors, sound}
 use Rattle.chain.specs.Frame.{commandIn, payloadsIn, frameRefusals, takenBy, answer}
-use Rattle.chain.specs.Load.{loaded}
 use Rattle.chain.proofs.Soundness.{both, is-sound}
-use Rattle.clocked.specs.declared.looks.Looked.the-variants.{Refused as Unseen, Holds}
+use Rattle.clocked.specs.declared.looks.Looked.the-variants.{Refused as Unseen}
 use Rattle.clocked.specs.declared.state.Kind.{Kind}
 use Rattle.clocked.specs.declared.state.Kind.the-variants.{Fills, Drains, Still}
 use Rattle.clocked.specs.Clock.{far, leaving, answered}
-use Rattle.clocked.specs.Release.{releaseRefusals, takenOf, released, another}
+use Rattle.clocked.specs.Release.{releaseRefusals, takenOf, released}
 use Rattle.clocked.specs.Look.{windowOf, lookRefusals, looked}
 use Rattle.clocked.specs.State.{windowsAt, seenIn, kindIn, chainedIn, registerIn, windowsIn, clockOf}
 use Rattle.clocked.proofs.Known.{reply-short}
 use Rattle.clocked.proofs.Register.{come, chained-few, length-windows, leaves-first, fills-at, drains-at, still-at}
-use Rattle.host.specs.declared.frames.Built.the-variants.{Unbuilt, Length}
+use Rattle.host.specs.declared.frames.Built.the-variants.{Unbuilt}
 use Rattle.host.specs.declared.frames.Checked.{Checked}
 use Rattle.host.specs.declared.frames.Checked.the-variants.{Unchecked, Right, Wrong}
 use Rattle.host.specs.declared.ports.Port.{Port}
 use Rattle.host.specs.declared.ports.Port.the-variants.{Refused as Unported, A, B}
 use Rattle.host.specs.Frames.{buildRefusals, built}
 use Rattle.host.specs.Ports.{placeA, placeB, portOf}
-use Rattle.host.proofs.TwoPorts.{Asked, only-a, only-b}
+use Rattle.host.proofs.TwoPorts.{only-a, only-b}
 use Rattle.readings.specs.declared.pack_summary.Pack.{Pack}
 use Rattle.readings.specs.declared.pack_summary.Pack.the-variants.{Refused as Unsummed, Nothing, Whole}
 use Rattle.readings.specs.Readings.{mostCodes, measured, wholeOf, summaryOf}
 use Rattle.readings.proofs.Sizes.{cells-at-most-codes}
 use Rattle.readings.proofs.Summaries.{cellsOf}
-use Rattle.oskorbine.specs.Packed.{Parts, Fit, refused, accepted, frameParts, loadParts, builtParts, checkedParts, portParts, lookedParts}
+use Rattle.oskorbine.specs.Packed.{Fit, refused, accepted, frameParts, loadParts, builtParts, checkedParts, portParts, lookedParts}
 use Rattle.oskorbine.specs.Volts.{roomRow, summaryParts}
 
 -- ---- of any answer

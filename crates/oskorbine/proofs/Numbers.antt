@@ -13,7 +13,7 @@ use lib.ListN.{length}
 use Rattle.refusals.specs.declared.Refusal.{Refusal}
 use Rattle.refusals.specs.declared.Refusal.the-variants.{NoRoom}
 use Rattle.refusals.specs.Numbers.{numberOf}
-use Rattle.refusals.specs.Order.{Row, decide}
+use Rattle.refusals.specs.Order.{decide}
 use Rattle.refusals.proofs.Deciding.{decide-map, decide-append}
 use Rattle.pec.specs.Words.{payloadRight}
 use Rattle.chain.specs.declared.frames.Answer.the-variants.{Refused}

@@ -1,6 +1,6 @@
 -- The eight bytes that an answer of two ports points at are those that the host hands back, port by port.
 -- Assumes nothing.
-use mathlib.Core.Path.{_≡_, refl, sym, ap, _∙_}
+use mathlib.Core.Path.{_≡_, refl, sym, _∙_}
 use mathlib.Core.List.{List, []}
 use Prim.Native.Nat.{ℕ}
 use Rattle.laws.specs.Rows.{rowAt}

@@ -1,6 +1,6 @@
 -- `oskorbine::clocks::osk_clock_window` meets its contract, answer by answer: a window's size fits.
 -- Assumes nothing.
-use mathlib.Core.Path.{_≡_, sym, ap, _∙_, subst}
+use mathlib.Core.Path.{sym, ap, _∙_, subst}
 use native.Mathlib.Omega.{arith}
 use lib.ListN.{length}
 use Rattle.clocked.specs.declared.looks.Looked.{Looked}

@@ -1,6 +1,6 @@
 -- `oskorbine::hosts::osk_check` meets its contract, answer by answer.
 -- Assumes nothing.
-use mathlib.Core.Path.{_≡_, sym, ap, _∙_}
+use mathlib.Core.Path.{sym, ap, _∙_}
 use Rattle.host.specs.declared.frames.Checked.{Checked}
 use Rattle.oskorbine.specs.Packed.{packed, checkedParts}
 use borrow.Author.Needs.{needs}

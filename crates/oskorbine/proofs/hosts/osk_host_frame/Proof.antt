@@ -1,6 +1,6 @@
 -- `oskorbine::hosts::osk_host_frame` meets its contract, answer by answer: a frame's length fits.
 -- Assumes nothing.
-use mathlib.Core.Path.{_≡_, sym, ap, _∙_, subst}
+use mathlib.Core.Path.{sym, ap, _∙_, subst}
 use native.Mathlib.Omega.{arith}
 use lib.ListN.{length}
 use Rattle.host.specs.declared.frames.Built.{Built}

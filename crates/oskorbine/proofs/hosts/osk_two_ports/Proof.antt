@@ -1,11 +1,10 @@
 -- `oskorbine::hosts::osk_two_ports` meets its contract, port by port: where a port answers, the position is one of the chain's, so that
 -- the offset fits.
 -- Assumes nothing.
-use mathlib.Core.Path.{_≡_, sym, ap, _∙_}
+use mathlib.Core.Path.{sym, ap, _∙_}
 use native.Mathlib.Omega.{arith}
 use Rattle.host.specs.declared.ports.Port.{Port}
-use Rattle.host.specs.declared.ports.Port.the-variants.{A, B}
-use Rattle.host.specs.Ports.{placeA, placeB, portOf}
+use Rattle.host.specs.Ports.{placeA, placeB}
 use Rattle.host.proofs.TwoPorts.{Asked, only-a, only-b}
 use Rattle.oskorbine.specs.Packed.{packed, portParts}
 use borrow.Author.Needs.{needs}

@@ -1,6 +1,6 @@
 -- `oskorbine::packing::frame_answer` meets its contract, answer by answer.
 -- Assumes nothing.
-use mathlib.Core.Path.{_≡_, sym, ap, _∙_, subst}
+use mathlib.Core.Path.{sym, ap, _∙_, subst}
 use Rattle.chain.specs.declared.frames.Answer.{Answer}
 use Rattle.oskorbine.specs.Packed.{packed, frameParts, Fit}
 use borrow.Author.Needs.{needs}

@@ -16,7 +16,7 @@ use Rattle.readings.specs.declared.pack_summary.Pack.{Pack}
 use Rattle.readings.specs.declared.pack_summary.Pack.the-variants.{Nothing, Whole}
 use Rattle.readings.specs.Readings.{mostCodes, summaryOf}
 use Rattle.readings.proofs.Summaries.{cellsOf}
-use Rattle.oskorbine.specs.Packed.{Parts, packed}
+use Rattle.oskorbine.specs.Packed.{packed}
 use Rattle.oskorbine.specs.Volts.{summarySize, roomRow, summaryParts, summaryOut}
 use Rattle.oskorbine.proofs.Fits.{few-cells}
 use borrow.Author.Needs.{needs}

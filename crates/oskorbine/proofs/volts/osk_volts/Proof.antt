@@ -2,12 +2,11 @@
 -- Assumes nothing.
 use mathlib.Core.Path.{_≡_, sym, ap, _∙_}
 use native.Mathlib.Omega.{arith}
-use lib.Ieee.{binary64, ofBits, div}
+use lib.Ieee.{ofBits, div}
 use lib.IntN.{ℤ}
 use mir.Syntax.{w16, w32}
 use mir.Val.{SFits}
 use Rattle.monitor.proofs.TwosComplement.{widens, widened}
-use Rattle.readings.specs.declared.cell.Reading.{Reading}
 use Rattle.readings.specs.Readings.{readingOf}
 use Rattle.oskorbine.specs.Volts.{voltsOrNan}
 use borrow.Author.Needs.{needs}
