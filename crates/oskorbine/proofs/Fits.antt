@@ -25,8 +25,8 @@ use Rattle.monitor.specs.declared.commands.Command.the-variants.{Reads, Writes,
 use Rattle.monitor.specs.Commands.{commands, commandOf, mostMonitors, payloadSize, frameLength}
 use Rattle.monitor.specs.Effects.{takes}
 use Rattle.chain.specs.declared.frames.Answer.the-variants.{Refused}
-use Rattle.chain.specs.declared.loads.Loaded.{Loaded}
-use Rattle.chain.specs.declared.loads.Loaded.the-variants.{Unloaded, Done}
+use Rattle.loads.specs.declared.loads.Loaded.{Loaded}
+use Rattle.loads.specs.declared.loads.Loaded.the-variants.{Unloaded, Done}
 use Rattle.chain.specs.Table.{monitors, sound}
 use Rattle.chain.specs.Frame.{commandIn, payloadsIn, frameRefusals, takenBy, answer}
 use Rattle.chain.proofs.Soundness.{both, is-sound}

@@ -17,9 +17,9 @@ use Rattle.refusals.specs.Order.{decide}
 use Rattle.refusals.proofs.Deciding.{decide-map, decide-append}
 use Rattle.pec.specs.Words.{payloadRight}
 use Rattle.chain.specs.declared.frames.Answer.the-variants.{Refused}
-use Rattle.chain.specs.declared.loads.Loaded.the-variants.{Unloaded, Done}
+use Rattle.loads.specs.declared.loads.Loaded.the-variants.{Unloaded, Done}
 use Rattle.chain.specs.Frame.{frameRefusals, answer}
-use Rattle.chain.specs.Load.{loadRefusals, loaded}
+use Rattle.loads.specs.Load.{loadRefusals, loaded}
 use Rattle.clocked.specs.declared.looks.Looked.the-variants.{Refused as Unseen}
 use Rattle.clocked.specs.Clock.{Clock}
 use Rattle.clocked.specs.Release.{releaseRefusals, released}

@@ -11,9 +11,9 @@ use lib.Ieee.{Float}
 use lib.IntN.{ℤ}
 use lib.ListN.{length, getD}
 use Rattle.refusals.specs.declared.Refusal.{Refusal}
-use Rattle.chain.specs.declared.loads.Loaded.{Loaded}
+use Rattle.loads.specs.declared.loads.Loaded.{Loaded}
 use Rattle.chain.specs.Frame.{frameRefusals, answer, tableAfter, replyAfter}
-use Rattle.chain.specs.Load.{loadRefusals, loaded, tableAfterLoad}
+use Rattle.loads.specs.Load.{loadRefusals, loaded, tableAfterLoad}
 use Rattle.clocked.specs.Clock.{Clock, answered}
 use Rattle.clocked.specs.Release.{releaseRefusals, released, tableReleased}
 use Rattle.clocked.specs.Look.{lookRefusals, looked, outAfter}

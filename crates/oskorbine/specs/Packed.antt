@@ -11,8 +11,8 @@ use Rattle.refusals.specs.Numbers.{numberOf}
 use Rattle.monitor.specs.Commands.{payloadSize}
 use Rattle.chain.specs.declared.frames.Answer.{Answer}
 use Rattle.chain.specs.declared.frames.Answer.the-variants.{Refused, Accepted}
-use Rattle.chain.specs.declared.loads.Loaded.{Loaded}
-use Rattle.chain.specs.Numbers.{loadNumber}
+use Rattle.loads.specs.declared.loads.Loaded.{Loaded}
+use Rattle.loads.specs.Numbers.{loadNumber}
 use Rattle.clocked.specs.declared.looks.Looked.{Looked}
 use Rattle.clocked.specs.declared.looks.Looked.the-variants.{Refused as Unseen, Holds}
 use Rattle.host.specs.declared.frames.Built.{Built}

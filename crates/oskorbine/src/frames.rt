@@ -2,7 +2,7 @@
 ghost use mathlib.Core.Path.{_≡_};
 ghost use lib.ListN.{length};
 ghost use Rattle.chain.specs.Frame.{answer, tableAfter, replyAfter};
-ghost use Rattle.chain.specs.Load.{loaded, tableAfterLoad};
+ghost use Rattle.loads.specs.Load.{loaded, tableAfterLoad};
 ghost use Rattle.oskorbine.specs.Packed.{packed, frameParts, loadParts};
 use crate::packing::frame_answer;
 use crate::packing::pack;
@@ -23,6 +23,6 @@ pub extern "C" fn osk_load(table: &mut [u8], position: usize, codes: &[i16]) -> 
     ensures { λ r. ⌜ r ≡ packed (loadParts (loaded (now (table .entry)) position (now (codes .entry)))) ⌝ }
     ensures { λ _. ⌜ now (table .exit) ≡ tableAfterLoad (now (table .entry)) position (now (codes .entry)) ⌝ }
 {
-    let loaded = chain::load(table, position, codes);
-    pack(chain::load_number(loaded), 0, 0)
+    let loaded = loads::load(table, position, codes);
+    pack(loads::load_number(loaded), 0, 0)
 }

@@ -6,7 +6,7 @@ ghost use Rattle.oskorbine.specs.Packed.{packed};
 ghost use Rattle.oskorbine.specs.Volts.{voltsOrNan, summaryParts, summaryOut};
 use crate::packing::accepted;
 use crate::packing::refused;
-use monitor::ResultCode;
+use loads::ResultCode;
 use readings::Pack;
 use readings::Reading;
 use refusals::Refusal;

@@ -2,7 +2,7 @@
 -- Assumes nothing.
 use mathlib.Core.Path.{ap, _∙_}
 use Prim.Native.Nat.{ℕ}
-use Rattle.chain.specs.Numbers.{loadNumber}
+use Rattle.loads.specs.Numbers.{loadNumber}
 use Rattle.oskorbine.specs.Packed.{packed}
 use borrow.Author.Needs.{needs}
 use Rattle.oskorbine.proofs.frames.osk_load.Statement.{statement}
