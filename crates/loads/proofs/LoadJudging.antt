@@ -24,7 +24,7 @@ module _ (table : List ℕ) (position : ℕ) (codes : List ℤ) where
   -- ---- refusal by refusal
 
   -- what the refusals from the k-th on say
-  abbrev from : ℕ → Loaded
+  abbrev pub from : ℕ → Loaded
   from k = decide (drop k (loadRefusals table position codes)) Unloaded Done
 
   pub stop-1 : sound table ≡ false → loaded table position codes ≡ Unloaded TableNotSound
