@@ -1,5 +1,6 @@
 pub mod Xor
 pub mod Bits
+pub mod Numbers
 pub mod Shifts
 pub mod Tables
 pub mod Lists

@@ -2,7 +2,7 @@
 -- Assumes nothing.
 use mathlib.Core.Bool.{Bool, xor}
 use mathlib.Core.List.{List, [], _∷_, _++_}
-use Prim.Native.Nat.{ℕ, zero, suc, _/_, _%_, _^_}
+use Prim.Native.Nat.{ℕ, zero, suc, _+_, _*_, _/_, _%_, _^_}
 use lib.Bits.{bitXor}
 use lib.Dec.{eqb}
 
@@ -24,6 +24,14 @@ bitsOf (suc k) n = odd (n / 2 ^ k) ∷ bitsOf k n
 unfoldable pub bitsOfBytes : List ℕ → List Bool
 bitsOfBytes [] = []
 bitsOfBytes (b ∷ bs) = bitsOf 8 b ++ bitsOfBytes bs
+
+-- a byte string after the number n, as one number: the first byte stands highest
+unfoldable pub numberFrom : ℕ → List ℕ → ℕ
+numberFrom n [] = n
+numberFrom n (b ∷ bs) = numberFrom (n * 256 + b) bs
+
+unfoldable pub numberOf : List ℕ → ℕ
+numberOf bs = numberFrom 0 bs
 
 -- two strings of bits, of one length, added place by place
 unfoldable pub xorBits : List Bool → List Bool → List Bool

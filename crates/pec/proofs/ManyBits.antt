@@ -62,7 +62,7 @@ unfolding step
 step-zero-bit w g r = ap (λ (b : Bool). (r * 2 % 2 ^ w) ⊕ once b g) (xor-false (odd (r * 2 / 2 ^ w)))
 
 -- a start and the k bits of a number, added
-added : (w g r k x : ℕ) → remainder w g r (bitsOf k x) ≡ remainder w g r (bitsOf k 0) ⊕ remainder w g 0 (bitsOf k x)
+pub added : (w g r k x : ℕ) → remainder w g r (bitsOf k x) ≡ remainder w g r (bitsOf k 0) ⊕ remainder w g 0 (bitsOf k x)
 added w g r k x =
     ap₂ (λ (s y : ℕ). remainder w g s (bitsOf k y)) (sym (xor-zero r)) (sym (zero-xor x)) ∙ remainder-bits-linear w g r 0 k 0 x
 

@@ -1,5 +1,6 @@
 // The check words of document 01: the remainder over the width, bit by bit and through a table, and what is sent of it.
 mod bit_by_bit;
+mod by_shifts;
 mod tables;
 mod through_table;
 mod words;

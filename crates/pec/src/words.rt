@@ -1,13 +1,12 @@
 // The two check words of document 01, and what is sent of them.
 ghost use mathlib.Core.Path.{_≡_};
 ghost use mathlib.Core.List.{_++_};
-ghost use Prim.Native.Nat.{_+_, _^_, _≤_, _<_};
+ghost use Prim.Native.Nat.{_^_, _≤_, _<_};
 ghost use lib.ListN.{length};
-ghost use Rattle.laws.specs.Bits.{bitsOf, bitsOfBytes};
+ghost use Rattle.laws.specs.Bits.{bitsOf, bitsOfBytes, numberOf};
 ghost use Rattle.pec.specs.Remainder.{remainder};
 ghost use Rattle.pec.specs.Words.{
   twoBytes,
-  wordAt,
   pec15,
   commandCheck,
   commandRight,
@@ -18,6 +17,7 @@ ghost use Rattle.pec.specs.Words.{
   payloadRight,
 };
 use crate::bit_by_bit;
+use crate::by_shifts;
 use crate::tables::PEC10;
 use crate::tables::PEC15;
 use crate::through_table;
@@ -35,12 +35,18 @@ fn two_bytes(n: u16) -> [u8; 2]
     [(n / 256) as u8, (n % 256) as u8]
 }
 
-// The 16-bit number that stands at i, the high byte first.
-fn word_at(bytes: &[u8], i: usize) -> u16
-    requires { ⌜ i + 1 < length (now bytes) ⌝ }
-    ensures { λ r. ⌜ r ≡ wordAt (now (bytes .entry)) i ⌝ }
+// A byte string as one number, the first byte highest.
+fn number_of(bytes: &[u8]) -> u64
+    requires { ⌜ length (now bytes) ≤ 8 ⌝ }
+    ensures { λ r. ⌜ r ≡ numberOf (now (bytes .entry)) ⌝ }
 {
-    (bytes[i] as u16) * 256 + (bytes[i + 1] as u16)
+    let mut n: u64 = 0;
+    let mut i = 0;
+    while i < bytes.len() {
+        n = n * 256 + (bytes[i] as u64);
+        i += 1;
+    }
+    n
 }
 
 // The 15-bit remainder of a byte string, bit by bit.
@@ -86,8 +92,7 @@ pub fn pec10_by_table(bytes: &[u8]) -> u16
 pub fn command_check(code: u16) -> [u8; 2]
     ensures { λ r. ⌜ r ≡ commandCheck code ⌝ }
 {
-    let command = two_bytes(code);
-    let check = pec15_by_table(&command);
+    let check = by_shifts::remainder_15(code);
     two_bytes(check * 2)
 }
 
@@ -98,16 +103,20 @@ pub fn command_right(four: &[u8]) -> bool
     if four.len() != 4 {
         return false;
     }
-    let sent = word_at(four, 2);
-    let check = pec15_by_table(&four[..2]);
-    sent == check * 2
+    let sent = number_of(four);
+    let check = by_shifts::remainder_15((sent / 65536) as u16);
+    sent % 65536 == (check as u64) * 2
 }
 
-// The 10-bit remainder of a byte string and then the six bits of a counter.
+// The 10-bit remainder of a byte string and then the six bits of a counter. Six bytes, as all payloads have, go by shifts.
 pub fn data_pec(bytes: &[u8], counter: u8) -> u16
     ensures { λ r. ⌜ r ≡ dataPec (now (bytes .entry)) counter ⌝ }
 {
-    pec10_and_bits(bytes, 6, (counter % 64) as u16)
+    let bits = counter % 64;
+    if bytes.len() == 6 {
+        return by_shifts::remainder_10(number_of(bytes) * 64 + (bits as u64));
+    }
+    pec10_and_bits(bytes, 6, bits as u16)
 }
 
 // Bytes seven and eight of a payload.
@@ -125,7 +134,7 @@ pub fn payload_right(eight: &[u8]) -> bool
     if eight.len() != 8 {
         return false;
     }
-    let sent = word_at(eight, 6);
-    let check = data_pec(&eight[..6], (sent / 1024) as u8);
-    sent % 1024 == check
+    let sent = number_of(eight);
+    let check = by_shifts::remainder_10(sent / 1024);
+    sent % 1024 == (check as u64)
 }

@@ -1,18 +1,34 @@
--- `pec::words::command_right` meets its contract, by its two tests.
+-- `pec::words::command_right` meets its contract: of the four bytes as one number the 16 high bits are the command, and the low ones
+-- what is sent of its check.
 -- Assumes nothing.
-use mathlib.Core.Path.{sym, ap, ap₂, _∙_, subst⁻¹}
+use mathlib.Core.Path.{_≡_, sym, ap, ap₂, _∙_, subst⁻¹}
 use mathlib.Core.Bool.{Bool, _&&_}
-use Prim.Native.Nat.{ℕ, _*_, _^_, _<_}
+use mathlib.Core.List.{List}
+use Prim.Native.Nat.{ℕ, _+_, _*_, _/_, _%_, _^_, _<_}
 use native.Mathlib.Omega.{arith}
 use lib.Dec.{eqb}
-use lib.ListN.{length, take}
+use lib.ListN.{length, getD, take}
 use lib.Seq.{length-take-le}
 use borrow.Author.Tests.{eq-eqb, ne-eqb}
-use Rattle.pec.specs.Words.{wordAt, pec15, commandRight}
-use Rattle.pec.proofs.CheckWords.{pec15-below}
+use Rattle.laws.specs.Bits.{bitsOf, numberOf}
+use Rattle.pec.specs.Remainder.{remainder}
+use Rattle.pec.specs.Words.{wordAt, polynomial15, pec15, commandRight}
+use Rattle.pec.proofs.Messages.{bytes-of-take, number-fits, word-below, last-two, command-message}
 use borrow.Author.Needs.{needs}
 use Rattle.pec.proofs.words.command_right.Statement.{statement}
 use Rattle.pec.proofs.words.command_right.Tie as tie
+
+module _ (four : List ℕ) (h : (i : ℕ) → getD four i 0 < 256) (e : length four ≡ 4) where
+  command : numberOf four / 65536 ≡ numberOf (take 2 four)
+  command = omega (arith, last-two four 2 e, word-below four h 2)
+
+  sent : numberOf four % 65536 ≡ wordAt four 2
+  sent = omega (arith, last-two four 2 e, word-below four h 2)
+
+  check : remainder 15 polynomial15 16 (bitsOf 16 (numberOf four / 65536)) ≡ pec15 (take 2 four)
+  check =
+      ap (λ (n : ℕ). remainder 15 polynomial15 16 (bitsOf 16 n)) command
+      ∙ command-message (take 2 four) (bytes-of-take four h 2) (length-take-le 2 four (omega arith))
 
 returns : tie.Need-returns
 unfolding commandRight
@@ -20,34 +36,37 @@ returns c =
     let four = c .before .before .args .four .now in
     sym (ap (λ (b : Bool). b && eqb (wordAt four 2) (pec15 (take 2 four) * 2)) (ne-eqb (length four) 4 (c .if1 .taken)))
 
-word-at-requires : tie.Need-word-at-requires
-word-at-requires c κs = search needs
+number-of-requires : tie.Need-number-of-requires
+number-of-requires c κs = search needs
 
-slice-aggregate-pec15-by-table : tie.Need-slice-aggregate-pec15-by-table
-slice-aggregate-pec15-by-table c = sym (length-take-le 2 (c .before .before .before .before .args .four .now) (omega arith))
+cast-remainder-15 : tie.Need-cast-remainder-15
+cast-remainder-15 c =
+    let s = c .before .before in
+    let below : c .number-of .result < 2 ^ 32 = subst⁻¹ (λ (n : ℕ). n < 2 ^ 32) (c .number-of .ensures)
+    (number-fits (s .before .args .four .now) (λ i. s .shared-slice-known .given i .fits) 4 (c .before .if1 .left)) in
+    omega arith
 
-pec15-by-table-requires : tie.Need-pec15-by-table-requires
-pec15-by-table-requires c κs = search needs
+remainder-15-requires : tie.Need-remainder-15-requires
+remainder-15-requires c κs = search needs
+
+cast-result : tie.Need-cast-result
+cast-result c = search needs
 
 mul-result : tie.Need-mul-result
-mul-result c =
-    let below : c .pec15-by-table .result < 2 ^ 15 = subst⁻¹ (λ (n : ℕ). n < 2 ^ 15) (c .pec15-by-table .ensures) (pec15-below _) in
-    omega arith
+mul-result c = search needs
 
 returns-2 : tie.Need-returns-2
 unfolding commandRight
 returns-2 c =
-    let four = c .before .before .before .before .before .args .four .now in
-    ap₂ (λ (x y : ℕ). eqb x (y * 2)) (c .before .before .word-at .ensures) (c .pec15-by-table .ensures)
-    ∙ sym (ap (λ (b : Bool). b && eqb (wordAt four 2) (pec15 (take 2 four) * 2)) (eq-eqb (length four) 4 (c .before .before .before .if1 .left)))
+    let s = c .before .before .before in
+    let four = s .before .args .four .now in
+    let bytes : (i : ℕ) → getD four i 0 < 256 = λ i. s .shared-slice-known .given i .fits in
+    let whole = c .before .before .if1 .left in
+    let number = c .before .number-of .ensures in
+    ap₂ (λ (x y : ℕ). eqb x (y * 2)) (ap (λ (n : ℕ). n % 65536) number ∙ sent four bytes whole)
+    (c .remainder-15 .ensures ∙ ap (λ (n : ℕ). remainder 15 polynomial15 16 (bitsOf 16 (n / 65536))) number ∙ check four bytes whole)
+    ∙ sym (ap (λ (b : Bool). b && eqb (wordAt four 2) (pec15 (take 2 four) * 2)) (eq-eqb (length four) 4 whole))
 
 pub command-right-spec : {M : Type 1} → statement M
 command-right-spec =
-    tie.close
-    (tie.spec
-    returns
-    word-at-requires
-    slice-aggregate-pec15-by-table
-    pec15-by-table-requires
-    mul-result
-    returns-2)
+    tie.close (tie.spec returns number-of-requires cast-remainder-15 remainder-15-requires cast-result mul-result returns-2)

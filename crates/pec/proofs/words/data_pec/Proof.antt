@@ -1,15 +1,56 @@
--- `pec::words::data_pec` meets its contract: the six bits of a counter are those of its remainder by 64.
+-- `pec::words::data_pec` meets its contract: six bytes and six bits are a message of 54, and the six bits of a counter are those of its
+-- remainder by 64.
 -- Assumes nothing.
-use mathlib.Core.Path.{ap, _∙_}
+use mathlib.Core.Path.{_≡_, ap, _∙_, subst⁻¹}
 use mathlib.Core.Bool.{Bool}
 use mathlib.Core.List.{List, _++_}
-use Rattle.laws.specs.Bits.{bitsOfBytes}
+use Prim.Native.Nat.{ℕ, _+_, _*_, _%_, _^_, _<_}
+use native.Mathlib.Nat.{mod-lt}
+use native.Mathlib.Omega.{arith}
+use lib.Dec.{lit<}
+use Rattle.laws.specs.Bits.{bitsOf, bitsOfBytes}
 use Rattle.laws.proofs.Bits.{bits-mod}
 use Rattle.pec.specs.Remainder.{remainder}
 use Rattle.pec.specs.Words.{polynomial10, dataPec}
+use Rattle.pec.proofs.Messages.{number-fits, data-message}
 use borrow.Author.Needs.{needs}
 use Rattle.pec.proofs.words.data_pec.Statement.{statement}
 use Rattle.pec.proofs.words.data_pec.Tie as tie
+
+same-bits : (bytes : List ℕ) (counter : ℕ) → dataPec bytes (counter % 64) ≡ dataPec bytes counter
+unfolding dataPec
+same-bits bytes counter = ap (λ (bs : List Bool). remainder 10 polynomial10 16 (bitsOfBytes bytes ++ bs)) (bits-mod 6 counter)
+
+number-of-requires : tie.Need-number-of-requires
+number-of-requires c κs = search needs
+
+-- six bytes make a number of 48 bits
+below : (c : tie.After-number-of) → c .number-of .result < 2 ^ 48
+below c =
+    let s = c .before .before in
+    subst⁻¹ (λ (n : ℕ). n < 2 ^ 48) (c .number-of .ensures) (number-fits (s .before .args .bytes .now) (λ i. s .shared-slice-known .given i .fits) 6 (c .before .if1 .taken))
+
+mul-remainder-10 : tie.Need-mul-remainder-10
+mul-remainder-10 c = omega (arith, below c)
+
+cast-remainder-10 : tie.Need-cast-remainder-10
+cast-remainder-10 c = search needs
+
+add-remainder-10 : tie.Need-add-remainder-10
+add-remainder-10 c = omega (arith, below c)
+
+remainder-10-requires : tie.Need-remainder-10-requires
+remainder-10-requires c κs = omega (arith, below c)
+
+returns : tie.Need-returns
+unfolding dataPec
+returns c =
+    let s = c .before .before .before in
+    let a = s .before .args in
+    c .remainder-10 .ensures
+    ∙ ap (λ (n : ℕ). remainder 10 polynomial10 16 (bitsOf 54 (n * 64 + a .counter % 64))) (c .before .number-of .ensures)
+    ∙ data-message (a .bytes .now) (a .counter % 64) (λ i. s .shared-slice-known .given i .fits) (c .before .before .if1 .taken) (mod-lt (a .counter) (lit< tt))
+    ∙ same-bits (a .bytes .now) (a .counter)
 
 cast-pec10-and-bits : tie.Need-cast-pec10-and-bits
 cast-pec10-and-bits c = search needs
@@ -17,12 +58,22 @@ cast-pec10-and-bits c = search needs
 pec10-and-bits-requires : tie.Need-pec10-and-bits-requires
 pec10-and-bits-requires c κs = search needs
 
-returns : tie.Need-returns
+returns-2 : tie.Need-returns-2
 unfolding dataPec
-returns c =
-    let a = c .before .before .args in
-    c .pec10-and-bits .ensures
-    ∙ ap (λ (bs : List Bool). remainder 10 polynomial10 16 (bitsOfBytes (a .bytes .now) ++ bs)) (bits-mod 6 (a .counter))
+returns-2 c =
+    let a = c .before .before .before .args in
+    c .pec10-and-bits .ensures ∙ same-bits (a .bytes .now) (a .counter)
 
 pub data-pec-spec : {M : Type 1} → statement M
-data-pec-spec = tie.close (tie.spec cast-pec10-and-bits pec10-and-bits-requires returns)
+data-pec-spec =
+    tie.close
+    (tie.spec
+    number-of-requires
+    mul-remainder-10
+    cast-remainder-10
+    add-remainder-10
+    remainder-10-requires
+    returns
+    cast-pec10-and-bits
+    pec10-and-bits-requires
+    returns-2)

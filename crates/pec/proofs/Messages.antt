@@ -1,0 +1,86 @@
+-- What the check words are taken over, as numbers: a command is 16 bits, six bytes and the counter are 54, and the last two bytes of a
+-- string are the 16 low bits of its number.
+-- Assumes nothing.
+use mathlib.Core.Path.{_≡_, refl, sym, ap, ap₂, _∙_, subst}
+use mathlib.Core.Bool.{Bool}
+use mathlib.Core.List.{List, [], _∷_, _++_}
+use Prim.Native.Nat.{ℕ, zero, suc, _+_, _*_, _/_, _%_, _^_, _<_}
+use native.Mathlib.Numerals.{add-one}
+use native.Mathlib.Omega.{arith}
+use lib.Dec.{lit<}
+use lib.ListN.{length, getD, take, drop, drop-of-length-le, take-append-drop}
+use lib.Seq.{drop-cons}
+use Rattle.laws.specs.Bits.{bitsOf, bitsOfBytes, numberFrom, numberOf}
+use Rattle.laws.proofs.Numbers.{bits-join, bits-of-number, number-append, number-below}
+use Rattle.pec.specs.Remainder.{remainder}
+use Rattle.pec.specs.Words.{twoBytes, wordAt, polynomial10, polynomial15, pec15, dataPec}
+
+pub bytes-of-take : (bytes : List ℕ) → ((i : ℕ) → getD bytes i 0 < 256) → (j i : ℕ) → getD (take j bytes) i 0 < 256
+bytes-of-take bytes h zero i = lit< tt
+bytes-of-take [] h (suc j) i = lit< tt
+bytes-of-take (b ∷ bs) h (suc j) zero = h 0
+bytes-of-take (b ∷ bs) h (suc j) (suc i) = bytes-of-take bs (λ k. h (suc k)) j i
+
+pub number-fits : (bytes : List ℕ) → ((i : ℕ) → getD bytes i 0 < 256) → (j : ℕ) → length bytes ≡ j → numberOf bytes < 2 ^ (8 * j)
+unfolding numberOf
+number-fits bytes h j e =
+    let bits : 0 + 8 * length bytes ≡ 8 * j = omega arith in
+    subst (λ (k : ℕ). numberFrom 0 bytes < 2 ^ k) bits (number-below 0 0 bytes (lit< tt) h)
+
+pub word-below : (bytes : List ℕ) → ((i : ℕ) → getD bytes i 0 < 256) → (j : ℕ) → wordAt bytes j < 65536
+unfolding wordAt
+word-below bytes h j = omega (arith, h j, h (j + 1))
+
+pub last-two : (bytes : List ℕ) (j : ℕ) → length bytes ≡ j + 2 → numberOf bytes ≡ numberOf (take j bytes) * 65536 + wordAt bytes j
+unfolding numberOf numberFrom wordAt
+last-two bytes j e =
+    ap (numberFrom 0) (sym (take-append-drop j bytes))
+    ∙ number-append 0 (take j bytes) (drop j bytes)
+    ∙ ap (numberFrom (numberFrom 0 (take j bytes))) two
+    ∙ joined (numberFrom 0 (take j bytes)) (getD bytes j 0) (getD bytes (j + 1) 0)
+  where
+    two : drop j bytes ≡ getD bytes j 0 ∷ getD bytes (j + 1) 0 ∷ []
+    two =
+        drop-cons bytes j 0 (omega arith)
+        ∙ ap (λ (l : List ℕ). getD bytes j 0 ∷ l)
+        (ap (λ (n : ℕ). drop n bytes) (sym (add-one j)) ∙ drop-cons bytes (j + 1) 0 (omega arith)
+        ∙ ap (λ (l : List ℕ). getD bytes (j + 1) 0 ∷ l) (drop-of-length-le bytes {i = suc (j + 1)} (omega arith)))
+
+    joined : (n x y : ℕ) → (n * 256 + x) * 256 + y ≡ n * 65536 + (x * 256 + y)
+    joined n x y = omega arith
+
+pub command-message : (two : List ℕ) → ((i : ℕ) → getD two i 0 < 256) → length two ≡ 2
+    → remainder 15 polynomial15 16 (bitsOf 16 (numberOf two)) ≡ pec15 two
+unfolding pec15 numberOf bitsOf
+command-message two h e =
+    let sixteen : 16 ≡ 0 + 8 * length two = omega arith in
+    ap (remainder 15 polynomial15 16) (ap (λ (k : ℕ). bitsOf k (numberOf two)) sixteen ∙ bits-of-number 0 0 two h)
+
+pub data-message : (six : List ℕ) (counter : ℕ) → ((i : ℕ) → getD six i 0 < 256) → length six ≡ 6 → counter < 64
+    → remainder 10 polynomial10 16 (bitsOf 54 (numberOf six * 64 + counter)) ≡ dataPec six counter
+unfolding dataPec numberOf bitsOf
+data-message six counter h e few =
+    let all : 48 ≡ 0 + 8 * length six = omega arith in
+    ap (remainder 10 polynomial10 16)
+    (bits-join 48 6 (numberOf six) few
+    ∙ ap (λ (bs : List Bool). bs ++ bitsOf 6 counter) (ap (λ (k : ℕ). bitsOf k (numberOf six)) all ∙ bits-of-number 0 0 six h))
+
+-- a command's code and its two bytes are one message
+module _ (code : ℕ) where
+  number-of-two : numberOf (twoBytes code) ≡ code
+  unfolding numberOf numberFrom twoBytes
+  number-of-two = omega arith
+
+  two : length (twoBytes code) ≡ 2
+  unfolding twoBytes
+  two = refl
+
+  bytes-of-two : code < 65536 → (i : ℕ) → getD (twoBytes code) i 0 < 256
+  unfolding twoBytes
+  bytes-of-two h zero = omega arith
+  bytes-of-two h (suc zero) = omega arith
+  bytes-of-two h (suc (suc i)) = lit< tt
+
+  pub code-message : code < 65536 → remainder 15 polynomial15 16 (bitsOf 16 code) ≡ pec15 (twoBytes code)
+  code-message h =
+      ap (λ (n : ℕ). remainder 15 polynomial15 16 (bitsOf 16 n)) (sym number-of-two) ∙ command-message (twoBytes code) (bytes-of-two h) two

@@ -1,0 +1,47 @@
+// The two remainders by shifts alone, of a message that is one number. Where the polynomial is x^w (1 + a), with a in negative powers of
+// x, the quotient is the message times (1 + a)(1 + a^2)(1 + a^4) and so on, since 1 + 1 = 0; the remainder is the w low bits of the
+// quotient times the polynomial's terms below x^w. There is no table to copy and no byte waits for the one before it.
+ghost use mathlib.Core.Path.{_≡_};
+ghost use Prim.Native.Nat.{_^_, _<_};
+ghost use Rattle.laws.specs.Bits.{bitsOf};
+ghost use Rattle.pec.specs.Remainder.{remainder};
+ghost use Rattle.pec.specs.Words.{polynomial10, polynomial15};
+
+// What the start value leaves of 54 zero bits, and of 16.
+const ZEROS_10: u16 = 0x3e3;
+
+const ZEROS_15: u16 = 0x5b2e;
+
+// Ten bits, of 54.
+pub(crate) fn remainder_10(message: u64) -> u16
+    requires { ⌜ message < 2 ^ 54 ⌝ }
+    ensures { λ r. ⌜ r ≡ remainder 10 polynomial10 16 (bitsOf 54 message) ⌝ }
+{
+    let a = message
+        ^ (message >> 3)
+        ^ (message >> 7)
+        ^ (message >> 8)
+        ^ (message >> 9)
+        ^ (message >> 10);
+    let b = a ^ (a >> 6) ^ (a >> 14) ^ (a >> 16) ^ (a >> 18) ^ (a >> 20);
+    let c = b ^ (b >> 12) ^ (b >> 28) ^ (b >> 32) ^ (b >> 36) ^ (b >> 40);
+    let d = c ^ (c >> 24);
+    let e = d ^ (d >> 48);
+    let q = e % 1024;
+    let left = (q ^ (q * 2) ^ (q * 4) ^ (q * 8) ^ (q * 128)) % 1024;
+    (left as u16) ^ ZEROS_10
+}
+
+// Fifteen bits, of 16.
+pub(crate) fn remainder_15(message: u16) -> u16
+    ensures { λ r. ⌜ r ≡ remainder 15 polynomial15 16 (bitsOf 16 message) ⌝ }
+{
+    let m = message as u32;
+    let a = m ^ (m >> 1) ^ (m >> 5) ^ (m >> 7) ^ (m >> 8) ^ (m >> 11) ^ (m >> 12) ^ (m >> 15);
+    let b = a ^ (a >> 2) ^ (a >> 10) ^ (a >> 14);
+    let c = b ^ (b >> 4);
+    let d = c ^ (c >> 8);
+    let q = d % 32768;
+    let left = (q ^ (q * 8) ^ (q * 16) ^ (q * 128) ^ (q * 256) ^ (q * 1024) ^ (q * 16384)) % 32768;
+    (left as u16) ^ ZEROS_15
+}
