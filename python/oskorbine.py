@@ -1,0 +1,393 @@
+"""The bench chain from Python: 1 to 32 battery monitors (ADBMS6830B) in a table that the caller lends, the host that writes their
+frames and reads their replies, a second engine that clocks the same frames a byte at a time, and readings of cells.
+
+Names, values and refusals are those of include/oskorbine.h, over the shared library that tools/c-library makes. It is looked for at
+the path in the environment variable OSKORBINE_LIBRARY, and without one at target/c/liboskorbine.so in the project of this module.
+
+A buffer that is written is lent and changed in place: a bytearray, a writable memoryview, a ctypes array, array('d') for volts. One
+that is only read may be any bytes-like object, bytes too. Codes are a sequence of whole numbers; array('h') goes in without a copy.
+A refusal is an answer and never an exception. TypeError and ValueError are for what the library could not see (a buffer that cannot
+be written, buffers that overlap, a number that does not fit its C type); they come before the library is called, so nothing changed.
+"""
+
+from __future__ import annotations
+
+import array
+import collections.abc
+import ctypes
+import itertools
+import operator
+import os
+import sys
+from typing import Any, NamedTuple, Sequence, Tuple, Union
+
+__all__ = [
+    "Answer", "osk_number", "osk_first", "osk_second", "osk_frame", "osk_load", "osk_host_frame", "osk_check", "osk_two_ports",
+    "osk_clock_start", "osk_clock_byte", "osk_clock_window", "osk_clock_release", "osk_microvolts", "osk_volts", "osk_summary",
+    "OSK_ACCEPTED", "OSK_TABLE_NOT_SOUND", "OSK_FRAME_SHORT", "OSK_COMMAND_WRONG", "OSK_CODE_NOT_LISTED", "OSK_LENGTH_WRONG",
+    "OSK_NO_ROOM", "OSK_POSITION_WRONG", "OSK_COUNT_WRONG", "OSK_CODE_CLEARED", "OSK_NEITHER_RIGHT", "OSK_RIGHT", "OSK_DAMAGED",
+    "OSK_PORT_A", "OSK_PORT_B", "OSK_CLOCK_STATE",
+]
+
+Writable = Union[bytearray, memoryview, "array.array[Any]", "ctypes.Array[Any]"]
+Readable = Union[bytes, Writable]
+Codes = Union[Sequence[int], "array.array[int]", "ctypes.Array[Any]"]
+
+# ---- the refusals, each given exactly when its condition is the first to hold, in the order that each function names
+
+OSK_ACCEPTED = 0
+OSK_TABLE_NOT_SOUND = 1  # the table is not sound; at a release also: it was not, or had another N, at byte four
+OSK_FRAME_SHORT = 2  # frame under 4 bytes
+OSK_COMMAND_WRONG = 3  # command PEC wrong
+OSK_CODE_NOT_LISTED = 4  # code not listed
+OSK_LENGTH_WRONG = 5  # length not the one for this command and N; a reply or payload of the wrong length
+OSK_NO_ROOM = 6  # the buffer to be written is too small
+OSK_POSITION_WRONG = 7  # N not 1 to 32, or position not 1 to N
+OSK_COUNT_WRONG = 8  # wrong number of codes or value bytes
+OSK_CODE_CLEARED = 9  # a loaded code is -32768
+OSK_NEITHER_RIGHT = 10  # neither port's bytes are right
+
+OSK_RIGHT = 1
+OSK_DAMAGED = 2
+
+OSK_PORT_A = 1
+OSK_PORT_B = 2
+
+OSK_CLOCK_STATE = 264  # the bytes of one clock's state
+
+
+# ---- answers
+
+class Answer(int):
+    """An osk_answer: the 32-bit number as C has it, and its three parts by name.
+
+    It is an int and not a tuple so that it stays the header's value: osk_number, osk_first and osk_second take it as they do in C, and
+    a refusal, being its number only, equals its constant (answer == OSK_NO_ROOM). An accepted answer has values beside OSK_ACCEPTED:
+    there compare answer.number, and do not use the answer as a truth value.
+    """
+
+    __slots__ = ()
+
+    def __new__(cls, value: int = 0) -> Answer:
+        return super().__new__(cls, _whole("answer", value, 0, 0xFFFFFFFF))
+
+    @property
+    def number(self) -> int:
+        """The number of the refusal, and OSK_ACCEPTED (0) where nothing is refused."""
+        return self & 0xFF
+
+    @property
+    def first(self) -> int:
+        """The first value; 0 in a refusal and where a function has none."""
+        return self >> 8 & 0xFF
+
+    @property
+    def second(self) -> int:
+        """The second value; 0 in a refusal and where a function has none."""
+        return self >> 16
+
+    def __repr__(self) -> str:
+        return f"<Answer number={self.number} first={self.first} second={self.second}>"
+
+
+def osk_number(answer: int) -> int:
+    """The number of the refusal in an answer, bits 0 to 7, and OSK_ACCEPTED (0) where nothing is refused. Refusals: none."""
+    return Answer(answer).number
+
+
+def osk_first(answer: int) -> int:
+    """The first value of an answer, bits 8 to 15; 0 in a refusal and where a function has none. Refusals: none."""
+    return Answer(answer).first
+
+
+def osk_second(answer: int) -> int:
+    """The second value of an answer, bits 16 to 31; 0 in a refusal and where a function has none. Refusals: none."""
+    return Answer(answer).second
+
+
+# ---- the library
+
+_BUFFER = (ctypes.c_void_p, ctypes.c_size_t)
+_STATE = (ctypes.c_void_p,)
+_POSITION = (ctypes.c_size_t,)
+_CODE = (ctypes.c_int16,)
+_PROTOTYPES = {
+    "osk_frame": (ctypes.c_uint32, _BUFFER + _BUFFER + _BUFFER),
+    "osk_load": (ctypes.c_uint32, _BUFFER + _POSITION + _BUFFER),
+    "osk_host_frame": (ctypes.c_uint32, (ctypes.c_uint16,) + _POSITION + _BUFFER + _BUFFER),
+    "osk_check": (ctypes.c_uint32, _BUFFER),
+    "osk_two_ports": (ctypes.c_uint32, _BUFFER + _BUFFER + _POSITION + _POSITION),
+    "osk_clock_start": (None, _STATE),
+    "osk_clock_byte": (ctypes.c_uint32, _STATE + _BUFFER + (ctypes.c_uint8,)),
+    "osk_clock_window": (ctypes.c_uint32, _STATE + _POSITION + _BUFFER),
+    "osk_clock_release": (ctypes.c_uint32, _STATE + _BUFFER),
+    "osk_microvolts": (ctypes.c_int32, _CODE),
+    "osk_volts": (ctypes.c_double, _CODE),
+    "osk_summary": (ctypes.c_uint32, _BUFFER + _BUFFER),
+}
+
+
+def _open_library() -> ctypes.PyDLL:
+    project = os.path.dirname(os.path.dirname(os.path.realpath(__file__)))
+    path = os.path.abspath(os.environ.get("OSKORBINE_LIBRARY") or os.path.join(project, "target", "c", "liboskorbine.so"))
+    remedy = "make it with tools/c-library, or name one in the environment variable OSKORBINE_LIBRARY"
+    if not os.path.isfile(path):
+        raise ImportError(f"there is no library at {path}: {remedy}")
+    try:
+        # PyDLL keeps Python's other threads out during a call: they could change a lent buffer under the library.
+        library = ctypes.PyDLL(path)
+    except OSError as error:
+        raise ImportError(f"{path} is no library for this machine ({error}): {remedy}") from error
+    for name, (result, arguments) in _PROTOTYPES.items():
+        try:
+            function = getattr(library, name)
+        except AttributeError:
+            raise ImportError(f"{path} has no {name}: {remedy}") from None
+        function.restype = result
+        function.argtypes = arguments
+    return library
+
+
+_library = _open_library()
+
+
+# ---- what is lent to it
+
+_SIZE_MAX = ctypes.c_size_t(-1).value
+_OWN_ORDER = "<" if sys.byteorder == "little" else ">"
+_NOWHERE = ctypes.c_double()  # a buffer of length 0 still needs a valid address, aligned for any element
+
+
+class _Lent(NamedTuple):
+    """One buffer of a call. What `words` holds keeps the memory alive and its size fixed until the call is over."""
+
+    name: str
+    written: bool
+    words: Tuple[Any, ...]  # what the C function takes: the pointer, and the length in elements where it takes one
+    start: int = 0  # the addresses it covers; none where nobody can write there
+    end: int = 0
+
+
+def _whole(name: str, value: int, low: int, high: int) -> int:
+    try:
+        number = operator.index(value)
+    except TypeError:
+        raise TypeError(f"{name}: a whole number is needed, not {type(value).__name__}") from None
+    if not low <= number <= high:
+        raise ValueError(f"{name}: {number} is not from {low} to {high}")
+    return number
+
+
+def _size(name: str, value: int) -> int:
+    return _whole(name, value, 0, _SIZE_MAX)
+
+
+def _code(value: int) -> int:
+    return _whole("code", value, -0x8000, 0x7FFF)
+
+
+def _view(name: str, buffer: Any) -> memoryview:
+    try:
+        return memoryview(buffer)
+    except TypeError:
+        raise TypeError(f"{name}: a bytes-like object is needed, not {type(buffer).__name__}") from None
+
+
+def _holds(view: memoryview, kind: str) -> bool:
+    return view.format in (kind, "@" + kind, "=" + kind, _OWN_ORDER + kind)
+
+
+def _lend(name: str, written: bool, view: memoryview) -> _Lent:
+    if written and view.readonly:
+        raise TypeError(f"{name}: it is written, and this buffer is read-only")
+    if not view.c_contiguous:
+        raise ValueError(f"{name}: its elements do not lie side by side")
+    if view.nbytes == 0:
+        return _Lent(name, written, (ctypes.byref(_NOWHERE), 0))
+    length = view.nbytes // view.itemsize
+    if view.readonly:
+        # ctypes gives the address of a bytes object but of no other read-only memory, so a part of one is copied.
+        whole = type(view.obj) is bytes and len(view.obj) == view.nbytes
+        return _Lent(name, written, (view.obj if whole else view.tobytes(), length))
+    first = ctypes.c_char.from_buffer(view)
+    start = ctypes.addressof(first)
+    return _Lent(name, written, (ctypes.byref(first), length), start, start + view.nbytes)
+
+
+def _bytes(name: str, written: bool, buffer: Any) -> _Lent:
+    view = _view(name, buffer)
+    if view.itemsize != 1:
+        raise TypeError(f"{name}: elements of one byte are needed, not of {view.itemsize}")
+    return _lend(name, written, view)
+
+
+def _read(name: str, buffer: Any) -> _Lent:
+    return _bytes(name, False, buffer)
+
+
+def _written(name: str, buffer: Any) -> _Lent:
+    return _bytes(name, True, buffer)
+
+
+def _state(written: bool, buffer: Any) -> _Lent:
+    lent = _bytes("state", written, buffer)
+    pointer, length = lent.words
+    if length != OSK_CLOCK_STATE:
+        raise ValueError(f"state: it has {length} bytes, not OSK_CLOCK_STATE ({OSK_CLOCK_STATE})")
+    return lent._replace(words=(pointer,))
+
+
+def _codes(codes: Any) -> _Lent:
+    try:
+        view = memoryview(codes)
+    except TypeError:
+        view = None
+    if view is not None and view.itemsize == 1:
+        raise TypeError("codes: whole numbers of 16 bits are needed, not bytes (array('h') takes bytes in the machine's order)")
+    copy = array.array("h")
+    if view is not None and _holds(view, "h"):
+        if view.c_contiguous and not view.readonly:
+            lent = _lend("codes", False, view)
+            if lent.start % ctypes.alignment(ctypes.c_int16) == 0:
+                return lent
+        copy.frombytes(view.tobytes())
+    elif view is None and not isinstance(codes, collections.abc.Sequence):
+        raise TypeError(f"codes: a sequence of whole numbers is needed, not {type(codes).__name__}")
+    else:
+        try:
+            copy.extend(iter(codes))  # an array of another kind is refused whole, its items are not
+        except OverflowError:
+            raise ValueError("codes: one is not from -32768 to 32767") from None
+        except (TypeError, NotImplementedError) as error:
+            raise TypeError(f"codes: whole numbers are needed ({error})") from None
+    return _lend("codes", False, memoryview(copy))
+
+
+def _volts(buffer: Any) -> _Lent:
+    view = _view("out", buffer)
+    if not _holds(view, "d"):
+        raise TypeError(f"out: elements of format 'd' are needed, as in array('d'), not '{view.format}'")
+    lent = _lend("out", True, view)
+    if lent.start % ctypes.alignment(ctypes.c_double):
+        raise ValueError("out: its address is not aligned for elements of format 'd'")
+    return lent
+
+
+def _call(function: Any, *arguments: Any) -> Any:
+    lent = [argument for argument in arguments if isinstance(argument, _Lent)]
+    for one, other in itertools.combinations(lent, 2):
+        if (one.written or other.written) and one.start < other.end and other.start < one.end:
+            raise ValueError(f"{one.name} and {other.name} overlap, and one of them is written")
+    words = (argument.words if isinstance(argument, _Lent) else (argument,) for argument in arguments)
+    return function(*itertools.chain.from_iterable(words))
+
+
+# ---- the chain: a table of N records, nearest monitor first
+
+def osk_frame(table: Writable, frame: Readable, reply: Writable) -> Answer:
+    """Handles a frame. The table becomes what the monitors keep of it; the reply to a read, nearest monitor first, goes to the start of
+    `reply`, and bytes past it stay.
+
+    First: how many monitors took the frame (N for a read or a bare command). Second: the length of the reply (8N for a read, else 0).
+    Refusals: 1, 2, 3, 4, 5, 6 (6 only for reads).
+    """
+    return Answer(_call(_library.osk_frame, _written("table", table), _read("frame", frame), _written("reply", reply)))
+
+
+def osk_load(table: Writable, position: int, codes: Codes) -> Answer:
+    """Loads 16 codes of 150 microvolts into the monitor at a position, 1 to N: stores them, and then sets UV for each cell below the
+    lower threshold and OV for each above the upper one. Flags are only ever set by a load.
+
+    No values. Refusals: 1, 7, 8, 9.
+    """
+    return Answer(_call(_library.osk_load, _written("table", table), _size("position", position), _codes(codes)))
+
+
+# ---- the host
+
+def osk_host_frame(command: int, monitors: int, values: Readable, out: Writable) -> Answer:
+    """Builds the frame for a command and so many monitors at the start of `out`; bytes past it stay. The values are six bytes for each
+    monitor in a write, nearest monitor first, and none (b"") otherwise.
+
+    Second: the length of the frame. Refusals: 4, 7, 8, 6.
+    """
+    number = _whole("command", command, 0, 0xFFFF)
+    return Answer(_call(_library.osk_host_frame, number, _size("monitors", monitors), _read("values", values), _written("out", out)))
+
+
+def osk_check(payload: Readable) -> Answer:
+    """Checks the data PEC of one payload of eight bytes.
+
+    First: OSK_RIGHT or OSK_DAMAGED. Refusals: 5.
+    """
+    return Answer(_call(_library.osk_check, _read("payload", payload)))
+
+
+def osk_two_ports(a: Readable, b: Readable, monitors: int, position: int) -> Answer:
+    """The chain was read from both ends: port A's reply `a` has monitor 1 first, port B's `b` has monitor N first. Asked for the monitor
+    at a position: its eight bytes as they lie in one of the two, A's if their data PEC is right, otherwise B's if right.
+
+    First: OSK_PORT_A or OSK_PORT_B. Second: the byte of that reply that the eight start at. Refusals: 7, 5 (either reply not 8N
+    bytes), 10.
+    """
+    return Answer(_call(_library.osk_two_ports, _read("a", a), _read("b", b), _size("monitors", monitors), _size("position", position)))
+
+
+# ---- the clocked engine: the same frames, a byte at a time
+
+def osk_clock_start(state: Writable) -> None:
+    """Before a frame: the windows are empty. It takes any bytes for the state, OSK_CLOCK_STATE of them, and gives up a frame that had
+    begun, at any byte. Two clocks, each with a state of its own, do not disturb each other.
+
+    No values. Refusals: none.
+    """
+    _call(_library.osk_clock_start, _state(True, state))
+
+
+def osk_clock_byte(state: Writable, table: Readable, byte: int) -> Answer:
+    """Clocks one byte in. N, and whether the command is known, are taken from the table lent with byte four; the table is only read.
+
+    First: the byte answered: what leaves monitor 1 in a known read, otherwise FF. Refusals: none.
+    """
+    return Answer(_call(_library.osk_clock_byte, _state(True, state), _read("table", table), _whole("byte", byte, 0, 0xFF)))
+
+
+def osk_clock_window(state: Readable, position: int, out: Writable) -> Answer:
+    """The window of the monitor at a position as it stands, oldest byte first, at the start of `out`; bytes past it stay. N is known
+    from byte four on, where the table lent then was sound; before that no position is one.
+
+    Second: how many bytes the window holds. Refusals: 7, 6.
+    """
+    return Answer(_call(_library.osk_clock_window, _state(False, state), _size("position", position), _written("out", out)))
+
+
+def osk_clock_release(state: Writable, table: Writable) -> Answer:
+    """Releases: each monitor acts on its own window, and the table becomes what they keep. The next frame starts empty, refused or not.
+
+    Values as for osk_frame; the bytes answered after the fourth are the reply if a read is accepted. Refusals: 1, 2, 3, 4, 5.
+    """
+    return Answer(_call(_library.osk_clock_release, _state(True, state), _written("table", table)))
+
+
+# ---- readings
+
+def osk_microvolts(code: int) -> int:
+    """The microvolts of a code, -32768 to 32767: 1,500,000 + 150 code. Refusals: none."""
+    return _library.osk_microvolts(_code(code))
+
+
+def osk_volts(code: int) -> float:
+    """A code in volts: the quotient of the microvolts by 1,000,000, rounded once. NaN where the cell is cleared (code -32768).
+    Refusals: none.
+    """
+    return _library.osk_volts(_code(code))
+
+
+def osk_summary(codes: Codes, out: Writable) -> Answer:
+    """The summary of 1 to 512 codes, over the cells not cleared: the lowest, the highest and the total in volts go to out[0], out[1] and
+    out[2] (array('d') or another buffer of doubles); what lies past them stays. If all are cleared there is none, and all of `out` stays.
+
+    First: 1 a summary, 0 none. Second: the number of cells not cleared. Refusals: 8, 6 (`out` under three, also where there would be
+    none).
+    """
+    return Answer(_call(_library.osk_summary, _codes(codes), _volts(out)))

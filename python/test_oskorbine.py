@@ -1,0 +1,472 @@
+"""Every function with values and refusals that the paper gives, or that follow from it by the division in paper_wire.py."""
+
+import array
+import math
+import unittest
+
+import paper_wire as wire
+from oskorbine import (
+    OSK_ACCEPTED, OSK_CLOCK_STATE, OSK_CODE_CLEARED, OSK_CODE_NOT_LISTED, OSK_COMMAND_WRONG, OSK_COUNT_WRONG, OSK_DAMAGED,
+    OSK_FRAME_SHORT, OSK_LENGTH_WRONG, OSK_NEITHER_RIGHT, OSK_NO_ROOM, OSK_PORT_A, OSK_PORT_B, OSK_POSITION_WRONG, OSK_RIGHT,
+    OSK_TABLE_NOT_SOUND, Answer, osk_check, osk_clock_byte, osk_clock_release, osk_clock_start, osk_clock_window, osk_first, osk_frame,
+    osk_host_frame, osk_load, osk_microvolts, osk_number, osk_second, osk_summary, osk_two_ports, osk_volts,
+)
+
+CANARY = 0xA5
+COUNTER, UNLOCKED = 68, 69
+STATUS_D = 50
+PAST_32_BITS = (1 << 32) + 1  # a size_t that would pass for 1 if it went through a C int
+
+UNSOUND = {
+    "empty": bytes(0), "a byte short": bytes(69), "a byte long": bytes(71), "33 records": bytes(2310), "2241 bytes": bytes(2241),
+    "counter 64": bytes(68) + b"\x40\x00", "counter 64 in the last of 32": bytes(2238) + b"\x40\x00", "byte 69 is 2": bytes(69) + b"\x02",
+}
+WRONG_COMMAND = bytes.fromhex("00022B0B")
+UNLISTED = wire.command_bytes(0x0003)
+
+
+def filled(monitors, counter=5, unlocked=0):
+    """A sound table whose registers have no two neighbouring bytes alike."""
+    table = bytearray((37 * at + 11 * (at // wire.RECORD) + 5) % 256 for at in range(wire.RECORD * monitors))
+    for start in range(0, len(table), wire.RECORD):
+        table[start + COUNTER:start + wire.RECORD] = counter, unlocked
+    return table
+
+
+def edited(table, changes):
+    """A copy with bytes put in place of others."""
+    copy = bytearray(table)
+    for at, some_bytes in changes.items():
+        copy[at:at + len(some_bytes)] = some_bytes
+    return copy
+
+
+def clocked(state, table, frame):
+    """The bytes answered to a frame."""
+    return bytes(osk_clock_byte(state, table, byte).first for byte in frame)
+
+
+def started():
+    """The state of a clock before a frame."""
+    state = bytearray(OSK_CLOCK_STATE)
+    osk_clock_start(state)
+    return state
+
+
+class Case(unittest.TestCase):
+    def assert_answer(self, answer, first, second):
+        self.assertIsInstance(answer, Answer)
+        self.assertEqual((answer.number, answer.first, answer.second), (OSK_ACCEPTED, first, second))
+
+    def assert_refused(self, answer, number):
+        self.assertIsInstance(answer, Answer)
+        self.assertEqual(int(answer), number, "a refusal is its number only")
+
+
+class Words(unittest.TestCase):
+    """The tests' own check words hold to the paper's worked examples 1 to 7."""
+
+    def test_worked_examples(self):
+        self.assertEqual(wire.command_bytes(0x0001).hex(), "00013d6e")
+        self.assertEqual(wire.command_bytes(0x0002).hex(), "00022b0a")
+        for value, bits, expected in (0x00, 8, 0x23C), (0x01, 8, 0x2B3), (0, 48, 0x331), (0, 54, 0x3E3):
+            self.assertEqual(wire.remainder(10, wire.DATA_POLYNOMIAL, value, bits), expected)
+        self.assertEqual(wire.payload(bytes(6)).hex(), "00000000000003e3")
+
+
+class Answers(unittest.TestCase):
+    def test_parts(self):
+        for value in 0x8001A5C3, Answer(0x8001A5C3):
+            self.assertEqual((osk_number(value), osk_first(value), osk_second(value)), (0xC3, 0xA5, 0x8001))
+        answer = Answer(0x8001A5C3)
+        self.assertEqual((answer.number, answer.first, answer.second), (0xC3, 0xA5, 0x8001))
+        self.assertEqual(repr(answer), "<Answer number=195 first=165 second=32769>")
+        self.assertEqual(f"{answer}", repr(answer))
+
+    def test_a_refusal_is_its_constant(self):
+        self.assertEqual(osk_check(b""), OSK_LENGTH_WRONG)
+
+
+class Frames(Case):
+    def keeps(self, table, frame, room, number):
+        """Refused with the number, and every byte lent stays as it was."""
+        lent, reply = bytearray(table), bytearray([CANARY]) * room
+        self.assert_refused(osk_frame(lent, frame, reply), number)
+        self.assertEqual(lent, table)
+        self.assertEqual(reply, bytearray([CANARY]) * room)
+
+    def changes(self, table, frame, changes, taken):
+        """A write or a bare command: it makes these changes to the table and no other, and does not touch the reply."""
+        lent, reply = bytearray(table), bytearray([CANARY]) * 9
+        self.assert_answer(osk_frame(lent, frame, reply), taken, 0)
+        self.assertEqual(lent, edited(table, changes))
+        self.assertEqual(reply, bytearray([CANARY]) * 9)
+
+    def test_every_read(self):
+        at = {wire.RDCFGA: 0, wire.RDCFGB: 6, wire.RDCVA: 12, wire.RDCVB: 18, wire.RDCVC: 24, wire.RDCVD: 30, wire.RDCVE: 36,
+              wire.RDSTATC: 44, wire.RDSTATD: 50, wire.RDRR: 56, wire.RDSID: 62}
+        table = edited(filled(2), {COUNTER: b"\x3f", wire.RECORD + COUNTER: b"\x01"})
+        registers = {command: (table[start:start + 6], table[70 + start:76 + start]) for command, start in at.items()}
+        registers[wire.RDCVF] = table[42:44] + b"\xff" * 4, table[112:114] + b"\xff" * 4
+        self.assertEqual(len(registers), 12)
+        for command, (near, far) in registers.items():
+            with self.subTest(command=f"{command:04X}"):
+                lent, reply = bytearray(table), bytearray([CANARY]) * 20
+                self.assert_answer(osk_frame(lent, wire.read(command, 2, filler=0x5A), reply), 2, 16)
+                self.assertEqual(reply, wire.payload(near, 63) + wire.payload(far, 1) + bytes([CANARY]) * 4)
+                self.assertEqual(lent, table)
+
+    def test_reply_of_zeros(self):
+        reply = bytearray(8)
+        self.assert_answer(osk_frame(bytearray(70), bytes.fromhex("00022B0A") + b"\xff" * 8, reply), 1, 8)
+        self.assertEqual(reply.hex(), "00000000000003e3")
+
+    def test_longest_chain(self):
+        table, reply = filled(32), bytearray(256)
+        self.assert_answer(osk_frame(table, wire.read(wire.RDSID, 32), reply), 32, 256)
+        self.assertEqual(reply, b"".join(wire.payload(table[at + 62:at + 68], 5) for at in range(0, 2240, 70)))
+        self.keeps(table, wire.read(wire.RDSID, 32), 255, OSK_NO_ROOM)
+
+    def test_write_goes_to_the_far_monitor_first(self):
+        near, far = bytes.fromhex("715246000000"), bytes.fromhex("F4813E123456")
+        self.changes(filled(2), wire.write(wire.WRCFGB, wire.payload(near), wire.payload(far)),
+                     {6: near, COUNTER: b"\x06", 76: far, 70 + COUNTER: b"\x06"}, 2)
+
+    def test_damaged_payload_changes_only_byte_69(self):
+        six = bytes.fromhex("010203040506")
+        frame = wire.write(wire.WRCFGB, wire.payload(six), wire.damaged(wire.payload(six)), wire.payload(six))
+        changes = {6: six, COUNTER: b"\x06\x00", 70 + UNLOCKED: b"\x00", 146: six, 140 + COUNTER: b"\x06\x00"}
+        self.changes(filled(3, unlocked=1), frame, changes, 2)
+
+    def test_payload_is_checked_over_the_counter_bits_sent(self):
+        six = bytes.fromhex("010203040506")
+        self.changes(filled(1), wire.write(wire.WRCFGB, wire.payload(six, 42)), {6: six, COUNTER: b"\x06"}, 1)
+
+    def test_configuration_a_is_masked(self):
+        table = edited(filled(1), {0: bytes.fromhex("FFFFFFFFFF3F")})
+        self.changes(table, wire.write(wire.WRCFGA, wire.payload(b"\xff" * 6)), {0: bytes.fromhex("87FFF8FF033F"), COUNTER: b"\x06"}, 1)
+        self.changes(table, wire.write(wire.WRCFGA, wire.payload(bytes(6))), {0: bytes.fromhex("000000000030"), COUNTER: b"\x06"}, 1)
+
+    def test_flags_are_cleared_where_1_is_sent(self):
+        table = edited(filled(1), {44: b"\xff" * 12})
+        self.changes(table, wire.write(wire.CLOVUV, wire.payload(bytes.fromhex("01020380FFFF"))),
+                     {STATUS_D: bytes.fromhex("FEFDFC7FFFFF"), COUNTER: b"\x06"}, 1)
+        self.changes(table, wire.write(wire.CLRFLAG, wire.payload(bytes.fromhex("0102FFFF04FF"))),
+                     {44: bytes.fromhex("FEFDFFFFFB20"), COUNTER: b"\x06"}, 1)
+
+    def test_retention(self):
+        six = bytes.fromhex("A1A2A3A4A5A6")
+        frame = wire.write(wire.WRRR, wire.payload(six))
+        self.changes(filled(1), frame, {COUNTER: b"\x06"}, 1)
+        self.changes(filled(1), wire.command_bytes(wire.ULRR), {COUNTER: b"\x06\x01"}, 1)
+        self.changes(filled(1, unlocked=1), frame, {56: six, COUNTER: b"\x06\x00"}, 1)
+        table = filled(1, unlocked=1)
+        self.assert_answer(osk_frame(table, wire.read(wire.RDRR, 1), bytearray(8)), 1, 8)
+        self.assertEqual(table, filled(1), "a read locks too")
+
+    def test_bare_commands(self):
+        unmuted, muted = (edited(filled(1, counter=63), {5: byte}) for byte in (b"\xcf", b"\xdf"))
+        self.changes(unmuted, wire.command_bytes(wire.MUTE), {5: b"\xdf", COUNTER: b"\x01"}, 1)
+        self.changes(muted, wire.command_bytes(wire.UNMUTE), {5: b"\xcf", COUNTER: b"\x01"}, 1)
+        self.changes(filled(1), wire.command_bytes(wire.CLRCELL), {12: b"\x00\x80" * 16, COUNTER: b"\x06"}, 1)
+        self.changes(filled(2), wire.command_bytes(wire.RSTCC), {COUNTER: b"\x00", 70 + COUNTER: b"\x00"}, 2)
+
+    def test_refusals_in_their_order(self):
+        write = wire.write(wire.WRCFGB, wire.payload(bytes(6)))
+        for name, table in UNSOUND.items():
+            with self.subTest(table=name):
+                for frame in wire.read(wire.RDCFGA, 1), b"":
+                    self.keeps(table, frame, 300, OSK_TABLE_NOT_SOUND)
+        table = filled(1)
+        for length in range(4):
+            self.keeps(table, WRONG_COMMAND[:length], 8, OSK_FRAME_SHORT)
+        self.keeps(table, WRONG_COMMAND, 0, OSK_COMMAND_WRONG)
+        self.keeps(table, UNLISTED[:3] + bytes([UNLISTED[3] ^ 2]), 0, OSK_COMMAND_WRONG)
+        self.keeps(table, UNLISTED, 0, OSK_CODE_NOT_LISTED)
+        for frame in bytes.fromhex("00013D6E"), write[:-1], write + b"\x00", wire.command_bytes(wire.MUTE) + b"\x00":
+            self.keeps(table, frame, 8, OSK_LENGTH_WRONG)
+        self.keeps(table, wire.read(wire.RDCFGA, 2), 0, OSK_LENGTH_WRONG)
+        for room in 0, 7:
+            self.keeps(table, wire.read(wire.RDCFGA, 1), room, OSK_NO_ROOM)
+        self.assert_answer(osk_frame(bytearray(table), write, bytearray()), 1, 0)
+
+
+class Loads(Case):
+    def flags(self, lower_and_upper, code, cell=1, before=bytes(6)):
+        """Status D of monitor 2 after a load that gives one cell the code and the others one between the thresholds."""
+        table = edited(bytearray(140), {76: bytes.fromhex(lower_and_upper), 70 + STATUS_D: before})
+        codes = [0] * 16
+        codes[cell - 1] = code
+        lent = bytearray(table)
+        self.assert_answer(osk_load(lent, 2, codes), 0, 0)
+        stored = b"".join(each.to_bytes(2, "little", signed=True) for each in codes)
+        self.assertEqual(lent, edited(table, {82: stored, 70 + STATUS_D: lent[120:126]}))
+        return lent[120:126].hex()
+
+    def test_thresholds(self):
+        self.assertEqual(self.flags("004006", 1600), "000000000000")  # VUV 0, VOV 100
+        self.assertEqual(self.flags("004006", 1601), "020000000000")
+        self.assertEqual(self.flags("FF0F00", -16), "000000000000")  # VUV -1, VOV 0
+        self.assertEqual(self.flags("FF0F00", -17), "010000000000")
+        self.assertEqual(self.flags("004806", -32767), "000000000000")  # VUV -2048 is the code -32768, VOV 100
+        self.assertEqual(self.flags("004806", 32767), "020000000000")
+
+    def test_every_cell_has_its_own_two_bits(self):
+        for cell in range(1, 17):
+            for code, place in (-17, 0), (1, 1):
+                bit = 8 * ((cell - 1) // 4) + 2 * ((cell - 1) % 4) + place
+                self.assertEqual(self.flags("FF0F00", code, cell), (1 << bit).to_bytes(6, "little").hex())
+
+    def test_flags_are_only_set(self):
+        self.assertEqual(self.flags("004006", 0, before=b"\xff" * 6), "ff" * 6)
+        self.assertEqual(self.flags("0140FF", 0), "ffffffff0000")  # VUV 1 above VOV -12: every cell, both flags
+
+    def test_refusals_in_their_order(self):
+        codes = list(range(16))
+        cleared = codes[:15] + [-32768]
+        for name, table in UNSOUND.items():
+            with self.subTest(table=name):
+                lent = bytearray(table)
+                self.assert_refused(osk_load(lent, 0, []), OSK_TABLE_NOT_SOUND)
+                self.assertEqual(lent, table)
+        for position in 0, 3, 33, PAST_32_BITS, (1 << 64) - 1:
+            self.keeps(position, [], OSK_POSITION_WRONG)
+        for wrong in [], codes[:15], codes + [0], [-32768] * 17:
+            self.keeps(2, wrong, OSK_COUNT_WRONG)
+        self.keeps(1, cleared, OSK_CODE_CLEARED)
+
+    def keeps(self, position, codes, number):
+        lent = filled(2)
+        self.assert_refused(osk_load(lent, position, codes), number)
+        self.assertEqual(lent, filled(2))
+
+
+class Host(Case):
+    def builds(self, command, monitors, values, frame):
+        out = bytearray([CANARY]) * (len(frame) + 3)
+        self.assert_answer(osk_host_frame(command, monitors, values, out), 0, len(frame))
+        self.assertEqual(out, frame + bytes([CANARY]) * 3)
+        exact = bytearray(len(frame))
+        self.assert_answer(osk_host_frame(command, monitors, values, exact), 0, len(frame))
+        self.assertEqual(exact, frame)
+        self.keeps(command, monitors, values, len(frame) - 1, OSK_NO_ROOM)
+
+    def keeps(self, command, monitors, values, room, number):
+        out = bytearray([CANARY]) * room
+        self.assert_refused(osk_host_frame(command, monitors, values, out), number)
+        self.assertEqual(out, bytearray([CANARY]) * room)
+
+    def test_frames(self):
+        self.builds(wire.WRCFGA, 1, bytes(6), bytes.fromhex("00013D6E 00000000000003E3"))
+        near, far = bytes.fromhex("715246000000"), bytes.fromhex("F4813E123456")
+        for command in wire.WRCFGA, wire.WRCFGB, wire.WRRR, wire.CLRFLAG, wire.CLOVUV:
+            self.builds(command, 2, near + far, wire.command_bytes(command) + wire.payload(far) + wire.payload(near))
+        for command in (wire.RDCFGA, wire.RDCFGB, wire.RDCVA, wire.RDCVB, wire.RDCVC, wire.RDCVD, wire.RDCVE, wire.RDCVF, wire.RDSTATC,
+                        wire.RDSTATD, wire.RDSID, wire.RDRR):
+            self.builds(command, 32, b"", wire.command_bytes(command) + b"\xff" * 256)
+        for command in wire.MUTE, wire.UNMUTE, wire.RSTCC, wire.ULRR, wire.CLRCELL:
+            self.builds(command, 32, b"", wire.command_bytes(command))
+
+    def test_refusals_in_their_order(self):
+        for command in 0x0000, 0x0003, 0x2400, 0xFFFF:
+            self.keeps(command, 0, b"x", 0, OSK_CODE_NOT_LISTED)
+        for monitors in 0, 33, PAST_32_BITS, (1 << 64) - 1:
+            self.keeps(wire.WRCFGB, monitors, b"x", 0, OSK_POSITION_WRONG)
+        for values in b"", bytes(11), bytes(13):
+            self.keeps(wire.WRCFGB, 2, values, 0, OSK_COUNT_WRONG)
+        for command in wire.RDCFGA, wire.MUTE:
+            self.keeps(command, 1, bytes(6), 0, OSK_COUNT_WRONG)
+
+    def test_check(self):
+        right = wire.payload(bytes.fromhex("A1A2A3A4A5A6"), 17)
+        self.assert_answer(osk_check(right), OSK_RIGHT, 0)
+        self.assert_answer(osk_check(bytes.fromhex("00000000000003E3")), OSK_RIGHT, 0)
+        for bit in range(64):
+            self.assert_answer(osk_check((int.from_bytes(right, "big") ^ 1 << bit).to_bytes(8, "big")), OSK_DAMAGED, 0)
+        for length in 0, 7, 9, 16:
+            self.assert_refused(osk_check((right * 2)[:length]), OSK_LENGTH_WRONG)
+
+    def test_two_ports(self):
+        right = [wire.payload(bytes([number] * 6), number) for number in (1, 2, 3)]
+        wrong = [wire.damaged(each) for each in right]
+        for position in 1, 2, 3:
+            mixed_a = right[:position - 1] + wrong[position - 1:position] + right[position:]
+            mixed_b = right[2:position - 1:-1] + wrong[position - 1:position] + right[:position - 1][::-1]
+            a, b, good_b = b"".join(mixed_a), b"".join(mixed_b), b"".join(reversed(right))
+            self.assert_answer(osk_two_ports(b"".join(right), b, 3, position), OSK_PORT_A, 8 * (position - 1))
+            self.assert_answer(osk_two_ports(b"".join(right), good_b, 3, position), OSK_PORT_A, 8 * (position - 1))
+            self.assert_answer(osk_two_ports(a, good_b, 3, position), OSK_PORT_B, 8 * (3 - position))
+            self.assert_refused(osk_two_ports(a, b, 3, position), OSK_NEITHER_RIGHT)
+
+    def test_two_ports_refusals_in_their_order(self):
+        wrong = wire.damaged(wire.payload(bytes(6))) * 2
+        for monitors, position in (0, 1), (33, 1), (2, 0), (2, 3), (PAST_32_BITS, 1), (2, PAST_32_BITS), (2, (1 << 64) - 1):
+            self.assert_refused(osk_two_ports(b"", b"", monitors, position), OSK_POSITION_WRONG)
+        for a, b in (wrong[:15], wrong), (wrong, wrong[:15]), (b"", wrong), (wrong, wrong + b"x"):
+            self.assert_refused(osk_two_ports(a, b, 2, 1), OSK_LENGTH_WRONG)
+        self.assert_refused(osk_two_ports(wrong, wrong, 2, 2), OSK_NEITHER_RIGHT)
+
+
+class Clock(Case):
+    def window(self, state, position):
+        out = bytearray([CANARY]) * 11
+        answer = osk_clock_window(state, position, out)
+        self.assertEqual((answer.number, answer.first), (OSK_ACCEPTED, 0))
+        self.assertEqual(out[answer.second:], bytearray([CANARY]) * (11 - answer.second))
+        return bytes(out[:answer.second])
+
+    def keeps(self, state, table, number):
+        lent = bytearray(table)
+        self.assert_refused(osk_clock_release(state, lent), number)
+        self.assertEqual(lent, table)
+
+    def test_write(self):
+        near, far = wire.payload(bytes.fromhex("715246000000")), wire.payload(bytes.fromhex("F4813E123456"))
+        frame, table, state = wire.write(wire.WRCFGB, near, far), filled(2, unlocked=1), started()
+        for count, byte in enumerate(frame, 1):
+            self.assert_answer(osk_clock_byte(state, bytes(table), byte), 0xFF, 0)
+            if count >= 4:
+                self.assertEqual(self.window(state, 1), frame[4:count][-8:])
+                self.assertEqual(self.window(state, 2), frame[4:count][:-8][-8:])
+        self.assertEqual(table, filled(2, unlocked=1), "the table changes only at release")
+        self.assert_answer(osk_clock_release(state, table), 2, 0)
+        self.assertEqual(table, edited(filled(2), {6: near[:6], COUNTER: b"\x06", 76: far[:6], 70 + COUNTER: b"\x06"}))
+        self.keeps(state, table, OSK_FRAME_SHORT)
+
+    def test_damaged_payload(self):
+        six = bytes.fromhex("010203040506")
+        state, table = started(), filled(2)
+        clocked(state, table, wire.write(wire.WRCFGB, wire.damaged(wire.payload(six)), wire.payload(six)))
+        self.assert_answer(osk_clock_release(state, table), 1, 0)
+        self.assertEqual(table, edited(filled(2), {76: six, 70 + COUNTER: b"\x06"}))
+
+    def test_read(self):
+        state, table = started(), filled(2, unlocked=1)
+        replies = wire.payload(table[62:68], 5) + wire.payload(table[132:138], 5)
+        past = replies + b"\xff" * 16
+        frame = wire.read(wire.RDSID, 2, filler=0x5A)
+        self.assertEqual(clocked(state, table, frame[:4]), b"\xff" * 4)
+        for count in range(17):
+            self.assertEqual(self.window(state, 1), past[count:count + 8])
+            self.assertEqual(self.window(state, 2), past[count + 8:count + 16])
+            if count < 16:
+                self.assert_answer(osk_clock_byte(state, table, frame[4 + count]), replies[count], 0)
+        self.assert_answer(osk_clock_release(state, table), 2, 16)
+        self.assertEqual(table, filled(2))
+
+    def test_bare(self):
+        state, table = started(), filled(32)
+        self.assertEqual(clocked(state, table, wire.command_bytes(wire.RSTCC)), b"\xff" * 4)
+        self.assertEqual(self.window(state, 32), b"")
+        self.assert_answer(osk_clock_release(state, table), 32, 0)
+        self.assertEqual(table, filled(32, counter=0))
+
+    def test_window_refusals_in_their_order(self):
+        state, table, out = started(), filled(2), bytearray([CANARY]) * 8
+        for byte in wire.write(wire.WRCFGB)[:3]:
+            osk_clock_byte(state, table, byte)
+            self.assert_refused(osk_clock_window(state, 1, out), OSK_POSITION_WRONG)
+        osk_clock_byte(state, table, wire.write(wire.WRCFGB)[3])
+        self.assert_answer(osk_clock_window(state, 1, bytearray()), 0, 0)
+        clocked(state, table, bytes(9))
+        for position in 0, 3, PAST_32_BITS, (1 << 64) - 1:
+            self.assert_refused(osk_clock_window(state, position, bytearray()), OSK_POSITION_WRONG)
+        short = bytearray([CANARY]) * 7
+        self.assert_refused(osk_clock_window(bytes(state), 1, short), OSK_NO_ROOM)
+        self.assertEqual(short, bytearray([CANARY]) * 7)
+        self.assertEqual(out, bytearray([CANARY]) * 8)
+        self.assert_answer(osk_clock_window(bytes(state), 2, short), 0, 1)
+        self.assertEqual(short, b"\x00" + bytes([CANARY]) * 6)
+
+    def test_release_refusals_in_their_order(self):
+        write = wire.write(wire.WRCFGB, wire.payload(bytes(6)), wire.payload(bytes(6)))
+        state, table = started(), filled(2)
+        for frame, number in ((b"", OSK_FRAME_SHORT), (WRONG_COMMAND[:3], OSK_FRAME_SHORT), (WRONG_COMMAND, OSK_COMMAND_WRONG),
+                              (UNLISTED, OSK_CODE_NOT_LISTED), (UNLISTED + bytes(16), OSK_CODE_NOT_LISTED), (write[:-1], OSK_LENGTH_WRONG),
+                              (write + b"\x00", OSK_LENGTH_WRONG), (wire.read(wire.RDSID, 1), OSK_LENGTH_WRONG)):
+            with self.subTest(frame=frame.hex()):
+                clocked(state, table, frame)
+                for name, unsound in UNSOUND.items():
+                    self.keeps(bytearray(state), unsound, OSK_TABLE_NOT_SOUND)
+                self.keeps(state, table, number)
+        self.assertEqual(clocked(state, table, write), b"\xff" * 20)
+        self.assert_answer(osk_clock_release(state, table), 2, 0)
+
+    def test_table_of_byte_four(self):
+        write = wire.write(wire.WRCFGB, wire.payload(bytes(6)))
+        for with_byte_four in (filled(2), *UNSOUND.values()):
+            state = started()
+            clocked(state, filled(1), write[:3])
+            clocked(state, with_byte_four, write[3:4])
+            clocked(state, filled(1), write[4:])
+            self.keeps(state, filled(1), OSK_TABLE_NOT_SOUND)
+        state, table = started(), filled(1)
+        clocked(state, filled(2), write[:3])
+        clocked(state, table, write[3:4])
+        clocked(state, b"", write[4:])
+        self.assert_answer(osk_clock_release(state, table), 1, 0)
+
+    def test_start_takes_any_bytes_and_gives_up_a_frame(self):
+        write = wire.write(wire.WRCFGB, wire.payload(bytes(6)))
+        for state in bytearray(b"\xff" * OSK_CLOCK_STATE), bytearray(filled(4)[:OSK_CLOCK_STATE]):
+            for given_up in range(len(write) + 1):
+                self.assertIsNone(osk_clock_start(state))
+                clocked(state, filled(1), write[:given_up])
+            self.assertIsNone(osk_clock_start(state))
+            table = filled(1)
+            clocked(state, table, write)
+            self.assert_answer(osk_clock_release(state, table), 1, 0)
+            self.assertEqual(table, edited(filled(1), {6: bytes(6), COUNTER: b"\x06"}))
+
+    def test_two_clocks_in_turn(self):
+        six = bytes.fromhex("010203040506")
+        write, read = wire.write(wire.WRCFGB, wire.payload(six), wire.payload(six)), wire.read(wire.RDSID, 3)
+        states, tables = (started(), started()), (filled(2), filled(3, counter=9))
+        answered = bytearray()
+        for at in range(len(read)):
+            if at < len(write):
+                self.assert_answer(osk_clock_byte(states[0], tables[0], write[at]), 0xFF, 0)
+            answered += clocked(states[1], tables[1], read[at:at + 1])
+        self.assert_answer(osk_clock_release(states[0], tables[0]), 2, 0)
+        self.assert_answer(osk_clock_release(states[1], tables[1]), 3, 24)
+        self.assertEqual(tables[0], edited(filled(2), {6: six, COUNTER: b"\x06", 76: six, 70 + COUNTER: b"\x06"}))
+        self.assertEqual(answered[4:], b"".join(wire.payload(tables[1][at + 62:at + 68], 9) for at in (0, 70, 140)))
+
+
+class Readings(Case):
+    def test_microvolts(self):
+        for code, microvolts in (0, 1_500_000), (1, 1_500_150), (-10000, 0), (32767, 6_415_050), (-32767, -3_415_050):
+            self.assertEqual(osk_microvolts(code), microvolts)
+        self.assertEqual(osk_microvolts(-32768), 1_500_000 - 150 * 32768)
+
+    def test_volts(self):
+        for code, volts in (0, 1.5), (-10000, 0.0), (32767, 6.41505), (-32767, -3.41505), (12345, 3.35175):
+            self.assertEqual(osk_volts(code), volts)
+        self.assertTrue(math.isnan(osk_volts(-32768)))
+
+    def test_summary(self):
+        for codes, expected in (
+            ([0, 2, 1], [1.5, 1.5003, 4.50045]),  # three doubles added up would give 4.500450000000001
+            ([-32768, 32767, -32768, -32767], [-3.41505, 6.41505, 3.0]),
+            ([-10000], [0.0, 0.0, 0.0]),
+            ([32767] * 512, [6.41505, 6.41505, 3284.5056]),
+        ):
+            out = array.array("d", [-1.0] * 5)
+            self.assert_answer(osk_summary(codes, out), 1, sum(code != -32768 for code in codes))
+            self.assertEqual(out.tolist(), expected + [-1.0, -1.0])
+
+    def test_no_summary(self):
+        out = array.array("d", [-1.0] * 3)
+        self.assert_answer(osk_summary([-32768] * 512, out), 0, 0)
+        self.assertEqual(out.tolist(), [-1.0] * 3)
+
+    def test_summary_refusals_in_their_order(self):
+        for codes, room, number in (([], 0, OSK_COUNT_WRONG), ([], 3, OSK_COUNT_WRONG), ([0] * 513, 2, OSK_COUNT_WRONG),
+                                    ([0], 2, OSK_NO_ROOM), ([0], 0, OSK_NO_ROOM), ([-32768], 2, OSK_NO_ROOM)):
+            out = array.array("d", [-1.0] * room)
+            self.assert_refused(osk_summary(codes, out), number)
+            self.assertEqual(out.tolist(), [-1.0] * room)
+
+
+if __name__ == "__main__":
+    unittest.main()
