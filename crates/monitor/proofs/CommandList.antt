@@ -1,36 +1,32 @@
--- Going along the list of commands: a row that has the code ends the search, any other goes on with the rows after it.
+-- The list of commands, held against a `match` on the code: a code that is a row's is the command that the list computes to, and a
+-- code that the `match` has passed in every arm is in no row. And the length of a frame, by the number of monitors.
 -- Assumes nothing.
 use mathlib.Core.Path.{_≡_, refl, sym, ap, _∙_}
 use mathlib.Core.Bool.{Bool, cond}
 use mathlib.Core.List.{List, [], _∷_}
-use Prim.Native.Nat.{ℕ, suc, _+_, _≤_, _<_}
-use native.Mathlib.Numerals.{add-one}
-use lib.Dec.{eqb, leb}
-use lib.ListN.{length, getD, drop, drop-of-length-le}
-use lib.Seq.{drop-cons}
-use borrow.Author.Tests.{eq-eqb, ne-eqb, le-leb, lt-leb}
+use Prim.Native.Nat.{ℕ, _≤_, _<_}
+use lib.Dec.{leb}
+use borrow.Author.Tests.{ne-eqb, le-leb, lt-leb}
 use Rattle.monitor.specs.declared.commands.Command.{Command}
 use Rattle.monitor.specs.declared.commands.Command.the-variants.{Unlisted}
-use Rattle.monitor.specs.declared.commands.Row.{Row}
-use Rattle.monitor.specs.Commands.{commandOf, mostMonitors, frameLength}
+use Rattle.monitor.specs.Commands.{Row, commands, commandOf, mostMonitors, frameLength}
 
-module _ (code : ℕ) (rows : List Row) (i : ℕ) (d : Row) where
-  -- the row at i comes next
-  here : i < length rows → commandOf code (drop i rows)
-      ≡ cond (eqb (getD rows i d .code) code) (getD rows i d .command) (commandOf code (drop (i + 1) rows))
-  unfolding commandOf
-  here h = ap (commandOf code) (drop-cons rows i d h ∙ ap (λ (n : ℕ). getD rows i d ∷ drop n rows) (sym (add-one i)))
+pub in-row : {code its : ℕ} → code ≡ its → commandOf its commands ≡ commandOf code commands
+in-row e = sym (ap (λ (k : ℕ). commandOf k commands) e)
 
-  pub row-found : i < length rows → getD rows i d .code ≡ code → commandOf code (drop i rows) ≡ getD rows i d .command
-  row-found h e = here h ∙ ap (λ (b : Bool). cond b (getD rows i d .command) (commandOf code (drop (i + 1) rows))) (eq-eqb (getD rows i d .code) code e)
+-- the code is none of the rows', as the last arm of a `match` with an arm a row knows it; N is what was known before
+abbrev pub Passed : ℕ → List Row → Type 0 → Type 0
+Passed code [] N = N
+Passed code (row ∷ rows) N = Passed code rows (N × (code ≡ row .code → ⊥))
 
-  pub row-passed : i < length rows → (getD rows i d .code ≡ code → ⊥) → commandOf code (drop (i + 1) rows) ≡ commandOf code (drop i rows)
-  row-passed h e =
-      sym (here h ∙ ap (λ (b : Bool). cond b (getD rows i d .command) (commandOf code (drop (i + 1) rows))) (ne-eqb (getD rows i d .code) code e))
-
-pub no-row : (code : ℕ) (rows : List Row) (i : ℕ) → length rows ≤ i → commandOf code (drop i rows) ≡ Unlisted
+pub in-no-row : (code : ℕ) (rows : List Row) (N : Type 0) → Passed code rows N → N × (commandOf code rows ≡ Unlisted)
 unfolding commandOf
-no-row code rows i h = ap (commandOf code) (drop-of-length-le rows h)
+in-no-row code [] N p = (p, refl)
+in-no-row code (row ∷ rows) N p =
+    let later = in-no-row code rows (N × (code ≡ row .code → ⊥)) p in (
+      later .0 .0,
+      ap (λ (b : Bool). cond b (row .command) (commandOf code rows)) (ne-eqb (row .code) code (λ e. later .0 .1 (sym e))) ∙ later .1,
+    )
 
 -- ---- the length of a frame, by the number of monitors
 

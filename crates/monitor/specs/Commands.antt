@@ -8,7 +8,6 @@ use Rattle.monitor.specs.declared.commands.Write.the-variants.{Wrcfga, W
 use Rattle.monitor.specs.declared.commands.Bare.the-variants.{Mute, Unmute, Rstcc, Ulrr, Clrcell}
 use Rattle.monitor.specs.declared.commands.Command.{Command}
 use Rattle.monitor.specs.declared.commands.Command.the-variants.{Reads, Writes, Bares, Unlisted}
-use Rattle.monitor.specs.declared.commands.Row.{Row}
 use Rattle.monitor.specs.declared.record.Part.{Part}
 use Rattle.monitor.specs.Record.{configurationA, configurationB, threeCells, cell16, statusC, statusD, serialId, retention}
 
@@ -48,6 +47,11 @@ rdsid = serialId
 
 abbrev pub rdrr : Part
 rdrr = retention
+
+-- a code, and the command that it stands for
+pub record Row : Type 0 where
+  pub code : ℕ
+  pub command : Command
 
 abbrev row : ℕ → Command → Row
 row code command = record { code = code; command = command }

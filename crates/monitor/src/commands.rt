@@ -42,119 +42,35 @@ pub enum Command {
     Unlisted,
 }
 
-pub struct Row {
-    pub code: u16,
-    pub command: Command,
-}
-
-const ROW_COUNT: usize = 22;
-
-const ROWS: [Row; ROW_COUNT] = [
-    Row {
-        code: 0x0002,
-        command: Command::Reads(RDCFGA),
-    },
-    Row {
-        code: 0x0026,
-        command: Command::Reads(RDCFGB),
-    },
-    Row {
-        code: 0x0004,
-        command: Command::Reads(RDCVA),
-    },
-    Row {
-        code: 0x0006,
-        command: Command::Reads(RDCVB),
-    },
-    Row {
-        code: 0x0008,
-        command: Command::Reads(RDCVC),
-    },
-    Row {
-        code: 0x000a,
-        command: Command::Reads(RDCVD),
-    },
-    Row {
-        code: 0x0009,
-        command: Command::Reads(RDCVE),
-    },
-    Row {
-        code: 0x000b,
-        command: Command::Reads(RDCVF),
-    },
-    Row {
-        code: 0x0032,
-        command: Command::Reads(RDSTATC),
-    },
-    Row {
-        code: 0x0033,
-        command: Command::Reads(RDSTATD),
-    },
-    Row {
-        code: 0x002c,
-        command: Command::Reads(RDSID),
-    },
-    Row {
-        code: 0x003a,
-        command: Command::Reads(RDRR),
-    },
-    Row {
-        code: 0x0001,
-        command: Command::Writes(Write::Wrcfga),
-    },
-    Row {
-        code: 0x0024,
-        command: Command::Writes(Write::Wrcfgb),
-    },
-    Row {
-        code: 0x0039,
-        command: Command::Writes(Write::Wrrr),
-    },
-    Row {
-        code: 0x0717,
-        command: Command::Writes(Write::Clrflag),
-    },
-    Row {
-        code: 0x0715,
-        command: Command::Writes(Write::Clovuv),
-    },
-    Row {
-        code: 0x0028,
-        command: Command::Bares(Bare::Mute),
-    },
-    Row {
-        code: 0x0029,
-        command: Command::Bares(Bare::Unmute),
-    },
-    Row {
-        code: 0x002e,
-        command: Command::Bares(Bare::Rstcc),
-    },
-    Row {
-        code: 0x0038,
-        command: Command::Bares(Bare::Ulrr),
-    },
-    Row {
-        code: 0x0711,
-        command: Command::Bares(Bare::Clrcell),
-    },
-];
-
 // The command that a code stands for.
 pub fn command_of(code: u16) -> Command
     ensures { λ r. ⌜ r ≡ commandOf code commands ⌝ }
 {
-    let rows = ROWS;
-    let mut i = 0;
-    while i < ROW_COUNT {
-        let row = rows[i];
-        let its = row.code;
-        if its == code {
-            return row.command;
-        }
-        i += 1;
+    match code {
+        0x0002 => Command::Reads(RDCFGA),
+        0x0026 => Command::Reads(RDCFGB),
+        0x0004 => Command::Reads(RDCVA),
+        0x0006 => Command::Reads(RDCVB),
+        0x0008 => Command::Reads(RDCVC),
+        0x000a => Command::Reads(RDCVD),
+        0x0009 => Command::Reads(RDCVE),
+        0x000b => Command::Reads(RDCVF),
+        0x0032 => Command::Reads(RDSTATC),
+        0x0033 => Command::Reads(RDSTATD),
+        0x002c => Command::Reads(RDSID),
+        0x003a => Command::Reads(RDRR),
+        0x0001 => Command::Writes(Write::Wrcfga),
+        0x0024 => Command::Writes(Write::Wrcfgb),
+        0x0039 => Command::Writes(Write::Wrrr),
+        0x0717 => Command::Writes(Write::Clrflag),
+        0x0715 => Command::Writes(Write::Clovuv),
+        0x0028 => Command::Bares(Bare::Mute),
+        0x0029 => Command::Bares(Bare::Unmute),
+        0x002e => Command::Bares(Bare::Rstcc),
+        0x0038 => Command::Bares(Bare::Ulrr),
+        0x0711 => Command::Bares(Bare::Clrcell),
+        _ => Command::Unlisted,
     }
-    Command::Unlisted
 }
 
 pub fn is_listed(command: Command) -> bool
