@@ -1,14 +1,18 @@
--- A byte that a register shows: the record's, where the part and the slice reach, and FF past either end.
+-- A byte that a register shows: the record's, where the part and the slice reach, and FF past either end. And the six of a
+-- register whose part and slice reach that far.
 -- Assumes nothing.
-use mathlib.Core.Path.{_≡_, sym, _∙_}
-use mathlib.Core.List.{List}
+use mathlib.Core.Path.{_≡_, sym, ap, _∙_}
+use mathlib.Core.List.{List, [], _∷_}
 use Prim.Native.Nat.{ℕ, _+_, _-_, _≤_, _<_}
 use native.Mathlib.Omega.{arith}
+use lib.Dec.{lit<}
 use lib.ListN.{length, length-take, length-drop, take, drop, getD, List·getD-eq-default}
 use lib.Seq.{getD-take, getD-drop}
+use Rattle.laws.specs.Tables.{tabulate}
 use Rattle.laws.proofs.Lists.{getD-any}
 use Rattle.monitor.specs.declared.record.Part.{Part}
 use Rattle.monitor.specs.Record.{bytesOf}
+use Rattle.monitor.specs.Reply.{register}
 
 module _ (part : Part) (r : List ℕ) (i : ℕ) where
   pub shows : i < part .size → part .at + i < length r → getD r (part .at + i) 0 ≡ getD (bytesOf part r) i 0xFF
@@ -25,3 +29,25 @@ module _ (part : Part) (r : List ℕ) (i : ℕ) where
   pub past-slice : length r - part .at ≤ i → length (bytesOf part r) ≤ i
   unfolding bytesOf
   past-slice h = omega (arith, length-take (part .size) (drop (part .at) r), length-drop (part .at) r)
+
+-- where the part has six bytes and the slice has all of them
+pub shows-whole : (part : Part) (r : List ℕ) → 6 ≤ part .size → part .at + 6 ≤ length r
+    → getD r (part .at) 0
+    ∷ getD r (part .at + 1) 0
+    ∷ getD r (part .at + 2) 0
+    ∷ getD r (part .at + 3) 0
+    ∷ getD r (part .at + 4) 0
+    ∷ getD r (part .at + 5) 0
+    ∷ []
+    ≡ register part r
+unfolding register tabulate
+shows-whole part r h k =
+    let one : (i : ℕ) → i < 6 → getD r (part .at + i) 0 ≡ getD (bytesOf part r) i 0xFF = λ i b. shows part r i (omega arith) (omega arith) in
+    let here : part .at ≡ part .at + 0 = omega arith in
+    λ j. (ap (λ (place : ℕ). getD r place 0) here ∙ one 0 (lit< tt)) j
+    ∷ one 1 (lit< tt) j
+    ∷ one 2 (lit< tt) j
+    ∷ one 3 (lit< tt) j
+    ∷ one 4 (lit< tt) j
+    ∷ one 5 (lit< tt) j
+    ∷ []
