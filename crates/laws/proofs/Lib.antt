@@ -1,6 +1,7 @@
 pub mod Xor
 pub mod Bits
 pub mod Numbers
+pub mod Tests
 pub mod Shifts
 pub mod Tables
 pub mod Lists

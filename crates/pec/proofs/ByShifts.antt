@@ -12,10 +12,9 @@ use lib.ListN.{getD}
 use Rattle.laws.specs.Bits.{_⊕_, bitsOf}
 use Rattle.laws.specs.Tables.{tabulate}
 use Rattle.laws.proofs.Tables.{at-each}
-use Rattle.laws.proofs.Xor.{zero-xor, xor-zero, xor-same, xor-comm, xor-div, xor-rem, xor-middle, xor-blocks, xor-shift}
+use Rattle.laws.proofs.Xor.{zero-xor, xor-zero, xor-same, xor-div, xor-rem, xor-middle, xor-blocks, xor-shift}
 use Rattle.pec.specs.Remainder.{remainder}
 use Rattle.pec.proofs.Remainder.{remainder-bits-linear}
-use Rattle.pec.proofs.ManyBits.{added}
 
 -- ---- linear functions
 
@@ -119,13 +118,9 @@ module _ (w g k : ℕ) (factors : List (List ℕ)) (terms : List ℕ) where
   unfoldable pub rule : List ℕ
   rule = tabulate (λ (j : ℕ). remainder w g 0 (bitsOf k (2 ^ j))) 0 k
 
-  pub by-shifts : (r : ℕ) → formula ≡ rule → {x : ℕ} → x < 2 ^ k
-      → byShifts w factors terms x ⊕ remainder w g r (bitsOf k 0) ≡ remainder w g r (bitsOf k x)
+  pub by-shifts : formula ≡ rule → {x : ℕ} → x < 2 ^ k → byShifts w factors terms x ≡ remainder w g 0 (bitsOf k x)
   unfolding formula rule byShifts
-  by-shifts r e {x} h =
-      ap (λ (n : ℕ). n ⊕ remainder w g r (bitsOf k 0)) (agree shifts rest k at h)
-      ∙ xor-comm (remainder w g 0 (bitsOf k x)) (remainder w g r (bitsOf k 0))
-      ∙ sym (added w g r k x)
+  by-shifts e h = agree shifts rest k at h
     where
       shifts : Linear (byShifts w factors terms)
       shifts = then-linear (times-linear factors) (left-linear w terms)

@@ -2,30 +2,25 @@
 -- the width. The entry for a number of k bits is the remainder of those k bits, since zeros in front of them leave 0.
 -- Assumes nothing.
 use mathlib.Core.Path.{_≡_, refl, sym, ap, ap₂, _∙_}
-use mathlib.Core.Bool.{Bool, false}
 use mathlib.Core.List.{List, [], _∷_, _++_}
 use Prim.Native.Nat.{ℕ, zero, suc, _+_, _-_, _*_, _/_, _%_, _^_, _≤_, _<_}
 use native.Mathlib.Nat.{lt-of-lt-of-le}
 use native.Mathlib.Omega.{arith}
-use lib.ListN.{getD, replicate}
+use lib.ListN.{getD}
 use lib.Pow.{pow-pos, pow-mono}
 use Rattle.laws.specs.Bits.{_⊕_, bitsOf, bitsOfBytes}
 use Rattle.laws.proofs.Xor.{xor-below}
-use Rattle.laws.proofs.Bits.{bits-zeros}
 use Rattle.laws.proofs.Tables.{at-each}
 use Rattle.pec.specs.Remainder.{remainder}
 use Rattle.pec.specs.ByTable.{entry, tableOf, tableStep, byTable}
 use Rattle.pec.proofs.Remainder.{remainder-append, remainder-below}
-use Rattle.pec.proofs.ManyBits.{remainder-of-zeros, over-below, many-bits}
+use Rattle.pec.proofs.ManyBits.{zeros-first, over-below, many-bits}
 
 pub entry-of-bits : (w g k : ℕ) {x : ℕ} → k ≤ 8 → x < 2 ^ k → entry w g x ≡ remainder w g 0 (bitsOf k x)
 unfolding entry
 entry-of-bits w g k {x} hk hx =
     let apart : (8 - k) + k ≡ 8 = omega arith in
-    ap (λ (n : ℕ). remainder w g 0 (bitsOf n x)) (sym apart)
-    ∙ ap (remainder w g 0) (bits-zeros (8 - k) k hx)
-    ∙ remainder-append w g 0 (replicate (8 - k) false) (bitsOf k x)
-    ∙ ap (λ (r : ℕ). remainder w g r (bitsOf k x)) (remainder-of-zeros w g (8 - k))
+    ap (λ (n : ℕ). remainder w g 0 (bitsOf n x)) (sym apart) ∙ zeros-first w g (8 - k) k hx
 
 -- the index of a step of k bits is a number of k bits
 pub index-below : (w k : ℕ) {r x : ℕ} → r < 2 ^ w → x < 2 ^ k → (r * 2 ^ k / 2 ^ w) ⊕ x < 2 ^ k

@@ -11,9 +11,9 @@ use lib.ListN.{replicate}
 use lib.Pow.{pow-pos}
 use Rattle.laws.specs.Bits.{_⊕_, odd, bitsOf}
 use Rattle.laws.proofs.Xor.{zero-xor, xor-zero, xor-same, xor-comm, xor-assoc}
-use Rattle.laws.proofs.Bits.{bits-top, bits-of-zero}
+use Rattle.laws.proofs.Bits.{bits-top, bits-zeros, bits-of-zero}
 use Rattle.pec.specs.Remainder.{once, step, remainder}
-use Rattle.pec.proofs.Remainder.{remainder-bits-linear}
+use Rattle.pec.proofs.Remainder.{remainder-append, remainder-bits-linear}
 
 -- ---- zeros from 0
 
@@ -31,6 +31,13 @@ unfolding remainder
 remainder-of-zeros w g zero = refl
 remainder-of-zeros w g (suc k) =
     ap (λ (r : ℕ). remainder w g r (replicate k false)) (step-from-zero w g false ∙ once-not g) ∙ remainder-of-zeros w g k
+
+-- zeros in front of a number of k bits leave 0
+pub zeros-first : (w g j k : ℕ) {x : ℕ} → x < 2 ^ k → remainder w g 0 (bitsOf (j + k) x) ≡ remainder w g 0 (bitsOf k x)
+zeros-first w g j k {x} h =
+    ap (remainder w g 0) (bits-zeros j k h)
+    ∙ remainder-append w g 0 (replicate j false) (bitsOf k x)
+    ∙ ap (λ (r : ℕ). remainder w g r (bitsOf k x)) (remainder-of-zeros w g j)
 
 -- ---- moved up
 
@@ -62,7 +69,7 @@ unfolding step
 step-zero-bit w g r = ap (λ (b : Bool). (r * 2 % 2 ^ w) ⊕ once b g) (xor-false (odd (r * 2 / 2 ^ w)))
 
 -- a start and the k bits of a number, added
-pub added : (w g r k x : ℕ) → remainder w g r (bitsOf k x) ≡ remainder w g r (bitsOf k 0) ⊕ remainder w g 0 (bitsOf k x)
+added : (w g r k x : ℕ) → remainder w g r (bitsOf k x) ≡ remainder w g r (bitsOf k 0) ⊕ remainder w g 0 (bitsOf k x)
 added w g r k x =
     ap₂ (λ (s y : ℕ). remainder w g s (bitsOf k y)) (sym (xor-zero r)) (sym (zero-xor x)) ∙ remainder-bits-linear w g r 0 k 0 x
 
@@ -106,6 +113,10 @@ zeros w g (suc k) {r} h =
     ∙ ap₂ _⊕_ (sym (up-low w k r)) (xor-comm rest out ∙ sym (ap (λ (x : ℕ). remainder w g 0 (bitsOf (suc k) x)) (up-over w k r) ∙ first-bit w g k t (over-below w k below)))
 
 -- ---- the laws
+
+-- from a start it is that from 0, and what the start leaves of zeros
+pub from-start : (w g r k x : ℕ) → remainder w g 0 (bitsOf k x) ⊕ remainder w g r (bitsOf k 0) ≡ remainder w g r (bitsOf k x)
+from-start w g r k x = xor-comm (remainder w g 0 (bitsOf k x)) (remainder w g r (bitsOf k 0)) ∙ sym (added w g r k x)
 
 pub many-bits : (w g k x : ℕ) {r : ℕ} → r < 2 ^ w
     → remainder w g r (bitsOf k x) ≡ (r * 2 ^ k % 2 ^ w) ⊕ remainder w g 0 (bitsOf k ((r * 2 ^ k / 2 ^ w) ⊕ x))

@@ -10,11 +10,12 @@ use native.Mathlib.Numerals.{add-one}
 use native.Mathlib.Omega.{arith}
 use lib.Dec.{eqb}
 use lib.Pow.{mod-mod-pow}
-use Rattle.laws.specs.Bits.{_⊕_, odd}
+use Rattle.laws.specs.Bits.{_⊕_, odd, bitsOf}
 use Rattle.laws.proofs.Xor.{xor-twice, odd-xor}
+use Rattle.laws.proofs.Tests.{same-test}
 use Rattle.pec.specs.Remainder.{once, step, remainder, stepBack}
 use Rattle.pec.proofs.Remainder.{step-below}
-use Rattle.pec.proofs.ManyBits.{over-below}
+use Rattle.pec.proofs.ManyBits.{over-below, own-bits}
 
 -- moved up one place, a remainder ends in 0
 ends-in-zero : (w r : ℕ) → odd (r * 2 % 2 ^ suc w) ≡ false
@@ -83,3 +84,11 @@ remainder-injective w g r s (b ∷ bs) ends hg hr hs e =
     ∙ ap (λ (x : ℕ). stepBack (suc w) g x b)
     (remainder-injective w g (step (suc w) g r b) (step (suc w) g s b) bs ends hg (step-below (suc w) r b hg) (step-below (suc w) s b hg) e)
     ∙ step-undone w g s b ends hs
+
+-- so nothing is left where a remainder is fed w bits exactly when they are its own
+pub nothing-left : (w g r s : ℕ) → odd g ≡ true → g < 2 ^ suc w → r < 2 ^ suc w → s < 2 ^ suc w
+    → eqb (remainder (suc w) g r (bitsOf (suc w) s)) 0 ≡ eqb s r
+nothing-left w g r s ends hg hr hs =
+    same-test (remainder (suc w) g r (bitsOf (suc w) s)) 0 s r
+    (λ e. sym (remainder-injective w g r s (bitsOf (suc w) s) ends hg hr hs (e ∙ sym (own-bits (suc w) g hs))))
+    (λ e. ap (λ (n : ℕ). remainder (suc w) g r (bitsOf (suc w) n)) e ∙ own-bits (suc w) g hr)

@@ -3,19 +3,14 @@
 // quotient times the polynomial's terms below x^w. There is no table to copy and no byte waits for the one before it.
 ghost use mathlib.Core.Path.{_≡_};
 ghost use Prim.Native.Nat.{_^_, _<_};
+ghost use lib.Dec.{eqb};
 ghost use Rattle.laws.specs.Bits.{bitsOf};
 ghost use Rattle.pec.specs.Remainder.{remainder};
 ghost use Rattle.pec.specs.Words.{polynomial10, polynomial15};
 
-// What the start value leaves of 54 zero bits, and of 16.
-const ZEROS_10: u16 = 0x3e3;
-
-const ZEROS_15: u16 = 0x5b2e;
-
-// Ten bits, of 54.
-pub(crate) fn remainder_10(message: u64) -> u16
-    requires { ⌜ message < 2 ^ 54 ⌝ }
-    ensures { λ r. ⌜ r ≡ remainder 10 polynomial10 16 (bitsOf 54 message) ⌝ }
+// Ten bits, of 64, from 0.
+fn remainder_10(message: u64) -> u16
+    ensures { λ r. ⌜ r ≡ remainder 10 polynomial10 0 (bitsOf 64 message) ⌝ }
 {
     let a = message
         ^ (message >> 3)
@@ -25,16 +20,16 @@ pub(crate) fn remainder_10(message: u64) -> u16
         ^ (message >> 10);
     let b = a ^ (a >> 6) ^ (a >> 14) ^ (a >> 16) ^ (a >> 18) ^ (a >> 20);
     let c = b ^ (b >> 12) ^ (b >> 28) ^ (b >> 32) ^ (b >> 36) ^ (b >> 40);
-    let d = c ^ (c >> 24);
+    let d = c ^ (c >> 24) ^ (c >> 56);
     let e = d ^ (d >> 48);
     let q = e % 1024;
     let left = (q ^ (q * 2) ^ (q * 4) ^ (q * 8) ^ (q * 128)) % 1024;
-    (left as u16) ^ ZEROS_10
+    left as u16
 }
 
-// Fifteen bits, of 16.
-pub(crate) fn remainder_15(message: u16) -> u16
-    ensures { λ r. ⌜ r ≡ remainder 15 polynomial15 16 (bitsOf 16 message) ⌝ }
+// Fifteen bits, of 16, from 0.
+fn remainder_15(message: u16) -> u16
+    ensures { λ r. ⌜ r ≡ remainder 15 polynomial15 0 (bitsOf 16 message) ⌝ }
 {
     let m = message as u32;
     let a = m ^ (m >> 1) ^ (m >> 5) ^ (m >> 7) ^ (m >> 8) ^ (m >> 11) ^ (m >> 12) ^ (m >> 15);
@@ -43,5 +38,34 @@ pub(crate) fn remainder_15(message: u16) -> u16
     let d = c ^ (c >> 8);
     let q = d % 32768;
     let left = (q ^ (q * 8) ^ (q * 16) ^ (q * 128) ^ (q * 256) ^ (q * 1024) ^ (q * 16384)) % 32768;
-    (left as u16) ^ ZEROS_15
+    left as u16
+}
+
+// What the start value leaves of so many zero bits. The remainder is linear: from the start value it is that from 0, and this added.
+const OF_16_ZEROS: u16 = 0x5b2e;
+
+const OF_54_ZEROS: u16 = 0x3e3;
+
+const OF_64_ZEROS: u16 = 0x04c;
+
+// The check of a command.
+pub(crate) fn of_command(code: u16) -> u16
+    ensures { λ r. ⌜ r ≡ remainder 15 polynomial15 16 (bitsOf 16 code) ⌝ }
+{
+    remainder_15(code) ^ OF_16_ZEROS
+}
+
+// The check of six bytes and six counter bits.
+pub(crate) fn of_message(message: u64) -> u16
+    requires { ⌜ message < 2 ^ 54 ⌝ }
+    ensures { λ r. ⌜ r ≡ remainder 10 polynomial10 16 (bitsOf 54 message) ⌝ }
+{
+    remainder_10(message) ^ OF_54_ZEROS
+}
+
+// Is nothing left of a payload, with its own check as its last bits? That one division by all 64 bits tells what is right.
+pub(crate) fn nothing_left(payload: u64) -> bool
+    ensures { λ r. ⌜ r ≡ eqb (remainder 10 polynomial10 16 (bitsOf 64 payload)) 0 ⌝ }
+{
+    remainder_10(payload) == OF_64_ZEROS
 }

@@ -92,7 +92,7 @@ pub fn pec10_by_table(bytes: &[u8]) -> u16
 pub fn command_check(code: u16) -> [u8; 2]
     ensures { λ r. ⌜ r ≡ commandCheck code ⌝ }
 {
-    let check = by_shifts::remainder_15(code);
+    let check = by_shifts::of_command(code);
     two_bytes(check * 2)
 }
 
@@ -104,7 +104,7 @@ pub fn command_right(four: &[u8]) -> bool
         return false;
     }
     let sent = number_of(four);
-    let check = by_shifts::remainder_15((sent / 65536) as u16);
+    let check = by_shifts::of_command((sent / 65536) as u16);
     sent % 65536 == (check as u64) * 2
 }
 
@@ -114,7 +114,7 @@ pub fn data_pec(bytes: &[u8], counter: u8) -> u16
 {
     let bits = counter % 64;
     if bytes.len() == 6 {
-        return by_shifts::remainder_10(number_of(bytes) * 64 + (bits as u64));
+        return by_shifts::of_message(number_of(bytes) * 64 + (bits as u64));
     }
     pec10_and_bits(bytes, 6, bits as u16)
 }
@@ -134,7 +134,5 @@ pub fn payload_right(eight: &[u8]) -> bool
     if eight.len() != 8 {
         return false;
     }
-    let sent = number_of(eight);
-    let check = by_shifts::remainder_10(sent / 1024);
-    sent % 1024 == (check as u64)
+    by_shifts::nothing_left(number_of(eight))
 }

@@ -1,6 +1,6 @@
--- `pec::by_shifts::remainder_10` meets its contract: its shifts are those of the law, and antt computes the test at the 54 powers of 2.
+-- `pec::by_shifts::remainder_10` meets its contract: its shifts are those of the law, and antt computes the test at the 64 powers of 2.
 -- Assumes nothing.
-use mathlib.Core.Path.{_≡_, refl, sym, ap, _∙_}
+use mathlib.Core.Path.{_≡_, refl}
 use mathlib.Core.Bool.{xor}
 use mathlib.Core.List.{List, [], _∷_}
 use Prim.Native.Nat.{ℕ}
@@ -33,27 +33,20 @@ factors =
     (3 ∷ 7 ∷ 8 ∷ 9 ∷ 10 ∷ [])
     ∷ (6 ∷ 14 ∷ 16 ∷ 18 ∷ 20 ∷ [])
     ∷ (12 ∷ 28 ∷ 32 ∷ 36 ∷ 40 ∷ [])
-    ∷ (24 ∷ [])
+    ∷ (24 ∷ 56 ∷ [])
     ∷ (48 ∷ [])
     ∷ []
 
 terms : List ℕ
 terms = 1 ∷ 2 ∷ 3 ∷ 7 ∷ []
 
-tested : formula 10 polynomial10 54 factors terms ≡ rule 10 polynomial10 54 factors terms
+tested : formula 10 polynomial10 64 factors terms ≡ rule 10 polynomial10 64 factors terms
 unfolding formula rule byShifts left times downs ups factors terms tabulate remainder step once bitsOf odd _⊕_ xor
 tested = refl
 
-of-zeros : remainder 10 polynomial10 16 (bitsOf 54 0) ≡ 0x3e3
-unfolding remainder step once bitsOf odd _⊕_ xor
-of-zeros = refl
-
 returns : tie.Need-returns
 unfolding byShifts left times downs ups factors terms _⊕_
-returns c =
-    let m = c .args .message in
-    ap (λ (n : ℕ). byShifts 10 factors terms m ⊕ n) (sym of-zeros)
-    ∙ by-shifts 10 polynomial10 54 factors terms 16 tested (c .pre)
+returns c = by-shifts 10 polynomial10 64 factors terms tested (c .fits .message .fits)
 
 pub remainder-10-spec : {M : Type 1} → statement M
 remainder-10-spec = tie.close (tie.spec mul-left mul-left-2 mul-left-3 mul-left-4 cast-result returns)

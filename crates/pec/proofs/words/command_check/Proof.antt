@@ -13,12 +13,12 @@ use borrow.Author.Needs.{needs}
 use Rattle.pec.proofs.words.command_check.Statement.{statement}
 use Rattle.pec.proofs.words.command_check.Tie as tie
 
-remainder-15-requires : tie.Need-remainder-15-requires
-remainder-15-requires c κs = search needs
+of-command-requires : tie.Need-of-command-requires
+of-command-requires c κs = search needs
 
 mul-two-bytes : tie.Need-mul-two-bytes
 mul-two-bytes c =
-    let below : c .remainder-15 .result < 2 ^ 15 = subst⁻¹ (λ (n : ℕ). n < 2 ^ 15) (c .remainder-15 .ensures) (remainder-below 15 (bitsOf 16 (c .before .args .code)) (lit< tt) (lit< tt)) in
+    let below : c .of-command .result < 2 ^ 15 = subst⁻¹ (λ (n : ℕ). n < 2 ^ 15) (c .of-command .ensures) (remainder-below 15 (bitsOf 16 (c .before .args .code)) (lit< tt) (lit< tt)) in
     omega arith
 
 two-bytes-requires : tie.Need-two-bytes-requires
@@ -26,7 +26,7 @@ two-bytes-requires c κs = search needs
 
 returns : tie.Need-returns
 unfolding commandCheck
-returns c = c .two-bytes .ensures ∙ ap (λ (n : ℕ). twoBytes (n * 2)) (c .before .remainder-15 .ensures ∙ code-message _ (c .before .before .fits .code .fits))
+returns c = c .two-bytes .ensures ∙ ap (λ (n : ℕ). twoBytes (n * 2)) (c .before .of-command .ensures ∙ code-message _ (c .before .before .fits .code .fits))
 
 pub command-check-spec : {M : Type 1} → statement M
-command-check-spec = tie.close (tie.spec remainder-15-requires mul-two-bytes two-bytes-requires returns)
+command-check-spec = tie.close (tie.spec of-command-requires mul-two-bytes two-bytes-requires returns)

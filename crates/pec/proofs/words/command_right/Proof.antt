@@ -39,15 +39,15 @@ returns c =
 number-of-requires : tie.Need-number-of-requires
 number-of-requires c κs = search needs
 
-cast-remainder-15 : tie.Need-cast-remainder-15
-cast-remainder-15 c =
+cast-of-command : tie.Need-cast-of-command
+cast-of-command c =
     let s = c .before .before in
     let below : c .number-of .result < 2 ^ 32 = subst⁻¹ (λ (n : ℕ). n < 2 ^ 32) (c .number-of .ensures)
     (number-fits (s .before .args .four .now) (λ i. s .shared-slice-known .given i .fits) 4 (c .before .if1 .left)) in
     omega arith
 
-remainder-15-requires : tie.Need-remainder-15-requires
-remainder-15-requires c κs = search needs
+of-command-requires : tie.Need-of-command-requires
+of-command-requires c κs = search needs
 
 cast-result : tie.Need-cast-result
 cast-result c = search needs
@@ -64,9 +64,9 @@ returns-2 c =
     let whole = c .before .before .if1 .left in
     let number = c .before .number-of .ensures in
     ap₂ (λ (x y : ℕ). eqb x (y * 2)) (ap (λ (n : ℕ). n % 65536) number ∙ sent four bytes whole)
-    (c .remainder-15 .ensures ∙ ap (λ (n : ℕ). remainder 15 polynomial15 16 (bitsOf 16 (n / 65536))) number ∙ check four bytes whole)
+    (c .of-command .ensures ∙ ap (λ (n : ℕ). remainder 15 polynomial15 16 (bitsOf 16 (n / 65536))) number ∙ check four bytes whole)
     ∙ sym (ap (λ (b : Bool). b && eqb (wordAt four 2) (pec15 (take 2 four) * 2)) (eq-eqb (length four) 4 whole))
 
 pub command-right-spec : {M : Type 1} → statement M
 command-right-spec =
-    tie.close (tie.spec returns number-of-requires cast-remainder-15 remainder-15-requires cast-result mul-result returns-2)
+    tie.close (tie.spec returns number-of-requires cast-of-command of-command-requires cast-result mul-result returns-2)

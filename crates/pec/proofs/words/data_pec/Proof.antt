@@ -30,24 +30,24 @@ below c =
     let s = c .before .before in
     subst⁻¹ (λ (n : ℕ). n < 2 ^ 48) (c .number-of .ensures) (number-fits (s .before .args .bytes .now) (λ i. s .shared-slice-known .given i .fits) 6 (c .before .if1 .taken))
 
-mul-remainder-10 : tie.Need-mul-remainder-10
-mul-remainder-10 c = omega (arith, below c)
+mul-of-message : tie.Need-mul-of-message
+mul-of-message c = omega (arith, below c)
 
-cast-remainder-10 : tie.Need-cast-remainder-10
-cast-remainder-10 c = search needs
+cast-of-message : tie.Need-cast-of-message
+cast-of-message c = search needs
 
-add-remainder-10 : tie.Need-add-remainder-10
-add-remainder-10 c = omega (arith, below c)
+add-of-message : tie.Need-add-of-message
+add-of-message c = omega (arith, below c)
 
-remainder-10-requires : tie.Need-remainder-10-requires
-remainder-10-requires c κs = omega (arith, below c)
+of-message-requires : tie.Need-of-message-requires
+of-message-requires c κs = omega (arith, below c)
 
 returns : tie.Need-returns
 unfolding dataPec
 returns c =
     let s = c .before .before .before in
     let a = s .before .args in
-    c .remainder-10 .ensures
+    c .of-message .ensures
     ∙ ap (λ (n : ℕ). remainder 10 polynomial10 16 (bitsOf 54 (n * 64 + a .counter % 64))) (c .before .number-of .ensures)
     ∙ data-message (a .bytes .now) (a .counter % 64) (λ i. s .shared-slice-known .given i .fits) (c .before .before .if1 .taken) (mod-lt (a .counter) (lit< tt))
     ∙ same-bits (a .bytes .now) (a .counter)
@@ -69,10 +69,10 @@ data-pec-spec =
     tie.close
     (tie.spec
     number-of-requires
-    mul-remainder-10
-    cast-remainder-10
-    add-remainder-10
-    remainder-10-requires
+    mul-of-message
+    cast-of-message
+    add-of-message
+    of-message-requires
     returns
     cast-pec10-and-bits
     pec10-and-bits-requires

@@ -1,0 +1,15 @@
+-- Two tests that hold together are one.
+-- Assumes nothing.
+use mathlib.Core.Path.{_≡_, refl, sym, _∙_}
+use mathlib.Core.Bool.{Bool, true, false}
+use Prim.Native.Nat.{ℕ}
+use lib.Dec.{eqb}
+use borrow.Author.Tests.{eq-eqb, ne-eqb, eqb-true, eqb-false}
+
+module _ (a b c d : ℕ) (there : a ≡ b → c ≡ d) (back : c ≡ d → a ≡ b) where
+  by : (t : Bool) → eqb c d ≡ t → eqb a b ≡ eqb c d
+  by true e = eq-eqb a b (back (eqb-true c d e)) ∙ sym e
+  by false e = ne-eqb a b (λ h. eqb-false c d e (there h)) ∙ sym e
+
+  pub same-test : eqb a b ≡ eqb c d
+  same-test = by (eqb c d) refl
