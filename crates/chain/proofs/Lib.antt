@@ -1,5 +1,6 @@
 pub mod Payloads
 pub mod Serving
+pub mod OneTurn
 pub mod Soundness
 pub mod Judging
 pub mod Turns

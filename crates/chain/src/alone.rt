@@ -1,23 +1,26 @@
 // A command to the table alone, with no frame judged: one monitor acts, or all reply.
 ghost use mathlib.Core.Path.{_≡_};
 ghost use mathlib.Core.Bool.{cond, _&&_};
+ghost use mathlib.Core.List.{[]};
 ghost use lib.Dec.{leb};
 ghost use lib.ListN.{length};
-ghost use Rattle.monitor.specs.Commands.{mostMonitors};
+ghost use Rattle.monitor.specs.Commands.{mostMonitors, payloadSize};
 ghost use Rattle.chain.specs.Table.{monitors, sound};
 ghost use Rattle.monitor.specs.Effects.{takes};
 ghost use Rattle.chain.specs.Frame.{replyLength, replied};
 ghost use Rattle.chain.specs.Alone.{hasRecord, servedAt, repliesInto};
 use crate::frames::reply_length;
+use crate::frames::serve;
 use crate::frames::write_reply;
 use crate::tables::sound_count;
 use monitor::Command;
 use monitor::MOST_MONITORS;
+use monitor::PAYLOAD_SIZE;
 use monitor::RECORD_SIZE;
 
 // The monitor at k of a table, counted from 0, acts on its own record and its own eight bytes, and whether it took the command
 // comes back. A table with no whole record there stays, and none took it.
-pub fn serve_at(table: &mut [u8], command: Command, k: usize, eight: &[u8]) -> bool
+pub(crate) fn act_at(table: &mut [u8], command: Command, k: usize, eight: &[u8]) -> bool
     ensures { λ took. ⌜ took ≡ (hasRecord k (now (table .entry)) && takes command (now (eight .entry))) ⌝ }
     ensures { λ _. ⌜ now (table .exit) ≡ cond (hasRecord k (now (table .entry))) (servedAt k command (now (eight .entry)) (now (table .entry))) (now (table .entry)) ⌝ }
 {
@@ -27,6 +30,29 @@ pub fn serve_at(table: &mut [u8], command: Command, k: usize, eight: &[u8]) -> b
     let at = k * RECORD_SIZE;
     let end = at + RECORD_SIZE;
     monitor::act(command, &mut table[at..end], eight)
+}
+
+// A monitor's own bytes; of more than a payload none, since they are not right either.
+fn own_of(eight: &[u8]) -> &[u8]
+    ensures { λ r. ⌜ now r ≡ cond (leb (length (now (eight .entry))) payloadSize) (now (eight .entry)) [] ⌝ }
+{
+    if PAYLOAD_SIZE < eight.len() {
+        return &eight[..0];
+    }
+    eight
+}
+
+// The same by itself, as a chain of one.
+pub fn serve_at(table: &mut [u8], command: Command, k: usize, eight: &[u8]) -> bool
+    ensures { λ took. ⌜ took ≡ (hasRecord k (now (table .entry)) && takes command (now (eight .entry))) ⌝ }
+    ensures { λ _. ⌜ now (table .exit) ≡ cond (hasRecord k (now (table .entry))) (servedAt k command (now (eight .entry)) (now (table .entry))) (now (table .entry)) ⌝ }
+{
+    if k >= table.len() / RECORD_SIZE {
+        return false;
+    }
+    let start = k * RECORD_SIZE;
+    let end = start + RECORD_SIZE;
+    serve(&mut table[start..end], command, 1, own_of(eight)) == 1
 }
 
 // The reply of a sound table to a command, at the start of a buffer, and its length. Where the table is not sound or the reply

@@ -3,15 +3,16 @@ ghost use mathlib.Core.Path.{_≡_};
 ghost use mathlib.Core.List.{_++_, map};
 ghost use Prim.Native.Nat.{suc, _+_, _-_, _*_, _<_, _≤_};
 ghost use lib.ListN.{length, take, drop};
-ghost use Rattle.laws.specs.Rows.{rows, rowAt};
-ghost use Rattle.wire.specs.Order.{replyData};
+ghost use Rattle.laws.specs.Counts.{count};
+ghost use Rattle.laws.specs.Rows.{rows, rowAt, joined, along};
+ghost use Rattle.wire.specs.Order.{writePayloads, replyData};
 ghost use Rattle.monitor.specs.Record.{recordSize};
 ghost use Rattle.monitor.specs.Commands.{mostMonitors, payloadSize};
 ghost use Rattle.monitor.specs.Effects.{takes, keeps};
 ghost use Rattle.monitor.specs.Reply.{reply};
-ghost use Rattle.chain.specs.Frame.{commandIn, payloadsIn, replyLength, takenBy, kept, replied, answer, tableAfter, replyAfter};
+ghost use Rattle.chain.specs.Frame.{commandIn, replyLength, takenBy, kept, replied, answer, tableAfter, replyAfter};
 ghost use Rattle.chain.specs.Judged.{judged, ReadyIf, Ready};
-use crate::alone::serve_at;
+use crate::alone::act_at;
 use crate::heads::judge_head;
 use crate::tables::sound_count;
 use monitor::Command;
@@ -102,38 +103,62 @@ pub(crate) fn write_reply(command: Command, table: &[u8], n: usize, buffer: &mut
     }
 }
 
-// The own eight bytes of the monitor at k, counted from 0; nothing in a bare frame.
-fn payload_in(frame: &[u8], n: usize, k: usize) -> &[u8]
-    requires { ⌜ (k < n) × (n ≤ mostMonitors) ⌝ }
-    ensures { λ r. ⌜ now r ≡ rowAt payloadSize (n - suc k) (drop 4 (now (frame .entry))) ⌝ }
+// What follows the command and its check; nothing in a shorter frame.
+fn payloads_of(frame: &[u8]) -> &[u8]
+    ensures { λ r. ⌜ now r ≡ drop 4 (now (frame .entry)) ⌝ }
 {
-    let at = 4 + (n - 1 - k) * PAYLOAD_SIZE;
-    let end = at + PAYLOAD_SIZE;
-    if end <= frame.len() {
-        return &frame[at..end];
+    if frame.len() < 4 {
+        return &frame[..0];
     }
-    if at < frame.len() {
-        return &frame[at..];
-    }
-    &frame[..0]
+    &frame[4..]
 }
 
-// Every monitor acts, and those that took the command are counted.
-fn serve(table: &mut [u8], command: Command, n: usize, frame: &[u8]) -> usize
+// The own eight bytes of the monitor at k, counted from 0; nothing in a bare frame.
+fn payload_in(payloads: &[u8], n: usize, k: usize) -> &[u8]
+    requires { ⌜ (k < n) × (n ≤ mostMonitors) ⌝ }
+    ensures { λ r. ⌜ now r ≡ rowAt payloadSize (n - suc k) (now (payloads .entry)) ⌝ }
+{
+    let at = (n - 1 - k) * PAYLOAD_SIZE;
+    let end = at + PAYLOAD_SIZE;
+    // The same for every k, so that the compiler asks it once for all monitors.
+    if n * PAYLOAD_SIZE <= payloads.len() {
+        return &payloads[at..end];
+    }
+    if end <= payloads.len() {
+        return &payloads[at..end];
+    }
+    if at < payloads.len() {
+        return &payloads[at..];
+    }
+    &payloads[..0]
+}
+
+// Every monitor acts on its own of the payloads, and those that took the command are counted. This is the only loop in which monitors
+// act, so that the compiler keeps all of it in one place.
+pub(crate) fn serve(table: &mut [u8], command: Command, n: usize, payloads: &[u8]) -> usize
     requires { ⌜ (length (now table) ≡ n * recordSize) × (n ≤ mostMonitors) ⌝ }
-    ensures { λ r. ⌜ r ≡ takenBy command n (now (frame .entry)) ⌝ }
-    ensures { λ _. ⌜ now (table .exit) ≡ kept command n (now (table .entry)) (now (frame .entry)) ⌝ }
+    ensures { λ r. ⌜ r ≡ count (takes command) (writePayloads payloadSize n (now (payloads .entry))) ⌝ }
+    ensures { λ _. ⌜ now (table .exit) ≡ joined (along (λ r eight. keeps command eight r) (rows recordSize n (now (table .entry))) (writePayloads payloadSize n (now (payloads .entry)))) ⌝ }
 {
     let mut taken = 0;
     let mut k = 0;
     while k < n {
-        let eight = payload_in(frame, n, k);
-        if serve_at(table, command, k, eight) {
+        let eight = payload_in(payloads, n, k);
+        if act_at(table, command, k, eight) {
             taken += 1;
         }
         k += 1;
     }
     taken
+}
+
+// Every monitor acts on its own eight bytes of a frame.
+fn serve_frame(table: &mut [u8], command: Command, n: usize, frame: &[u8]) -> usize
+    requires { ⌜ (length (now table) ≡ n * recordSize) × (n ≤ mostMonitors) ⌝ }
+    ensures { λ r. ⌜ r ≡ takenBy command n (now (frame .entry)) ⌝ }
+    ensures { λ _. ⌜ now (table .exit) ≡ kept command n (now (table .entry)) (now (frame .entry)) ⌝ }
+{
+    serve(table, command, n, payloads_of(frame))
 }
 
 // Handles a frame: the table becomes what the rules say, and the reply to a read goes to the start of the reply buffer. A
@@ -147,7 +172,7 @@ pub fn handle(table: &mut [u8], frame: &[u8], buffer: &mut [u8]) -> Answer
         Judged::Bad(refusal) => Answer::Refused(refusal),
         Judged::Good(command, n) => {
             let reply = write_reply(command, table, n, buffer);
-            let taken = serve(table, command, n, frame);
+            let taken = serve_frame(table, command, n, frame);
             Answer::Accepted { taken, reply }
         }
     }

@@ -94,9 +94,9 @@ fn put_payload(buffer: &mut [u8], at: usize, six: &[u8])
     requires { ⌜ (at + payloadSize ≤ length (now buffer)) × (length (now six) ≡ dataSize) ⌝ }
     ensures { λ _. ⌜ now (buffer .exit) ≡ placed at (sealed (now (six .entry))) (now (buffer .entry)) ⌝ }
 {
-    bytes::put(buffer, at, six);
-    let check = pec::seal(six, 0);
-    bytes::put(buffer, at + DATA_SIZE, &check);
+    let values = [six[0], six[1], six[2], six[3], six[4], six[5]];
+    let payload = pec::sealed(&values, 0);
+    bytes::put(buffer, at, &payload);
 }
 
 // The payloads of a write. The values are nearest monitor first; the farthest monitor's payload is sent first.

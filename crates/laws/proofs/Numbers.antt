@@ -5,7 +5,7 @@ use mathlib.Core.Path.{_≡_, refl, sym, ap, ap₂, _∙_, subst}
 use mathlib.Core.Bool.{Bool}
 use mathlib.Core.List.{List, [], _∷_, _++_, append-assoc, append-nil}
 use Prim.Native.Nat.{ℕ, zero, suc, _+_, _*_, _/_, _^_, _<_}
-use native.Mathlib.Nat.{zero-add, suc-add, add-comm, mul-comm}
+use native.Mathlib.Nat.{zero-add, suc-add, add-comm, add-assoc, mul-comm, mul-assoc, add-mul}
 use native.Mathlib.Omega.{arith}
 use lib.ListN.{length, getD}
 use lib.Pow.{pow-add, shr-shr, high}
@@ -38,6 +38,20 @@ pub number-append : (n : ℕ) (bs cs : List ℕ) → numberFrom n (bs ++ cs) ≡
 unfolding numberFrom
 number-append n [] cs = refl
 number-append n (b ∷ bs) cs = number-append (n * 256 + b) bs cs
+
+-- what stood before it is above its bits
+pub number-from : (n : ℕ) (bs : List ℕ) → numberFrom n bs ≡ n * 2 ^ (8 * length bs) + numberFrom 0 bs
+unfolding numberFrom
+number-from n [] = omega arith
+number-from n (b ∷ bs) =
+    let more : 8 * suc (length bs) ≡ 8 * length bs + 8 = omega arith in
+    let x = 2 ^ (8 * length bs) in
+    let f = numberFrom 0 bs in
+    number-from (n * 256 + b) bs
+    ∙ ap (λ (m : ℕ). m + f) (add-mul (n * 256) b x)
+    ∙ ap (λ (m : ℕ). m + b * x + f) (mul-assoc n 256 x ∙ ap (λ (m : ℕ). n * m) (mul-comm 256 x ∙ sym (pow-add 2 (8 * length bs) 8) ∙ ap (λ (k : ℕ). 2 ^ k) (sym more)))
+    ∙ add-assoc (n * 2 ^ (8 * suc (length bs))) (b * x) f
+    ∙ ap (λ (m : ℕ). n * 2 ^ (8 * suc (length bs)) + m) (sym (number-from (0 * 256 + b) bs ∙ ap (λ (m : ℕ). m * x + f) (zero-add b)))
 
 pub number-below : (k n : ℕ) (bs : List ℕ) → n < 2 ^ k → ((i : ℕ) → getD bs i 0 < 256) → numberFrom n bs < 2 ^ (k + 8 * length bs)
 unfolding numberFrom

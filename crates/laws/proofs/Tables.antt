@@ -16,3 +16,17 @@ from f i (suc n) (suc k) h = from f (suc i) n k (omega arith) ∙ ap f (suc-add 
 
 pub at-each : (f : ℕ → ℕ) (n k : ℕ) → k < n → getD (tabulate f 0 n) k 0 ≡ f k
 at-each f n k h = from f 0 n k h ∙ ap f (zero-add k)
+
+-- a list is the table of its own elements
+later : (f : ℕ → ℕ) (i n : ℕ) → tabulate f (suc i) n ≡ tabulate (λ (j : ℕ). f (suc j)) i n
+unfolding tabulate
+later f i zero = refl
+later f i (suc n) = ap (λ (l : List ℕ). f (suc i) ∷ l) (later f (suc i) n)
+
+own-table : (xs : List ℕ) → tabulate (λ (i : ℕ). getD xs i 0) 0 (length xs) ≡ xs
+unfolding tabulate
+own-table [] = refl
+own-table (x ∷ xs) = ap (λ (l : List ℕ). x ∷ l) (later (λ (i : ℕ). getD (x ∷ xs) i 0) 0 (length xs) ∙ own-table xs)
+
+pub rebuilt : (xs : List ℕ) (n : ℕ) → length xs ≡ n → tabulate (λ (i : ℕ). getD xs i 0) 0 n ≡ xs
+rebuilt xs n e = ap (tabulate (λ (i : ℕ). getD xs i 0) 0) (sym e) ∙ own-table xs

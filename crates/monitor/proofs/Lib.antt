@@ -1,5 +1,6 @@
 pub mod Anew
 pub mod Making
+pub mod Storing
 pub mod Answers
 pub mod CommandList
 pub mod Keeping

@@ -49,6 +49,14 @@ rulesOf Wrrr = record { «only_unlocked» = true; at = retention .at; stored = a
 rulesOf Clrflag = record { «only_unlocked» = false; at = statusC .at; stored = none; kept = all; clearable = 0xFF ∷ 0xFF ∷ 0 ∷ 0 ∷ 0xFF ∷ 0xDF ∷ [] }
 rulesOf Clovuv = record { «only_unlocked» = false; at = statusD .at; stored = none; kept = all; clearable = 0xFF ∷ 0xFF ∷ 0xFF ∷ 0xFF ∷ 0 ∷ 0 ∷ [] }
 
+-- the writes that store all six bytes as they are sent
+abbrev pub storesWhole : Write → Bool
+storesWhole Wrcfga = false
+storesWhole Wrcfgb = true
+storesWhole Wrrr = true
+storesWhole Clrflag = false
+storesWhole Clovuv = false
+
 -- byte i by three such masks, from what was sent and what it was
 unfoldable pub changed : List ℕ → List ℕ → List ℕ → List ℕ → ℕ → ℕ → ℕ
 changed stored kept clearable sent i old =

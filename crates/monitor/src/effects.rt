@@ -1,10 +1,10 @@
 // What one monitor keeps of an accepted command and its own eight bytes.
 ghost use mathlib.Core.Path.{_≡_};
 ghost use mathlib.Core.Bool.{cond, _&&_};
-ghost use Prim.Native.Nat.{_+_, _≤_};
-ghost use lib.ListN.{length};
+ghost use Prim.Native.Nat.{_+_, _%_, _≤_};
+ghost use lib.ListN.{length, getD};
 ghost use Rattle.monitor.specs.Record.{recordSize, isRecord, recordSound, anew};
-ghost use Rattle.monitor.specs.Effects.{locked, nextCount, counted, rulesOf, byRules, opens, written, done, takes, keeps};
+ghost use Rattle.monitor.specs.Effects.{locked, nextCount, counted, rulesOf, storesWhole, byRules, opens, written, done, takes, keeps};
 use crate::commands::Bare;
 use crate::commands::Command;
 use crate::commands::Write;
@@ -114,6 +114,31 @@ fn change(rec: &mut [u8], rules: Rules, sent: &[u8])
     }
 }
 
+// The same where all six become as sent: they are copied.
+fn store(rec: &mut [u8], at: usize, sent: &[u8])
+    requires { ⌜ (at + 6 ≤ length (now rec)) × (6 ≤ length (now sent)) ⌝ }
+    ensures { λ _. ⌜ now (rec .exit) ≡ anew (λ i old. getD (now (sent .entry)) i 0 % 256) at 6 (now (rec .entry)) ⌝ }
+{
+    let mut i = 0;
+    while i < 6 {
+        rec[at + i] = sent[i];
+        i += 1;
+    }
+}
+
+// Does a write store all six as they are sent?
+fn stores_whole(what: Write) -> bool
+    ensures { λ r. ⌜ r ≡ storesWhole what ⌝ }
+{
+    match what {
+        Write::Wrcfga => false,
+        Write::Wrcfgb => true,
+        Write::Wrrr => true,
+        Write::Clrflag => false,
+        Write::Clovuv => false,
+    }
+}
+
 // The code -32768 in every cell, low byte first.
 fn clear_cells(rec: &mut [u8])
     requires { ⌜ length (now rec) ≡ recordSize ⌝ }
@@ -141,7 +166,11 @@ fn write(what: Write, was: u8, rec: &mut [u8], sent: &[u8])
 {
     let rules = rules_of(what);
     if opens_by(rules, was) {
-        change(rec, rules, sent);
+        if stores_whole(what) {
+            store(rec, rules.at, sent);
+        } else {
+            change(rec, rules, sent);
+        }
     }
 }
 
@@ -166,7 +195,7 @@ fn act_write(what: Write, rec: &mut [u8], eight: &[u8]) -> bool
 {
     let was = rec[UNLOCKED];
     lock(rec);
-    if pec::payload_right(eight) {
+    if pec::number_right(pec::number_in(eight)) {
         count(rec);
         write(what, was, rec, eight);
         true

@@ -66,15 +66,5 @@ pub fn reply_of(part: Part, rec: &[u8]) -> [u8; 8]
 {
     let six = register_of(part, rec);
     let counter = byte_at(rec, COUNTER);
-    let check = pec::seal(&six, counter);
-    [
-        six[0],
-        six[1],
-        six[2],
-        six[3],
-        six[4],
-        six[5],
-        check[0],
-        check[1],
-    ]
+    pec::sealed(&six, counter)
 }

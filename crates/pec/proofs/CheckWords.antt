@@ -25,6 +25,11 @@ pub dataPec-below : (bytes : List ℕ) (counter : ℕ) → dataPec bytes counter
 unfolding dataPec
 dataPec-below bytes counter = remainder-below 10 (bitsOfBytes bytes ++ bitsOf 6 counter) (lit< tt) (lit< tt)
 
+-- the six bits of a counter are those of its remainder by 64
+pub counter-bits : (bytes : List ℕ) (counter : ℕ) → dataPec bytes (counter % 64) ≡ dataPec bytes counter
+unfolding dataPec
+counter-bits bytes counter = ap (λ (bs : List Bool). remainder 10 polynomial10 16 (bitsOfBytes bytes ++ bs)) (bits-mod 6 counter)
+
 -- ---- what is sent is right
 
 -- a 16-bit number that was sent after a byte string stands there
@@ -67,15 +72,11 @@ module _ (six : List ℕ) (counter : ℕ) (h : length six ≡ 6) where
   unfolding sent
   check = ap (λ (n : ℕ). n % 1024) word ∙ digits-mod (counter % 64) (dataPec-below six counter)
 
-  same-bits : dataPec six (counter % 64) ≡ dataPec six counter
-  unfolding dataPec
-  same-bits = ap (λ (bs : List Bool). remainder 10 polynomial10 16 (bitsOfBytes six ++ bs)) (bits-mod 6 counter)
-
   pub seal-right : payloadRight (six ++ seal six counter) ≡ true
   unfolding payloadRight seal sent
   seal-right =
       ap₂ _&&_ (eq-eqb _ 8 (length-two six sent ∙ ap (λ (n : ℕ). n + 2) h))
-      (eq-eqb _ _ (check ∙ sym (ap₂ dataPec (take-at six (seal six counter) 6 h) seal-counter ∙ same-bits)))
+      (eq-eqb _ _ (check ∙ sym (ap₂ dataPec (take-at six (seal six counter) 6 h) seal-counter ∙ counter-bits six counter)))
 
 -- ---- a 1 in the last place
 

@@ -1,17 +1,17 @@
 -- What the check words are taken over, as numbers: a command is 16 bits, six bytes and the counter are 54, and the last two bytes of a
 -- string are the 16 low bits of its number.
 -- Assumes nothing.
-use mathlib.Core.Path.{_≡_, refl, sym, ap, ap₂, _∙_, subst}
+use mathlib.Core.Path.{_≡_, refl, sym, ap, ap₂, _∙_}
 use mathlib.Core.Bool.{Bool}
 use mathlib.Core.List.{List, [], _∷_, _++_}
-use Prim.Native.Nat.{ℕ, zero, suc, _+_, _*_, _/_, _%_, _^_, _<_}
+use Prim.Native.Nat.{ℕ, zero, suc, _+_, _-_, _*_, _/_, _%_, _^_, _≤_, _<_}
 use native.Mathlib.Numerals.{add-one}
 use native.Mathlib.Omega.{arith}
 use lib.Dec.{lit<}
-use lib.ListN.{length, getD, take, drop, drop-of-length-le, take-append-drop}
-use lib.Seq.{drop-cons}
+use lib.ListN.{length, length-drop, getD, take, drop, drop-of-length-le, take-append-drop}
+use lib.Seq.{drop-cons, length-take-le, take-all}
 use Rattle.laws.specs.Bits.{bitsOf, bitsOfBytes, numberFrom, numberOf}
-use Rattle.laws.proofs.Numbers.{bits-join, bits-of-number, number-append, number-below}
+use Rattle.laws.proofs.Numbers.{bits-join, bits-of-number, number-append, number-from}
 use Rattle.pec.specs.Remainder.{remainder}
 use Rattle.pec.specs.Words.{twoBytes, wordAt, polynomial10, polynomial15, pec15, dataPec}
 
@@ -21,11 +21,31 @@ bytes-of-take [] h (suc j) i = lit< tt
 bytes-of-take (b ∷ bs) h (suc j) zero = h 0
 bytes-of-take (b ∷ bs) h (suc j) (suc i) = bytes-of-take bs (λ k. h (suc k)) j i
 
-pub number-fits : (bytes : List ℕ) → ((i : ℕ) → getD bytes i 0 < 256) → (j : ℕ) → length bytes ≡ j → numberOf bytes < 2 ^ (8 * j)
-unfolding numberOf
-number-fits bytes h j e =
-    let bits : 0 + 8 * length bytes ≡ 8 * j = omega arith in
-    subst (λ (k : ℕ). numberFrom 0 bytes < 2 ^ k) bits (number-below 0 0 bytes (lit< tt) h)
+-- a string in two parts, the first four bytes long, as they are lent
+module _ (bytes : List ℕ) (j : ℕ) (e : length bytes ≡ 4 + j) where
+  abbrev rest : List ℕ
+  rest = take (length bytes - 4) (drop 4 bytes)
+
+  pub first-four : length (take 4 bytes) ≡ 4
+  first-four = length-take-le 4 bytes (omega arith)
+
+  whole-rest : rest ≡ drop 4 bytes
+  whole-rest =
+      let all : length (drop 4 bytes) ≤ length bytes - 4 = omega (arith, length-drop 4 bytes) in
+      take-all (length bytes - 4) (drop 4 bytes) all
+
+  pub rest-size : length rest ≡ j
+  rest-size = ap length whole-rest ∙ omega (arith, length-drop 4 bytes)
+
+  pub two-parts : {a b : ℕ} → a ≡ numberOf (take 4 bytes) → b ≡ numberOf rest → a * 2 ^ (8 * j) + b ≡ numberOf bytes
+  unfolding numberOf
+  two-parts ha hb =
+      ap₂ (λ (x y : ℕ). x * 2 ^ (8 * j) + y) ha (hb ∙ ap numberOf whole-rest)
+      ∙ sym
+      (ap (numberFrom 0) (sym (take-append-drop 4 bytes))
+      ∙ number-append 0 (take 4 bytes) (drop 4 bytes)
+      ∙ number-from (numberFrom 0 (take 4 bytes)) (drop 4 bytes)
+      ∙ ap (λ (k : ℕ). numberFrom 0 (take 4 bytes) * 2 ^ (8 * k) + numberFrom 0 (drop 4 bytes)) (sym (ap length whole-rest) ∙ rest-size))
 
 pub word-below : (bytes : List ℕ) → ((i : ℕ) → getD bytes i 0 < 256) → (j : ℕ) → wordAt bytes j < 65536
 unfolding wordAt

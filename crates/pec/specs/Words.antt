@@ -1,11 +1,11 @@
 -- The two check words of document 01, "Check words", and what is sent of them.
 -- Assumes nothing.
-use mathlib.Core.Bool.{Bool, _&&_}
+use mathlib.Core.Bool.{Bool, cond, _&&_}
 use mathlib.Core.List.{List, [], _∷_, _++_}
 use Prim.Native.Nat.{ℕ, _+_, _*_, _/_, _%_}
 use lib.Dec.{eqb}
 use lib.ListN.{length, take, getD}
-use Rattle.laws.specs.Bits.{bitsOf, bitsOfBytes}
+use Rattle.laws.specs.Bits.{bitsOf, bitsOfBytes, numberOf}
 use Rattle.pec.specs.Remainder.{remainder}
 
 -- ---- how sixteen bits are sent
@@ -58,3 +58,13 @@ counterOf eight = wordAt eight 6 / 1024
 -- a payload is right: its ten last bits are the check of its first six bytes and its six counter bits as they stand
 unfoldable pub payloadRight : List ℕ → Bool
 payloadRight eight = eqb (length eight) 8 && eqb (wordAt eight 6 % 1024) (dataPec (take 6 eight) (counterOf eight))
+
+-- ---- a payload as one number of 64 bits
+
+-- 0 where there are not eight bytes
+unfoldable pub numberIn : List ℕ → ℕ
+numberIn eight = cond (eqb (length eight) 8) (numberOf eight) 0
+
+-- nothing is left of it, its own check being its last ten bits
+unfoldable pub numberRight : ℕ → Bool
+numberRight n = eqb (remainder 10 polynomial10 16 (bitsOf 64 n)) 0

@@ -3,10 +3,9 @@
 // quotient times the polynomial's terms below x^w. There is no table to copy and no byte waits for the one before it.
 ghost use mathlib.Core.Path.{_≡_};
 ghost use Prim.Native.Nat.{_^_, _<_};
-ghost use lib.Dec.{eqb};
 ghost use Rattle.laws.specs.Bits.{bitsOf};
 ghost use Rattle.pec.specs.Remainder.{remainder};
-ghost use Rattle.pec.specs.Words.{polynomial10, polynomial15};
+ghost use Rattle.pec.specs.Words.{polynomial10, polynomial15, numberRight};
 
 // Ten bits, of 64, from 0.
 fn remainder_10(message: u64) -> u16
@@ -65,7 +64,7 @@ pub(crate) fn of_message(message: u64) -> u16
 
 // Is nothing left of a payload, with its own check as its last bits? That one division by all 64 bits tells what is right.
 pub(crate) fn nothing_left(payload: u64) -> bool
-    ensures { λ r. ⌜ r ≡ eqb (remainder 10 polynomial10 16 (bitsOf 64 payload)) 0 ⌝ }
+    ensures { λ r. ⌜ r ≡ numberRight payload ⌝ }
 {
     remainder_10(payload) == OF_64_ZEROS
 }

@@ -1,7 +1,7 @@
 // The two check words of document 01, and what is sent of them.
 ghost use mathlib.Core.Path.{_≡_};
 ghost use mathlib.Core.List.{_++_};
-ghost use Prim.Native.Nat.{_^_, _≤_, _<_};
+ghost use Prim.Native.Nat.{_*_, _^_, _≤_, _<_};
 ghost use lib.ListN.{length};
 ghost use Rattle.laws.specs.Bits.{bitsOf, bitsOfBytes, numberOf};
 ghost use Rattle.pec.specs.Remainder.{remainder};
@@ -15,6 +15,8 @@ ghost use Rattle.pec.specs.Words.{
   dataPec,
   seal,
   payloadRight,
+  numberIn,
+  numberRight,
 };
 use crate::bit_by_bit;
 use crate::by_shifts;
@@ -39,6 +41,7 @@ fn two_bytes(n: u16) -> [u8; 2]
 fn number_of(bytes: &[u8]) -> u64
     requires { ⌜ length (now bytes) ≤ 8 ⌝ }
     ensures { λ r. ⌜ r ≡ numberOf (now (bytes .entry)) ⌝ }
+    ensures { λ r. ⌜ r < 2 ^ (8 * length (now (bytes .entry))) ⌝ }
 {
     let mut n: u64 = 0;
     let mut i = 0;
@@ -47,6 +50,22 @@ fn number_of(bytes: &[u8]) -> u64
         i += 1;
     }
     n
+}
+
+// Eight bytes and six, in two parts: the compiler then reads each part with one load.
+fn number_of_eight(eight: &[u8]) -> u64
+    requires { ⌜ length (now eight) ≡ 8 ⌝ }
+    ensures { λ r. ⌜ r ≡ numberOf (now (eight .entry)) ⌝ }
+{
+    number_of(&eight[..4]) * 4294967296 + number_of(&eight[4..])
+}
+
+fn number_of_six(six: &[u8]) -> u64
+    requires { ⌜ length (now six) ≡ 6 ⌝ }
+    ensures { λ r. ⌜ r ≡ numberOf (now (six .entry)) ⌝ }
+    ensures { λ r. ⌜ r < 2 ^ 48 ⌝ }
+{
+    number_of(&six[..4]) * 65536 + number_of(&six[4..])
 }
 
 // The 15-bit remainder of a byte string, bit by bit.
@@ -114,7 +133,7 @@ pub fn data_pec(bytes: &[u8], counter: u8) -> u16
 {
     let bits = counter % 64;
     if bytes.len() == 6 {
-        return by_shifts::of_message(number_of(bytes) * 64 + (bits as u64));
+        return by_shifts::of_message(number_of_six(bytes) * 64 + (bits as u64));
     }
     pec10_and_bits(bytes, 6, bits as u16)
 }
@@ -127,12 +146,54 @@ pub fn seal(bytes: &[u8], counter: u8) -> [u8; 2]
     two_bytes((counter % 64) as u16 * 1024 + check)
 }
 
+fn seal_six(six: &[u8], counter: u8) -> [u8; 8]
+    requires { ⌜ length (now six) ≡ 6 ⌝ }
+    ensures { λ r. ⌜ r ≡ now (six .entry) ++ seal (now (six .entry)) counter ⌝ }
+{
+    let six_bits = counter % 64;
+    let check = by_shifts::of_message(number_of_six(six) * 64 + (six_bits as u64));
+    let end = two_bytes((six_bits as u16) * 1024 + check);
+    [
+        six[0],
+        six[1],
+        six[2],
+        six[3],
+        six[4],
+        six[5],
+        end[0],
+        end[1],
+    ]
+}
+
+// A payload: six bytes, and the two that seal them.
+pub fn sealed(six: &[u8; 6], counter: u8) -> [u8; 8]
+    ensures { λ r. ⌜ r ≡ now (six .entry) ++ seal (now (six .entry)) counter ⌝ }
+{
+    seal_six(six, counter)
+}
+
+// Eight bytes as one number, and 0 for another length. This and the next are the two halves of `payload_right`, each small enough for
+// the compiler to keep it in a caller's loop.
+pub fn number_in(eight: &[u8]) -> u64
+    ensures { λ r. ⌜ r ≡ numberIn (now (eight .entry)) ⌝ }
+    ensures { λ r. ⌜ numberRight r ≡ payloadRight (now (eight .entry)) ⌝ }
+{
+    if eight.len() != 8 {
+        return 0;
+    }
+    number_of_eight(eight)
+}
+
+// Is a payload right that is one number?
+pub fn number_right(payload: u64) -> bool
+    ensures { λ r. ⌜ r ≡ numberRight payload ⌝ }
+{
+    by_shifts::nothing_left(payload)
+}
+
 // Are eight bytes a payload and its check, over the six counter bits as they stand?
 pub fn payload_right(eight: &[u8]) -> bool
     ensures { λ r. ⌜ r ≡ payloadRight (now (eight .entry)) ⌝ }
 {
-    if eight.len() != 8 {
-        return false;
-    }
-    by_shifts::nothing_left(number_of(eight))
+    number_right(number_in(eight))
 }

@@ -68,12 +68,15 @@ pub record Promises : Type 2 where
   command-check : Promised pec.command_check.Statement.statement pec.command_check.Reads.Asked
   command-right : Promised pec.command_right.Statement.statement pec.command_right.Reads.Asked
   data-pec : Promised pec.data_pec.Statement.statement pec.data_pec.Reads.Asked
+  number-in : Promised pec.number_in.Statement.statement pec.number_in.Reads.Asked
+  number-right : Promised pec.number_right.Statement.statement pec.number_right.Reads.Asked
   payload-right : Promised pec.payload_right.Statement.statement pec.payload_right.Reads.Asked
   pec10-bitwise : Promised pec.pec10_bitwise.Statement.statement pec.pec10_bitwise.Reads.Asked
   pec10-by-table : Promised pec.pec10_by_table.Statement.statement pec.pec10_by_table.Reads.Asked
   pec15-bitwise : Promised pec.pec15_bitwise.Statement.statement pec.pec15_bitwise.Reads.Asked
   pec15-by-table : Promised pec.pec15_by_table.Statement.statement pec.pec15_by_table.Reads.Asked
   seal : Promised pec.seal.Statement.statement pec.seal.Reads.Asked
+  sealed : Promised pec.sealed.Statement.statement pec.sealed.Reads.Asked
   -- monitor
   command-of : Promised monitor.command_of.Statement.statement monitor.command_of.Reads.Asked
   frame-length : Promised monitor.frame_length.Statement.statement monitor.frame_length.Reads.Asked
@@ -173,12 +176,15 @@ proved =
       command-check = (λ M. pec.command_check.Met.met, λ κ a. tt);
       command-right = (λ M. pec.command_right.Met.met, λ κ a. tt);
       data-pec = (λ M. pec.data_pec.Met.met, λ κ a. tt);
+      number-in = (λ M. pec.number_in.Met.met, λ κ a. tt);
+      number-right = (λ M. pec.number_right.Met.met, λ κ a. tt);
       payload-right = (λ M. pec.payload_right.Met.met, λ κ a. tt);
       pec10-bitwise = (λ M. pec.pec10_bitwise.Met.met, λ κ a. tt);
       pec10-by-table = (λ M. pec.pec10_by_table.Met.met, λ κ a. tt);
       pec15-bitwise = (λ M. pec.pec15_bitwise.Met.met, λ κ a. tt);
       pec15-by-table = (λ M. pec.pec15_by_table.Met.met, λ κ a. tt);
       seal = (λ M. pec.seal.Met.met, λ κ a. tt);
+      sealed = (λ M. pec.sealed.Met.met, λ κ a. tt);
       command-of = (λ M. monitor.command_of.Met.met, λ κ a. tt);
       frame-length = (λ M. monitor.frame_length.Met.met, λ κ a. tt);
       is-listed = (λ M. monitor.is_listed.Met.met, λ κ a. tt);

@@ -5,7 +5,7 @@
 -- Assumes nothing.
 use mathlib.Core.Path.{_≡_, sym, _∙_}
 use mathlib.Core.Bool.{cond, _&&_}
-use mathlib.Core.List.{List, [], _∷_}
+use mathlib.Core.List.{List, [], _∷_, _++_}
 use Prim.Native.Nat.{ℕ}
 use denote.Ref.{now}
 use lib.Dec.{eqb, leb}
@@ -14,7 +14,7 @@ use Rattle.bytes.specs.Placed.{placed, fits}
 use Rattle.bytes.proofs as bytes
 use Rattle.refusals.specs.Numbers.{numberOf}
 use Rattle.refusals.proofs as refusals
-use Rattle.pec.specs.Words.{pec15, pec10, commandCheck, commandRight, dataPec, seal, payloadRight}
+use Rattle.pec.specs.Words.{pec15, pec10, commandCheck, commandRight, dataPec, seal, payloadRight, numberIn, numberRight}
 use Rattle.pec.proofs as pec
 use Rattle.monitor.specs.Commands.{commands, commandOf, isListed, frameLength, mostMonitors}
 use Rattle.monitor.specs.Record.{cellCount, isRecord, recordSound}
@@ -86,11 +86,14 @@ pub record OneOutcome : Type 0 where
   command-check : Settles pec.command_check.Reads.Post (λ κ z e. leaves z []) (λ κ a. leaves (commandCheck (a .0)) [])
   command-right : Settles pec.command_right.Reads.Post (λ κ z e. leaves z []) (λ κ a. leaves (commandRight (now (a .0))) [])
   data-pec : Settles pec.data_pec.Reads.Post (λ κ z e. leaves z []) (λ κ a. leaves (dataPec (now (a .0)) (a .1 .0)) [])
+  number-in : Settles pec.number_in.Reads.Post (λ κ z e. leaves z []) (λ κ a. leaves (numberIn (now (a .0))) [])
+  number-right : Settles pec.number_right.Reads.Post (λ κ z e. leaves z []) (λ κ a. leaves (numberRight (a .0)) [])
   payload-right : Settles pec.payload_right.Reads.Post (λ κ z e. leaves z []) (λ κ a. leaves (payloadRight (now (a .0))) [])
   pec10-bitwise : Settles pec.pec10_bitwise.Reads.Post (λ κ z e. leaves z []) (λ κ a. leaves (pec10 (now (a .0))) [])
   pec10-by-table : Settles pec.pec10_by_table.Reads.Post (λ κ z e. leaves z []) (λ κ a. leaves (pec10 (now (a .0))) [])
   pec15-bitwise : Settles pec.pec15_bitwise.Reads.Post (λ κ z e. leaves z []) (λ κ a. leaves (pec15 (now (a .0))) [])
   pec15-by-table : Settles pec.pec15_by_table.Reads.Post (λ κ z e. leaves z []) (λ κ a. leaves (pec15 (now (a .0))) [])
+  sealed : Settles pec.sealed.Reads.Post (λ κ z e. leaves z []) (λ κ a. leaves (now (a .0) ++ seal (now (a .0)) (a .1 .0)) [])
   seal : Settles pec.seal.Reads.Post (λ κ z e. leaves z []) (λ κ a. leaves (seal (now (a .0)) (a .1 .0)) [])
   -- monitor
   command-of : Settles monitor.command_of.Reads.Post (λ κ z e. leaves z []) (λ κ a. leaves (commandOf (a .0) commands) [])
@@ -158,12 +161,15 @@ one-outcomes =
       command-check = settles (λ κ a z e p i. leaves (p i) []);
       command-right = settles (λ κ a z e p i. leaves (p i) []);
       data-pec = settles (λ κ a z e p i. leaves (p i) []);
+      number-in = settles (λ κ a z e p i. leaves (p .0 i) []);
+      number-right = settles (λ κ a z e p i. leaves (p i) []);
       payload-right = settles (λ κ a z e p i. leaves (p i) []);
       pec10-bitwise = settles (λ κ a z e p i. leaves (p i) []);
       pec10-by-table = settles (λ κ a z e p i. leaves (p i) []);
       pec15-bitwise = settles (λ κ a z e p i. leaves (p i) []);
       pec15-by-table = settles (λ κ a z e p i. leaves (p i) []);
       seal = settles (λ κ a z e p i. leaves (p i) []);
+      sealed = settles (λ κ a z e p i. leaves (p i) []);
       command-of = settles (λ κ a z e p i. leaves (p i) []);
       frame-length = settles (λ κ a z e p i. leaves (p i) []);
       is-listed = settles (λ κ a z e p i. leaves (p i) []);

@@ -1,52 +1,99 @@
--- `chain::alone::serve_at` meets its contract: the record is lent and comes back, where there is one.
+-- `chain::alone::serve_at` meets its contract: the record is lent as the table of a chain of one and comes back, where there is one.
 -- Assumes nothing.
+use mathlib.Core.Path.{_≡_, sym, ap, _∙_}
+use mathlib.Core.Bool.{Bool, cond, _&&_}
+use mathlib.Core.List.{List}
+use Prim.Native.Nat.{ℕ, _+_, _*_, _≤_}
 use native.Mathlib.Omega.{arith}
-use Rattle.chain.proofs.Serving.{served, not-served}
+use lib.Dec.{eqb}
+use lib.ListN.{length}
+use Rattle.laws.specs.Counts.{count}
+use Rattle.laws.specs.Rows.{rows, joined, along}
+use Rattle.laws.proofs.LentParts.{part-lent}
+use Rattle.wire.specs.Order.{writePayloads}
+use Rattle.monitor.specs.declared.commands.Command.{Command}
+use Rattle.monitor.specs.Record.{recordSize, isRecord}
+use Rattle.monitor.specs.Commands.{payloadSize}
+use Rattle.monitor.specs.Effects.{takes, keeps}
+use Rattle.chain.proofs.Serving.{lent, lent-length, lent-record, served, not-served}
+use Rattle.chain.proofs.OneTurn.{own, one-taken, one-kept}
 use borrow.Author.Needs.{needs}
 use Rattle.chain.proofs.alone.serve_at.Statement.{statement}
 use Rattle.chain.proofs.alone.serve_at.Tie as tie
+
+module _ (k : ℕ) (table : List ℕ) (fits : k * recordSize + recordSize ≤ length table) where
+  whole : length (lent k table) ≡ recordSize
+  whole = ap length (part-lent recordSize k table) ∙ lent-length k table fits
+
+  -- what the chain of one makes of the record is what its monitor does
+  module _ (command : Command) (eight handed : List ℕ) (e : handed ≡ own eight) where
+    took : {n : ℕ} → n ≡ count (takes command) (writePayloads payloadSize 1 handed) → eqb n 1 ≡ isRecord (lent k table) && takes command eight
+    took t =
+        ap (λ (m : ℕ). eqb m 1) (t ∙ ap (λ (ps : List ℕ). count (takes command) (writePayloads payloadSize 1 ps)) e)
+        ∙ one-taken command eight
+        ∙ ap (λ (b : Bool). b && takes command eight) (sym (lent-record k table fits))
+
+    kept : {after : List ℕ} → after ≡ joined (along (λ r x. keeps command x r) (rows recordSize 1 (lent k table)) (writePayloads payloadSize 1 handed))
+        → after ≡ cond (isRecord (lent k table)) (keeps command eight (lent k table)) (lent k table)
+    kept t =
+        t
+        ∙ ap (λ (ps : List ℕ). joined (along (λ r x. keeps command x r) (rows recordSize 1 (lent k table)) (writePayloads payloadSize 1 ps))) e
+        ∙ one-kept command eight (lent k table) whole
+        ∙ ap (λ (b : Bool). cond b (keeps command eight (lent k table)) (lent k table)) (sym (lent-record k table fits))
 
 returns : tie.Need-returns
 returns c =
     let a = c .before .before .before .args in
     not-served (a .k) (a .table .now) (a .eight .now) (a .command) (c .if1 .taken)
 
-mul-at : tie.Need-mul-at
-mul-at c = omega arith
+mul-start : tie.Need-mul-start
+mul-start c = omega arith
 
 add-end : tie.Need-add-end
 add-end c = omega arith
 
-sub-act : tie.Need-sub-act
-sub-act c = omega arith
+sub-serve : tie.Need-sub-serve
+sub-serve c = omega arith
 
-part-act-start : tie.Need-part-act-start
-part-act-start c = omega arith
+part-serve-start : tie.Need-part-serve-start
+part-serve-start c = omega arith
 
-part-act-end : tie.Need-part-act-end
-part-act-end c = omega arith
+part-serve-end : tie.Need-part-serve-end
+part-serve-end c = omega arith
 
-act-requires : tie.Need-act-requires
-act-requires c κs = search needs
+own-of-requires : tie.Need-own-of-requires
+own-of-requires c κs = search needs
+
+serve-requires : tie.Need-serve-requires
+serve-requires c κs =
+    let a = c .before .before .before .before .before .args in
+    (whole (a .k) (a .table .now) (omega (arith, c .before .before .if1 .left)), omega arith)
 
 same-length : tie.Need-same-length
 same-length c = search needs
 
 returns-2 : tie.Need-returns-2
+unfolding own
 returns-2 c =
-    let a = c .before .before .before .before .before .before .before .args in
-    served (a .k) (a .table .now) (omega (arith, c .before .before .before .before .if1 .left)) (a .command) (a .eight .now) (c .before .before .act .ensures .0) (c .before .before .act .ensures .1)
+    let a = c .before .before .before .before .before .before .before .before .args in
+    let fits : a .k * recordSize + recordSize ≤ length (a .table .now) = omega (arith, c .before .before .before .before .before .if1 .left) in
+    let e = c .before .before .before .own-of .ensures in
+    let s = c .before .before .serve .ensures in
+    served (a .k) (a .table .now) fits (a .command) (a .eight .now)
+    (took (a .k) (a .table .now) fits (a .command) (a .eight .now) _ e (s .0))
+    (kept (a .k) (a .table .now) fits (a .command) (a .eight .now) _ e (s .1))
 
 pub serve-at-spec : {M : Type 1} → statement M
 serve-at-spec =
     tie.close
     (tie.spec
     returns
-    mul-at
+    mul-start
     add-end
-    sub-act
-    part-act-start
-    part-act-end
-    act-requires
+    sub-serve
+    part-serve-start
+    part-serve-end
+    own-of-requires
+    serve-requires
     same-length
     returns-2)

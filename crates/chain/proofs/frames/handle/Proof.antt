@@ -24,8 +24,8 @@ write-reply-requires c κs =
     let ready = subst (λ (j : Judged). ReadyIf j (c .before .before .before .before .before .before .before .before .before .before .args .table .now) (c .before .before .before .before .before .before .before .before .before .before .args .frame .now) (length (c .before .before .before .before .before .before .before .before .before .before .args .buffer .now))) (c .before .before .before .command .given .1) (c .before .before .before .before .before .judge .ensures .1) in
     (ready .whole, ready .few, ready .enough)
 
-serve-requires : tie.Need-serve-requires
-serve-requires c κs =
+serve-frame-requires : tie.Need-serve-frame-requires
+serve-frame-requires c κs =
     let ready = subst (λ (j : Judged). ReadyIf j (c .before .before .before .before .before .before .before .before .before .before .before .before .before .before .args .table .now) (c .before .before .before .before .before .before .before .before .before .before .before .before .before .before .args .frame .now) (length (c .before .before .before .before .before .before .before .before .before .before .before .before .before .before .args .buffer .now))) (c .before .before .before .before .before .before .before .command .given .1) (c .before .before .before .before .before .before .before .before .before .judge .ensures .1) in
     (ready .whole, ready .few)
 
@@ -50,8 +50,8 @@ returns-2 : tie.Need-returns-2
 returns-2 c =
     let a = c .before .before .before .before .before .before .before .before .before .before .before .before .before .before .before .before .before .args in
     let e = sym (c .before .before .before .before .before .before .before .before .before .before .before .before .judge .ensures .0) ∙ c .before .before .before .before .before .before .before .before .before .before .command .given .1 in (
-      ap₂ Accepted (c .before .before .serve .ensures .0) (c .before .before .before .before .before .before .write-reply .ensures .0) ∙ sym (the-answer (a .table .now) (a .frame .now) (a .buffer .now) e),
-      (c .before .before .serve .ensures .1 ∙ sym (the-table (a .table .now) (a .frame .now) (a .buffer .now) e), c .before .before .before .before .before .before .write-reply .ensures .1 ∙ sym (the-buffer (a .table .now) (a .frame .now) (a .buffer .now) e)),
+      ap₂ Accepted (c .before .before .serve-frame .ensures .0) (c .before .before .before .before .before .before .write-reply .ensures .0) ∙ sym (the-answer (a .table .now) (a .frame .now) (a .buffer .now) e),
+      (c .before .before .serve-frame .ensures .1 ∙ sym (the-table (a .table .now) (a .frame .now) (a .buffer .now) e), c .before .before .before .before .before .before .write-reply .ensures .1 ∙ sym (the-buffer (a .table .now) (a .frame .now) (a .buffer .now) e)),
     )
 
 pub handle-spec : {M : Type 1} → statement M
@@ -62,7 +62,7 @@ handle-spec =
     enum-known-refusal
     enum-known-command
     write-reply-requires
-    serve-requires
+    serve-frame-requires
     same-length
     returns
     same-length-2

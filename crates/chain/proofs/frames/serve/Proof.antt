@@ -2,34 +2,36 @@
 -- Assumes nothing.
 use mathlib.Core.Path.{_≡_, sym, ap, _∙_}
 use mathlib.Core.Bool.{Bool, cond}
+use mathlib.Core.List.{[]}
 use mathlib.Core.Logic.{⊎-elim}
 use Prim.Native.Nat.{_+_, _-_, _*_, _≤_, _<_}
 use native.Mathlib.Nat.{add-zero}
 use native.Mathlib.Omega.{arith}
 use lib.ListN.{length}
 use Rattle.monitor.specs.Record.{recordSize}
-use Rattle.chain.specs.Frame.{payloadsIn, takenBy, kept}
-use Rattle.chain.proofs.Turns.{own, length-payloadsIn}
+use Rattle.monitor.specs.Commands.{payloadSize}
+use Rattle.wire.specs.Order.{writePayloads}
+use Rattle.wire.proofs.Order.{length-writePayloads, write-at}
 use Rattle.chain.proofs.EachActs.{Acted, acted-none, acted-more, acted-taken, acted-table}
 use Rattle.chain.proofs.frames.serve.Statement.{statement}
 use Rattle.chain.proofs.frames.serve.Tie as tie
 
 abbrev Inv-loop : tie.InvT-loop
-Inv-loop table₀ command n frame taken₀ k₀ table taken k = (k ≤ n) × Acted command table₀ (payloadsIn frame n) table k taken
+Inv-loop table₀ command n payloads taken₀ k₀ table taken k = (k ≤ n) × Acted command table₀ (writePayloads payloadSize n payloads) table k taken
 
 abbrev μ-loop : tie.MeasureT-loop
-μ-loop table₀ command n frame taken₀ k₀ table taken k = n - k
+μ-loop table₀ command n payloads taken₀ k₀ table taken k = n - k
 
 loop-holds : tie.Need-loop-holds Inv-loop μ-loop
 loop-holds c =
     let a = c .before .before .args in
-    (omega arith, acted-none (a .command) (a .table .now) (payloadsIn (a .frame .now) (a .n)))
+    (omega arith, acted-none (a .command) (a .table .now) (writePayloads payloadSize (a .n) (a .payloads .now)))
 
 payload-in-requires : tie.Need-payload-in-requires Inv-loop μ-loop
 payload-in-requires c κs = omega arith
 
-serve-at-requires : tie.Need-serve-at-requires Inv-loop μ-loop
-serve-at-requires c κs = tt
+act-at-requires : tie.Need-act-at-requires Inv-loop μ-loop
+act-at-requires c κs = tt
 
 add-taken : tie.Need-add-taken Inv-loop μ-loop
 add-taken c = omega arith
@@ -45,14 +47,14 @@ loop-again c =
     let a = c .before .before .before .before .before .before .before .before .before .before .args in
     let l = c .before .before .before .before .before .before .before .loop in
     let more = c .before .before .before .before .before .before .loop-test .taken in
-    let within : l .k < length (payloadsIn (a .frame .now) (a .n)) = omega (arith, length-payloadsIn (a .command) (a .n) (a .table .now) (a .frame .now)) in
+    let within : l .k < length (writePayloads payloadSize (a .n) (a .payloads .now)) = omega (arith, length-writePayloads payloadSize (a .n) (a .payloads .now)) in
     let fits : l .k * recordSize + recordSize ≤ length (a .table .now) = omega (arith, c .before .before .before .before .before .before .before .before .before .before .pre .0) in
-    let one : c .if1 .taken ≡ l .taken + cond (c .before .before .before .serve-at .result) 1 0 = ⊎-elim (λ w. w .1 ∙ ap (λ (b : Bool). l .taken + cond b 1 0) (sym (w .0 .taken))) (λ w. w .1 ∙ sym (add-zero (l .taken)) ∙ ap (λ (b : Bool). l .taken + cond b 1 0) (sym (w .0 .left))) (c .if1 .came) in (
+    let one : c .if1 .taken ≡ l .taken + cond (c .before .before .before .act-at .result) 1 0 = ⊎-elim (λ w. w .1 ∙ ap (λ (b : Bool). l .taken + cond b 1 0) (sym (w .0 .taken))) (λ w. w .1 ∙ sym (add-zero (l .taken)) ∙ ap (λ (b : Bool). l .taken + cond b 1 0) (sym (w .0 .left))) (c .if1 .came) in (
       omega arith,
-      acted-more (a .command) (a .table .now) (payloadsIn (a .frame .now) (a .n)) (l .k) within _ (l .inv .1) fits
-          (c .before .before .before .before .before .payload-in .ensures ∙ sym (own (a .command) (a .n) (a .table .now) (a .frame .now) (l .k) more))
-          (c .before .before .before .serve-at .ensures .0)
-          (c .before .before .before .serve-at .ensures .1)
+      acted-more (a .command) (a .table .now) (writePayloads payloadSize (a .n) (a .payloads .now)) (l .k) within _ (l .inv .1) fits
+          (c .before .before .before .before .before .payload-in .ensures ∙ sym (write-at payloadSize (a .n) (a .payloads .now) (l .k) [] more))
+          (c .before .before .before .act-at .ensures .0)
+          (c .before .before .before .act-at .ensures .1)
           one,
     )
 
@@ -60,12 +62,11 @@ same-length : tie.Need-same-length Inv-loop μ-loop
 same-length c = c .before .loop .inv .1 .filling .size
 
 returns : tie.Need-returns Inv-loop μ-loop
-unfolding takenBy kept
 returns c =
     let a = c .before .before .before .before .args in
     let l = c .before .loop in
-    let eights = payloadsIn (a .frame .now) (a .n) in
-    let as-many = length-payloadsIn (a .command) (a .n) (a .table .now) (a .frame .now) in
+    let eights = writePayloads payloadSize (a .n) (a .payloads .now) in
+    let as-many = length-writePayloads payloadSize (a .n) (a .payloads .now) in
     let last : l .k ≡ a .n = omega arith in (
       acted-taken (a .command) (a .table .now) eights (a .n) as-many last (l .inv .1),
       acted-table (a .command) (a .table .now) eights (a .n) as-many last (l .inv .1) (c .before .before .before .before .pre .0),
@@ -79,7 +80,7 @@ serve-spec =
     μ-loop
     loop-holds
     payload-in-requires
-    serve-at-requires
+    act-at-requires
     add-taken
     add-k
     loop-less

@@ -18,16 +18,20 @@ slice-read-was c = search needs
 lock-requires : tie.Need-lock-requires
 lock-requires c κs = search needs
 
-payload-right-requires : tie.Need-payload-right-requires
-payload-right-requires c κs = search needs
+number-in-requires : tie.Need-number-in-requires
+number-in-requires c κs = search needs
+
+number-right-requires : tie.Need-number-right-requires
+number-right-requires c κs = search needs
 
 count-requires : tie.Need-count-requires
 count-requires c κs = search needs
 
 write-requires : tie.Need-write-requires
 write-requires c κs =
-    let right = right-length (c .before .before .before .before .before .before .before .before .before .before .before .before .before .before .args .eight .now) (sym (c .before .before .before .before .before .before .payload-right .ensures) ∙ c .before .before .before .before .before .if1 .taken) in
-    (c .before .before .before .count .kept .0 ∙ c .before .before .before .before .before .before .before .before .before .lock .kept .0 ∙ c .before .before .before .before .before .before .before .before .before .before .before .before .before .before .pre, omega arith)
+    let s = c .before .before .before .before .before .before .before .before .before .before .before .before .before .before .before in
+    let right = right-length (s .args .eight .now) (sym (c .before .before .before .before .before .before .number-right .ensures ∙ c .before .before .before .before .before .before .before .number-in .ensures .1) ∙ c .before .before .before .before .before .if1 .taken) in
+    (c .before .before .before .count .kept .0 ∙ c .before .before .before .before .before .before .before .before .before .before .lock .kept .0 ∙ s .pre, omega arith)
 
 same-length : tie.Need-same-length
 same-length c = search needs
@@ -35,11 +39,11 @@ same-length c = search needs
 returns : tie.Need-returns
 unfolding byteOf
 returns c =
-    let a = c .before .before .before .before .before .before .before .before .before .before .before .before .before .before .before .before .before .args in
-    let right = sym (c .before .before .before .before .before .before .before .before .before .payload-right .ensures) ∙ c .before .before .before .before .before .before .before .before .if1 .taken in (
+    let a = c .before .before .before .before .before .before .before .before .before .before .before .before .before .before .before .before .before .before .args in
+    let right = sym (c .before .before .before .before .before .before .before .before .before .number-right .ensures ∙ c .before .before .before .before .before .before .before .before .before .before .number-in .ensures .1) ∙ c .before .before .before .before .before .before .before .before .if1 .taken in (
       sym right,
       c .before .before .write .ensures
-          ∙ ap (written (a .what) (byteOf unlocked (a .rec .now)) (a .eight .now)) (c .before .before .before .before .before .before .count .ensures ∙ ap counted (c .before .before .before .before .before .before .before .before .before .before .before .before .lock .ensures))
+          ∙ ap (written (a .what) (byteOf unlocked (a .rec .now)) (a .eight .now)) (c .before .before .before .before .before .before .count .ensures ∙ ap counted (c .before .before .before .before .before .before .before .before .before .before .before .before .before .lock .ensures))
           ∙ sym (keeps-right (a .what) (a .eight .now) (a .rec .now) right),
     )
 
@@ -48,9 +52,9 @@ same-length-2 c = search needs
 
 returns-2 : tie.Need-returns-2
 returns-2 c =
-    let a = c .before .before .before .before .before .before .before .before .before .args in
-    let wrong = sym (c .before .payload-right .ensures) ∙ c .if1 .left in
-    (sym wrong, c .before .before .before .before .lock .ensures ∙ sym (keeps-wrong (a .what) (a .eight .now) (a .rec .now) wrong))
+    let a = c .before .before .before .before .before .before .before .before .before .before .args in
+    let wrong = sym (c .before .number-right .ensures ∙ c .before .before .number-in .ensures .1) ∙ c .if1 .left in
+    (sym wrong, c .before .before .before .before .before .lock .ensures ∙ sym (keeps-wrong (a .what) (a .eight .now) (a .rec .now) wrong))
 
 pub act-write-spec : {M : Type 1} → statement M
 act-write-spec =
@@ -58,7 +62,8 @@ act-write-spec =
     (tie.spec
     slice-read-was
     lock-requires
-    payload-right-requires
+    number-in-requires
+    number-right-requires
     count-requires
     write-requires
     same-length

@@ -9,7 +9,7 @@ use Rattle.laws.specs.Bits.{_⊕_, odd, bitsOf}
 use Rattle.laws.proofs.Tests.{same-test}
 use Rattle.laws.proofs.Xor.{zero-xor, xor-same, xor-twice}
 use Rattle.pec.specs.Remainder.{once, step, remainder}
-use Rattle.pec.specs.Words.{polynomial10}
+use Rattle.pec.specs.Words.{polynomial10, numberRight}
 use Rattle.pec.proofs.ManyBits.{from-start}
 use Rattle.pec.proofs.by_shifts.nothing_left.Statement.{statement}
 use Rattle.pec.proofs.by_shifts.nothing_left.Tie as tie
@@ -26,6 +26,7 @@ remainder-10-requires : tie.Need-remainder-10-requires
 remainder-10-requires c κs = search needs
 
 returns : tie.Need-returns
+unfolding numberRight
 returns c =
     sum-is-zero (c .remainder-10 .result) 0x04c
     ∙ ap (λ (n : ℕ). eqb n 0) (ap₂ _⊕_ (c .remainder-10 .ensures) (sym of-zeros) ∙ from-start 10 polynomial10 16 64 (c .before .args .payload))

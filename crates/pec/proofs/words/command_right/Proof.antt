@@ -1,7 +1,7 @@
 -- `pec::words::command_right` meets its contract: of the four bytes as one number the 16 high bits are the command, and the low ones
 -- what is sent of its check.
 -- Assumes nothing.
-use mathlib.Core.Path.{_≡_, sym, ap, ap₂, _∙_, subst⁻¹}
+use mathlib.Core.Path.{_≡_, sym, ap, ap₂, _∙_, subst}
 use mathlib.Core.Bool.{Bool, _&&_}
 use mathlib.Core.List.{List}
 use Prim.Native.Nat.{ℕ, _+_, _*_, _/_, _%_, _^_, _<_}
@@ -13,7 +13,7 @@ use borrow.Author.Tests.{eq-eqb, ne-eqb}
 use Rattle.laws.specs.Bits.{bitsOf, numberOf}
 use Rattle.pec.specs.Remainder.{remainder}
 use Rattle.pec.specs.Words.{wordAt, polynomial15, pec15, commandRight}
-use Rattle.pec.proofs.Messages.{bytes-of-take, number-fits, word-below, last-two, command-message}
+use Rattle.pec.proofs.Messages.{bytes-of-take, word-below, last-two, command-message}
 use borrow.Author.Needs.{needs}
 use Rattle.pec.proofs.words.command_right.Statement.{statement}
 use Rattle.pec.proofs.words.command_right.Tie as tie
@@ -41,9 +41,7 @@ number-of-requires c κs = search needs
 
 cast-of-command : tie.Need-cast-of-command
 cast-of-command c =
-    let s = c .before .before in
-    let below : c .number-of .result < 2 ^ 32 = subst⁻¹ (λ (n : ℕ). n < 2 ^ 32) (c .number-of .ensures)
-    (number-fits (s .before .args .four .now) (λ i. s .shared-slice-known .given i .fits) 4 (c .before .if1 .left)) in
+    let below : c .number-of .result < 2 ^ 32 = subst (λ (n : ℕ). c .number-of .result < 2 ^ (8 * n)) (c .before .if1 .left) (c .number-of .ensures .1) in
     omega arith
 
 of-command-requires : tie.Need-of-command-requires
@@ -62,7 +60,7 @@ returns-2 c =
     let four = s .before .args .four .now in
     let bytes : (i : ℕ) → getD four i 0 < 256 = λ i. s .shared-slice-known .given i .fits in
     let whole = c .before .before .if1 .left in
-    let number = c .before .number-of .ensures in
+    let number = c .before .number-of .ensures .0 in
     ap₂ (λ (x y : ℕ). eqb x (y * 2)) (ap (λ (n : ℕ). n % 65536) number ∙ sent four bytes whole)
     (c .of-command .ensures ∙ ap (λ (n : ℕ). remainder 15 polynomial15 16 (bitsOf 16 (n / 65536))) number ∙ check four bytes whole)
     ∙ sym (ap (λ (b : Bool). b && eqb (wordAt four 2) (pec15 (take 2 four) * 2)) (eq-eqb (length four) 4 whole))

@@ -1,46 +1,34 @@
 -- `pec::words::data_pec` meets its contract: six bytes and six bits are a message of 54, and the six bits of a counter are those of its
 -- remainder by 64.
 -- Assumes nothing.
-use mathlib.Core.Path.{_≡_, ap, _∙_, subst⁻¹}
-use mathlib.Core.Bool.{Bool}
-use mathlib.Core.List.{List, _++_}
+use mathlib.Core.Path.{_≡_, ap, _∙_}
 use Prim.Native.Nat.{ℕ, _+_, _*_, _%_, _^_, _<_}
 use native.Mathlib.Nat.{mod-lt}
 use native.Mathlib.Omega.{arith}
 use lib.Dec.{lit<}
-use Rattle.laws.specs.Bits.{bitsOf, bitsOfBytes}
-use Rattle.laws.proofs.Bits.{bits-mod}
+use Rattle.laws.specs.Bits.{bitsOf}
 use Rattle.pec.specs.Remainder.{remainder}
 use Rattle.pec.specs.Words.{polynomial10, dataPec}
-use Rattle.pec.proofs.Messages.{number-fits, data-message}
+use Rattle.pec.proofs.CheckWords.{counter-bits}
+use Rattle.pec.proofs.Messages.{data-message}
 use borrow.Author.Needs.{needs}
 use Rattle.pec.proofs.words.data_pec.Statement.{statement}
 use Rattle.pec.proofs.words.data_pec.Tie as tie
 
-same-bits : (bytes : List ℕ) (counter : ℕ) → dataPec bytes (counter % 64) ≡ dataPec bytes counter
-unfolding dataPec
-same-bits bytes counter = ap (λ (bs : List Bool). remainder 10 polynomial10 16 (bitsOfBytes bytes ++ bs)) (bits-mod 6 counter)
-
-number-of-requires : tie.Need-number-of-requires
-number-of-requires c κs = search needs
-
--- six bytes make a number of 48 bits
-below : (c : tie.After-number-of) → c .number-of .result < 2 ^ 48
-below c =
-    let s = c .before .before in
-    subst⁻¹ (λ (n : ℕ). n < 2 ^ 48) (c .number-of .ensures) (number-fits (s .before .args .bytes .now) (λ i. s .shared-slice-known .given i .fits) 6 (c .before .if1 .taken))
+number-of-six-requires : tie.Need-number-of-six-requires
+number-of-six-requires c κs = search needs
 
 mul-of-message : tie.Need-mul-of-message
-mul-of-message c = omega (arith, below c)
+mul-of-message c = omega (arith, c .number-of-six .ensures .1)
 
 cast-of-message : tie.Need-cast-of-message
 cast-of-message c = search needs
 
 add-of-message : tie.Need-add-of-message
-add-of-message c = omega (arith, below c)
+add-of-message c = omega (arith, c .number-of-six .ensures .1)
 
 of-message-requires : tie.Need-of-message-requires
-of-message-requires c κs = omega (arith, below c)
+of-message-requires c κs = omega (arith, c .number-of-six .ensures .1)
 
 returns : tie.Need-returns
 unfolding dataPec
@@ -48,9 +36,9 @@ returns c =
     let s = c .before .before .before in
     let a = s .before .args in
     c .of-message .ensures
-    ∙ ap (λ (n : ℕ). remainder 10 polynomial10 16 (bitsOf 54 (n * 64 + a .counter % 64))) (c .before .number-of .ensures)
+    ∙ ap (λ (n : ℕ). remainder 10 polynomial10 16 (bitsOf 54 (n * 64 + a .counter % 64))) (c .before .number-of-six .ensures .0)
     ∙ data-message (a .bytes .now) (a .counter % 64) (λ i. s .shared-slice-known .given i .fits) (c .before .before .if1 .taken) (mod-lt (a .counter) (lit< tt))
-    ∙ same-bits (a .bytes .now) (a .counter)
+    ∙ counter-bits (a .bytes .now) (a .counter)
 
 cast-pec10-and-bits : tie.Need-cast-pec10-and-bits
 cast-pec10-and-bits c = search needs
@@ -62,13 +50,13 @@ returns-2 : tie.Need-returns-2
 unfolding dataPec
 returns-2 c =
     let a = c .before .before .before .args in
-    c .pec10-and-bits .ensures ∙ same-bits (a .bytes .now) (a .counter)
+    c .pec10-and-bits .ensures ∙ counter-bits (a .bytes .now) (a .counter)
 
 pub data-pec-spec : {M : Type 1} → statement M
 data-pec-spec =
     tie.close
     (tie.spec
-    number-of-requires
+    number-of-six-requires
     mul-of-message
     cast-of-message
     add-of-message

@@ -35,9 +35,11 @@ module _ (bytes : List ℕ) {n i : ℕ} (l : Leads bytes n i) where
         leads = sym (ap (numberFrom n) (drop-cons bytes i 0 h ∙ ap (λ (k : ℕ). getD bytes i 0 ∷ drop k bytes) (sym (add-one i)))) ∙ l .leads;
       }
 
-  done : length bytes ≤ i → n ≡ numberOf bytes
+  done : length bytes ≤ i → (n ≡ numberOf bytes) × (n < 2 ^ (8 * length bytes))
   unfolding numberFrom
-  done h = ap (numberFrom n) (sym (drop-of-length-le bytes h)) ∙ l .leads
+  done h =
+      let last : i ≡ length bytes = omega (arith, l .within) in
+      (ap (numberFrom n) (sym (drop-of-length-le bytes h)) ∙ l .leads, subst (λ (k : ℕ). n < 2 ^ (8 * k)) last (l .below))
 
 abbrev Inv-loop : tie.InvT-loop
 Inv-loop bytes n₀ i₀ n i = Leads bytes n i

@@ -1,0 +1,206 @@
+//! Before anything is timed: the contestants give the same answers and leave the same bytes, on damaged inputs too. It makes sure that
+//! all of them do the same work; compare/ is the test of the library.
+
+use crate::inputs::{host_frame, values_for, Random, BARE, INPUTS, READS, RECORD, WRITES};
+use crate::measure::State;
+use crate::sides::{words, Side};
+
+const TABLES: usize = 1500;
+const FRAMES_EACH: usize = 8;
+const CANARY: u8 = 0xa5;
+
+/// Everything that one contestant keeps through the frames of a table.
+struct Kept {
+    side: Side,
+    table: Vec<u8>,
+    reply: Vec<u8>,
+    state: State,
+}
+
+fn fail(what: &str, one: &str, other: &str, case: String) -> ! {
+    eprintln!("bench: {what}: {one} and {other} differ\n{case}");
+    std::process::exit(1);
+}
+
+/// Asks all contestants the same and ends the run where one of them differs from the first.
+fn same<T: PartialEq + std::fmt::Debug>(what: &str, kept: &mut [Kept], case: &dyn Fn() -> String, mut ask: impl FnMut(&mut Kept) -> T) {
+    let first = ask(&mut kept[0]);
+    for i in 1..kept.len() {
+        let other = ask(&mut kept[i]);
+        if other != first {
+            fail(what, kept[0].side.name, kept[i].side.name, format!("{}\n{first:02x?}\n{other:02x?}", case()));
+        }
+    }
+}
+
+fn any_command(random: &mut Random) -> u16 {
+    match random.below(3) {
+        0 => READS[random.below(READS.len())],
+        1 => WRITES[random.below(WRITES.len())],
+        _ => BARE[random.below(BARE.len())],
+    }
+}
+
+fn any_frame(side: &Side, n: usize, random: &mut Random) -> Vec<u8> {
+    let command = any_command(random);
+    let mut frame = host_frame(side, command, n, random);
+    let payloads = if WRITES.contains(&command) { n } else { 0 };
+    if payloads > 0 && random.below(4) == 0 {
+        // Counter bits that our host would not send, with the PEC that is right for them.
+        let at = 4 + 8 * random.below(payloads);
+        let counter = random.below(64) as u8;
+        let pec = unsafe { words::plain_data_pec10(frame[at..].as_ptr(), 6, counter) };
+        frame[at + 6] = counter << 2 | (pec >> 8) as u8;
+        frame[at + 7] = pec as u8;
+    }
+    match random.below(10) {
+        0 => {
+            let at = random.below(frame.len());
+            frame[at] ^= 1 << random.below(8);
+        }
+        1 => frame.truncate(random.below(frame.len())),
+        2 => {
+            let more = 1 + random.below(20);
+            frame.extend(random.bytes(more));
+        }
+        3 => {
+            let code = random.below(0x800) as u16;
+            frame[..2].copy_from_slice(&code.to_be_bytes());
+            let pec = unsafe { words::plain_command_pec(frame.as_ptr(), 2) };
+            frame[2..4].copy_from_slice(&(pec << 1).to_be_bytes());
+        }
+        _ => {}
+    }
+    frame
+}
+
+fn any_table(n: usize, random: &mut Random) -> Vec<u8> {
+    let mut table = random.sound_table(n);
+    match random.below(40) {
+        0 => table[random.below(n) * RECORD + 68] = 64 + random.below(192) as u8,
+        1 => table[random.below(n) * RECORD + 69] = 2 + random.below(254) as u8,
+        2 => table.truncate(random.below(n * RECORD)),
+        _ => {}
+    }
+    table
+}
+
+fn frames(sides: &[Side], random: &mut Random) {
+    for _ in 0..TABLES {
+        let n = 1 + random.below(32);
+        let table = any_table(n, random);
+        let mut kept: Vec<Kept> =
+            sides.iter().map(|&side| Kept { side, table: table.clone(), reply: vec![CANARY; 300], state: State::new() }).collect();
+        for k in &mut kept {
+            unsafe { (k.side.clock_start)(k.state.0.as_mut_ptr()) };
+        }
+        for _ in 0..FRAMES_EACH {
+            let frame = any_frame(&sides[0], n, random);
+            let room = [8 * n, 8 * n, 300, 8 * n - 1][random.below(4)];
+            let before = kept[0].table.clone();
+            let case = || format!("N = {n}, room {room}, frame {frame:02x?}\ntable {before:02x?}");
+            if random.below(2) == 0 {
+                same("frame", &mut kept, &case, |k| {
+                    let (table, reply) = (&mut k.table, &mut k.reply);
+                    let answer =
+                        unsafe { (k.side.frame)(table.as_mut_ptr(), table.len(), frame.as_ptr(), frame.len(), reply.as_mut_ptr(), room) };
+                    (answer, table.clone(), reply.clone())
+                });
+            } else {
+                clocked(&mut kept, n, &frame, &case, random);
+            }
+            let codes = random.codes(16);
+            let position = random.below(n + 2);
+            same("load", &mut kept, &case, |k| {
+                let table = &mut k.table;
+                let answer = unsafe { (k.side.load)(table.as_mut_ptr(), table.len(), position, codes.as_ptr(), codes.len()) };
+                (answer, table.clone())
+            });
+        }
+    }
+}
+
+/// A frame through the clocked engine, with the windows looked at after some of the bytes.
+fn clocked(kept: &mut [Kept], n: usize, frame: &[u8], case: &dyn Fn() -> String, random: &mut Random) {
+    for &byte in frame {
+        same("clocked byte", kept, case, |k| unsafe { (k.side.clock_byte)(k.state.0.as_mut_ptr(), k.table.as_ptr(), k.table.len(), byte) });
+        if random.below(8) == 0 {
+            for position in 0..n + 2 {
+                let room = random.below(12);
+                same("window", kept, case, |k| {
+                    let mut out = [CANARY; 12];
+                    let answer = unsafe { (k.side.clock_window)(k.state.0.as_ptr(), position, out.as_mut_ptr(), room) };
+                    (answer, out)
+                });
+            }
+        }
+    }
+    same("release", kept, case, |k| {
+        let answer = unsafe { (k.side.clock_release)(k.state.0.as_mut_ptr(), k.table.as_mut_ptr(), k.table.len()) };
+        (answer, k.table.clone())
+    });
+}
+
+fn hosts(sides: &[Side], random: &mut Random) {
+    for _ in 0..TABLES {
+        let (command, n) = (any_command(random), random.below(34));
+        let one_more = usize::from(random.below(10) == 0);
+        let values = random.bytes(values_for(command, n) + one_more);
+        let room = [4 + 8 * n, 300, 3 + 8 * n][random.below(3)];
+        let build = |side: &Side| {
+            let mut out = [CANARY; 300];
+            let answer = unsafe { (side.host_frame)(command, n, values.as_ptr(), values.len(), out.as_mut_ptr(), room) };
+            (answer, out)
+        };
+        for side in &sides[1..] {
+            if build(side) != build(&sides[0]) {
+                fail("host frame", sides[0].name, side.name, format!("{command:04x}, N = {n}, room {room}, values {values:02x?}"));
+            }
+        }
+    }
+}
+
+fn check_words(sides: &[Side], random: &mut Random) {
+    let turned = |bytes: &[u8]| bytes.iter().map(|b| b.reverse_bits()).collect::<Vec<u8>>();
+    for _ in 0..TABLES {
+        let length = random.below(70);
+        let bytes = random.bytes(length);
+        let ways = words::ways();
+        let both = |way: &words::Way| {
+            let lent = if way.reversed { turned(&bytes) } else { bytes.clone() };
+            ((way.command)(&lent), (way.data)(&lent))
+        };
+        for way in &ways[1..] {
+            if both(way) != both(&ways[0]) {
+                fail("check words", ways[0].name, way.name, format!("{bytes:02x?}: {:03x?}, {:03x?}", both(&ways[0]), both(way)));
+            }
+        }
+        let mut payload = random.bytes(8);
+        if random.below(4) != 0 {
+            let pec = unsafe { words::plain_data_pec10(payload.as_ptr(), 6, payload[6] >> 2) };
+            payload[6] = payload[6] & 0xfc | (pec >> 8) as u8;
+            payload[7] = pec as u8;
+        }
+        let length = if random.below(INPUTS) == 0 { random.below(9) } else { 8 };
+        let first = unsafe { (sides[0].check)(payload.as_ptr(), length) };
+        for side in &sides[1..] {
+            if unsafe { (side.check)(payload.as_ptr(), length) } != first {
+                fail("check", sides[0].name, side.name, format!("{payload:02x?}"));
+            }
+        }
+        if let Some(crcutil) = words::crcutil() {
+            if unsafe { (crcutil.check)(turned(&payload).as_ptr(), length) } != first {
+                fail("check", sides[0].name, "crcutil", format!("{payload:02x?}"));
+            }
+        }
+    }
+}
+
+/// How many inputs all contestants agreed on.
+pub fn agree(sides: &[Side]) -> usize {
+    let mut random = Random(6830);
+    check_words(sides, &mut random);
+    hosts(sides, &mut random);
+    frames(sides, &mut random);
+    3 * TABLES + 2 * TABLES * FRAMES_EACH
+}

@@ -1,0 +1,100 @@
+//! Inputs by a fixed seed: tables, frames, codes.
+
+use crate::sides::Side;
+
+pub const RECORD: usize = 70;
+/// So many inputs take turns in each measure, so that no predictor of the machine learns a single one.
+pub const INPUTS: usize = 16;
+/// The chains that frames are timed at.
+pub const SIZES: [usize; 3] = [1, 8, 32];
+
+pub const READS: [u16; 12] = [0x02, 0x26, 0x04, 0x06, 0x08, 0x0a, 0x09, 0x0b, 0x32, 0x33, 0x2c, 0x3a];
+pub const WRITES: [u16; 5] = [0x01, 0x24, 0x39, 0x717, 0x715];
+pub const BARE: [u16; 5] = [0x28, 0x29, 0x2e, 0x38, 0x711];
+pub const RDCVA: u16 = 0x04;
+pub const WRCFGB: u16 = 0x24;
+pub const MUTE: u16 = 0x28;
+
+/// splitmix64.
+pub struct Random(pub u64);
+
+impl Random {
+    pub fn next(&mut self) -> u64 {
+        self.0 = self.0.wrapping_add(0x9e37_79b9_7f4a_7c15);
+        let mut z = self.0;
+        z = (z ^ (z >> 30)).wrapping_mul(0xbf58_476d_1ce4_e5b9);
+        z = (z ^ (z >> 27)).wrapping_mul(0x94d0_49bb_1331_11eb);
+        z ^ (z >> 31)
+    }
+
+    pub fn below(&mut self, end: usize) -> usize {
+        (self.next() % end as u64) as usize
+    }
+
+    pub fn bytes(&mut self, length: usize) -> Vec<u8> {
+        (0..length).map(|_| self.next() as u8).collect()
+    }
+
+    pub fn codes(&mut self, length: usize) -> Vec<i16> {
+        (0..length).map(|_| (self.next() as i16).max(-32767)).collect()
+    }
+
+    pub fn sound_table(&mut self, n: usize) -> Vec<u8> {
+        let mut table = self.bytes(n * RECORD);
+        for record in table.chunks_mut(RECORD) {
+            record[68] %= 64;
+            record[69] %= 2;
+        }
+        table
+    }
+}
+
+/// How many value bytes the host needs for a command.
+pub fn values_for(command: u16, n: usize) -> usize {
+    if WRITES.contains(&command) {
+        6 * n
+    } else {
+        0
+    }
+}
+
+pub fn host_frame(side: &Side, command: u16, n: usize, random: &mut Random) -> Vec<u8> {
+    let values = random.bytes(values_for(command, n));
+    let mut out = vec![0; 4 + 8 * n];
+    let answer = unsafe { (side.host_frame)(command, n, values.as_ptr(), values.len(), out.as_mut_ptr(), out.len()) };
+    assert!(answer & 0xff == 0, "{}: host frame {command:04x} at N = {n} refused with {}", side.name, answer & 0xff);
+    out.truncate((answer >> 16) as usize);
+    out
+}
+
+/// Frames of one kind for a chain of N, to be handled in turn.
+pub struct Frames {
+    pub writes: Vec<Vec<u8>>,
+    pub reads: Vec<Vec<u8>>,
+    /// Sixteen different commands, of all three kinds.
+    pub mixed: Vec<Vec<u8>>,
+    /// Refusal 3.
+    pub command_wrong: Vec<Vec<u8>>,
+    /// Refusal 5: the last byte of a write is missing.
+    pub length_wrong: Vec<Vec<u8>>,
+}
+
+impl Frames {
+    pub fn new(side: &Side, n: usize, random: &mut Random) -> Frames {
+        let several =
+            |random: &mut Random, command: u16| -> Vec<Vec<u8>> { (0..INPUTS).map(|_| host_frame(side, command, n, random)).collect() };
+        let writes = several(random, WRCFGB);
+        let mut reads = several(random, RDCVA);
+        for frame in &mut reads {
+            frame[4..].copy_from_slice(&random.bytes(8 * n));
+        }
+        let order = [0x01, 0x02, 0x28, 0x0b, 0x38, 0x39, 0x3a, 0x24, 0x04, 0x717, 0x32, 0x29, 0x715, 0x33, 0x711, 0x2c];
+        let mixed = order.iter().map(|&command| host_frame(side, command, n, random)).collect();
+        let mut command_wrong = writes.clone();
+        for frame in &mut command_wrong {
+            frame[2] ^= 1 + random.below(255) as u8;
+        }
+        let length_wrong = writes.iter().map(|frame| frame[..frame.len() - 1].to_vec()).collect();
+        Frames { writes, reads, mixed, command_wrong, length_wrong }
+    }
+}

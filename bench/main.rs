@@ -1,0 +1,36 @@
+//! The library timed against plain programs, in one process and one run, with the same inputs in the same order for all.
+//! It ends with 0 also where a goal is missed, and with 1 where two contestants differ in a result.
+
+mod agree;
+mod check_words;
+mod clocked;
+mod frames;
+mod growth;
+mod inputs;
+mod measure;
+mod rounds;
+mod sides;
+mod table;
+mod work;
+
+use inputs::INPUTS;
+use rounds::{LEAST_ROUND_MS, ROUNDS};
+
+fn main() {
+    let sides = sides::all();
+    let names: Vec<&str> = sides.iter().map(|s| s.name).collect();
+    let agreed = agree::agree(&sides);
+    println!("- Results: {agreed} inputs of a fixed seed, damaged ones among them, had the same answers and bytes from all; so had");
+    println!("  each measure, before it and after it.");
+    println!("- Method: {ROUNDS} rounds of at least {LEAST_ROUND_MS} ms for each contestant; they take turns within a round, and each");
+    println!("  round starts with another one. {INPUTS} inputs in rotation. The clock is the thread's processor time.");
+    println!("- Buffers were not cleared between calls: tables, replies and states persist, so counters move on.");
+    println!("- A cell is the median in ns (the smallest; the width of the middle half, as a part of the median). Ratios are of");
+    println!("  medians, of osk to the best of the plain programs: {}.", names[1..].join(", "));
+    let mut random = inputs::Random(2024);
+    check_words::through_the_surface(&sides, &mut random);
+    check_words::bare(&mut random);
+    frames::whole(&sides, &names, &mut random);
+    clocked::bytes(&sides, &names, &mut random);
+    growth::growth(&sides, &mut random);
+}

@@ -1,0 +1,211 @@
+//! The same call to the library and to the model, and everything compared after it. The clocked engine has a file of its own.
+
+use crate::difference::{listed, refused, Difference, Faults};
+use crate::inputs::{shape, Shape, RECORD};
+use crate::lent::{Both, Lent};
+use crate::run::{Done, Run};
+use crate::surface::{self, Function};
+use crate::tally::Situation;
+
+pub type Answered = Result<u32, Box<Difference>>;
+
+/// The reply buffer has `room` bytes.
+pub fn frame(run: &mut Run, table: &mut Both<u8>, frame: &[u8], room: usize) -> Answered {
+    let mut reply = reply_buffer(run, room);
+    frame_into(run, table, frame, &mut reply)
+}
+
+pub fn reply_buffer(run: &mut Run, room: usize) -> Both<u8> {
+    let filled = run.random.bytes(room);
+    Both::new(&mut run.random, &filled)
+}
+
+pub fn frame_into(run: &mut Run, table: &mut Both<u8>, frame: &[u8], reply: &mut Both<u8>) -> Answered {
+    table.lend();
+    reply.lend();
+    let lent_frame = Lent::new(&mut run.random, frame);
+    run.begin();
+    let library = surface::frame(table.library.part_mut(), lent_frame.part(), reply.library.part_mut());
+    let model = model::frame(&mut table.model, frame, &mut reply.model);
+
+    let mut faults = Faults::new();
+    faults.answer(library, model);
+    faults.written("table", table, refused(library));
+    faults.written("reply", reply, refused(library));
+    faults.kept("frame", &lent_frame, frame);
+    run.settle(Function::Frame, library, faults, || {
+        vec![("table", listed(&table.before)), ("frame", listed(frame)), ("reply", listed(&reply.before))]
+    })?;
+    if !refused(library) {
+        let code = u16::from_be_bytes([frame[0], frame[1]]);
+        run.tally.accepted_whole(code);
+        note_effects(run, code, library, table);
+    }
+    Ok(library)
+}
+
+/// Which situations an accepted frame was, read off the table before and after.
+pub fn note_effects(run: &mut Run, code: u16, answer: u32, table: &Both<u8>) {
+    let monitors = table.before.len() / RECORD;
+    let took = (answer >> 8 & 0xFF) as usize;
+    if shape(code) == Some(Shape::Write) && took < monitors {
+        run.tally.saw(if took == 0 { Situation::TakenByNone } else { Situation::TakenBySome });
+    }
+    for (before, after) in table.before.chunks(RECORD).zip(table.contents().chunks(RECORD)) {
+        let taken = before[68] != after[68];
+        if before[68] == 63 && after[68] == 1 {
+            run.tally.saw(Situation::CounterAfter63);
+        }
+        if code == 0x0001 && taken && before[5] & 0x10 != 0 {
+            run.tally.saw(Situation::WrcfgaWhileMuted);
+        }
+        if code == 0x0039 && taken {
+            run.tally.saw(if before[69] == 1 { Situation::WrrrStores } else { Situation::WrrrLocked });
+        }
+    }
+}
+
+pub fn load(run: &mut Run, table: &mut Both<u8>, position: usize, codes: &[i16]) -> Answered {
+    table.lend();
+    let lent_codes = Lent::new(&mut run.random, codes);
+    run.begin();
+    let library = surface::load(table.library.part_mut(), position, lent_codes.part());
+    let model = model::load(&mut table.model, position, codes);
+
+    let mut faults = Faults::new();
+    faults.answer(library, model);
+    faults.written("table", table, refused(library));
+    faults.kept("codes", &lent_codes, codes);
+    run.settle(Function::Load, library, faults, || {
+        vec![("table", listed(&table.before)), ("position", position.to_string()), ("codes", listed(codes))]
+    })?;
+    if !refused(library) {
+        note_flags(run, table, position);
+    }
+    Ok(library)
+}
+
+fn note_flags(run: &mut Run, table: &Both<u8>, position: usize) {
+    let flags_from = (position - 1) * RECORD + 50;
+    for at in flags_from..flags_from + 4 {
+        let (before, after) = (table.before[at], table.contents()[at]);
+        let set = after & !before;
+        if set & 0x55 != 0 {
+            run.tally.saw(Situation::LoadSetsUv);
+        }
+        if set & 0xAA != 0 {
+            run.tally.saw(Situation::LoadSetsOv);
+        }
+        if before != 0 && set == 0 {
+            run.tally.saw(Situation::LoadKeepsFlag);
+        }
+    }
+}
+
+/// The buffer to build in has `room` bytes. Gives the answer and the bytes of the buffer.
+pub fn host_frame(run: &mut Run, command: u16, monitors: usize, values: &[u8], room: usize) -> Result<(u32, Vec<u8>), Box<Difference>> {
+    let lent_values = Lent::new(&mut run.random, values);
+    let mut out = reply_buffer(run, room);
+    run.begin();
+    let library = surface::host_frame(command, monitors, lent_values.part(), out.library.part_mut());
+    let model = model::host_frame(command, monitors, values, &mut out.model);
+
+    let mut faults = Faults::new();
+    faults.answer(library, model);
+    faults.written("out", &out, refused(library));
+    faults.kept("values", &lent_values, values);
+    run.settle(Function::HostFrame, library, faults, || {
+        vec![
+            ("command", format!("{command:04X}")),
+            ("monitors", monitors.to_string()),
+            ("values", listed(values)),
+            ("out", listed(&out.before)),
+        ]
+    })?;
+    Ok((library, out.contents().to_vec()))
+}
+
+pub fn check(run: &mut Run, payload: &[u8]) -> Answered {
+    let lent = Lent::new(&mut run.random, payload);
+    run.begin();
+    let library = surface::check(lent.part());
+
+    let mut faults = Faults::new();
+    faults.answer(library, model::check(payload));
+    faults.kept("payload", &lent, payload);
+    run.settle(Function::Check, library, faults, || vec![("payload", listed(payload))])?;
+    match library >> 8 {
+        1 => run.tally.saw(Situation::PayloadRight),
+        2 => run.tally.saw(Situation::PayloadDamaged),
+        _ => {}
+    }
+    Ok(library)
+}
+
+pub fn two_ports(run: &mut Run, a: &[u8], b: &[u8], monitors: usize, position: usize) -> Answered {
+    let lent_a = Lent::new(&mut run.random, a);
+    let lent_b = Lent::new(&mut run.random, b);
+    run.begin();
+    let library = surface::two_ports(lent_a.part(), lent_b.part(), monitors, position);
+
+    let mut faults = Faults::new();
+    faults.answer(library, model::two_ports(a, b, monitors, position));
+    faults.kept("a", &lent_a, a);
+    faults.kept("b", &lent_b, b);
+    run.settle(Function::TwoPorts, library, faults, || {
+        vec![("a", listed(a)), ("b", listed(b)), ("monitors", monitors.to_string()), ("position", position.to_string())]
+    })?;
+    match library >> 8 & 0xFF {
+        1 => run.tally.saw(Situation::PortA),
+        2 => run.tally.saw(Situation::PortB),
+        _ => {}
+    }
+    Ok(library)
+}
+
+pub fn microvolts(run: &mut Run, code: i16) -> Done {
+    run.begin();
+    let (library, model) = (surface::microvolts(code), model::microvolts(code));
+    let mut faults = Faults::new();
+    if library != model {
+        faults.add(format!("result: library {library}, model {model}"));
+    }
+    run.settle(Function::Microvolts, 0, faults, || vec![("code", code.to_string())])?;
+    Ok(())
+}
+
+/// Bit for bit, but that any NaN will do for a cleared cell.
+pub fn volts(run: &mut Run, code: i16) -> Done {
+    run.begin();
+    let (library, model) = (surface::volts(code), model::volts(code));
+    let mut faults = Faults::new();
+    if library.to_bits() != model.to_bits() && !(library.is_nan() && model.is_nan()) {
+        let bits = |volts: f64| format!("{:016X} ({volts:?})", volts.to_bits());
+        faults.add(format!("result: library {}, model {}", bits(library), bits(model)));
+    }
+    run.settle(Function::Volts, 0, faults, || vec![("code", code.to_string())])?;
+    Ok(())
+}
+
+/// The buffer for the summary has `room` places, with any bits in them.
+pub fn summary(run: &mut Run, codes: &[i16], room: usize) -> Answered {
+    let lent_codes = Lent::new(&mut run.random, codes);
+    let filled: Vec<f64> = (0..room).map(|_| f64::from_bits(run.random.next())).collect();
+    let mut out = Both::new(&mut run.random, &filled);
+    run.begin();
+    let library = surface::summary(lent_codes.part(), out.library.part_mut());
+    let model = model::summary(codes, &mut out.model);
+
+    let mut faults = Faults::new();
+    faults.answer(library, model);
+    // A summary of "none" leaves `out` as it was lent, like a refusal.
+    faults.written("out", &out, refused(library) || library == 0);
+    faults.kept("codes", &lent_codes, codes);
+    run.settle(Function::Summary, library, faults, || vec![("codes", listed(codes)), ("out", listed(&out.before))])?;
+    match library {
+        0 => run.tally.saw(Situation::SummaryOfNone),
+        1..=0xFF => {}
+        _ => run.tally.saw(Situation::Summary),
+    }
+    Ok(library)
+}

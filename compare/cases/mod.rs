@@ -1,0 +1,26 @@
+//! The kinds of case, one file each. A round runs every kind once; what is random in them differs from round to round.
+
+mod clocked;
+mod frames;
+mod host_frames;
+mod loads;
+mod long_runs;
+mod never_started;
+mod payloads;
+mod readings;
+mod tables;
+
+use crate::run::{Done, Run};
+use crate::tally::NEVER_STARTED;
+
+pub const KINDS: [(&str, fn(&mut Run) -> Done); 9] = [
+    ("frames", frames::cases),
+    ("tables", tables::cases),
+    ("loads", loads::cases),
+    ("host frames", host_frames::cases),
+    ("payloads", payloads::cases),
+    ("readings", readings::cases),
+    ("clocked", clocked::cases),
+    ("long runs", long_runs::cases),
+    (NEVER_STARTED, never_started::cases),
+];

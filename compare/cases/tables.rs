@@ -1,0 +1,74 @@
+//! What makes a table sound: its length, and two bytes of each record. Tried on each of the four functions that are lent a table.
+
+use crate::both::{frame, load};
+use crate::clocks::Clocks;
+use crate::inputs::{self, head, MOST, RECORD};
+use crate::lent::{Both, Lent};
+use crate::run::{Done, Run};
+
+const RSTCC: u16 = 0x002E;
+
+pub fn cases(run: &mut Run) -> Done {
+    let mut clocks = Clocks::new(run)?;
+    lengths(run, &mut clocks)?;
+    each_value(run, &mut clocks)?;
+    each_record(run, &mut clocks)
+}
+
+/// A bare command, a load, and a bare command clocked with this table at byte four and at the release.
+fn try_table(run: &mut Run, clocks: &mut Clocks, bytes: &[u8]) -> Done {
+    let mut table = Both::new(&mut run.random, bytes);
+    frame(run, &mut table, &head(RSTCC), 0)?;
+    let mut table = Both::new(&mut run.random, bytes);
+    load(run, &mut table, 1, &[0; 16])?;
+
+    let lent = Lent::new(&mut run.random, bytes);
+    for byte in head(RSTCC) {
+        clocks.byte(run, &lent, bytes, byte)?;
+    }
+    let mut table = Both::new(&mut run.random, bytes);
+    clocks.release(run, &mut table)?;
+    Ok(())
+}
+
+fn lengths(run: &mut Run, clocks: &mut Clocks) -> Done {
+    for monitors in (0..=40).chain([64, 65, 128, 255, 256, 257, 288]) {
+        let records = inputs::table(&mut run.random, monitors + 1);
+        let whole = RECORD * monitors;
+        for length in [whole.saturating_sub(1), whole, whole + 1, whole + run.random.below(RECORD)] {
+            try_table(run, clocks, &records[..length])?;
+        }
+    }
+    Ok(())
+}
+
+/// Every value of the counter and of byte 69, at any record.
+fn each_value(run: &mut Run, clocks: &mut Clocks) -> Done {
+    for value in 0..=255 {
+        for place in [68, 69] {
+            let monitors = run.random.within(1, MOST);
+            let mut bytes = inputs::table(&mut run.random, monitors);
+            bytes[run.random.below(monitors) * RECORD + place] = value;
+            try_table(run, clocks, &bytes)?;
+        }
+    }
+    Ok(())
+}
+
+/// The smallest wrong value at each record of the longest table; any other byte is free.
+fn each_record(run: &mut Run, clocks: &mut Clocks) -> Done {
+    for record in 0..MOST {
+        let mut bytes = inputs::table(&mut run.random, MOST);
+        for (place, wrong) in [(68, 64), (69, 2)] {
+            let at = record * RECORD + place;
+            let right = std::mem::replace(&mut bytes[at], wrong);
+            try_table(run, clocks, &bytes)?;
+            bytes[at] = right;
+        }
+        for place in 0..68 {
+            bytes[record * RECORD + place] = 0xFF;
+        }
+        try_table(run, clocks, &bytes)?;
+    }
+    Ok(())
+}

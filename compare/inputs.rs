@@ -1,0 +1,243 @@
+//! Tables, frames, payloads and codes to try: mostly good ones, and each way in which one can be bad.
+
+use crate::random::Random;
+
+pub const RECORD: usize = 70;
+pub const MOST: usize = 32;
+
+/// Every command, in the paper's order: reads, writes, bare ones.
+pub const LISTED: [(u16, &str); 22] = [
+    (0x0002, "RDCFGA"),
+    (0x0026, "RDCFGB"),
+    (0x0004, "RDCVA"),
+    (0x0006, "RDCVB"),
+    (0x0008, "RDCVC"),
+    (0x000A, "RDCVD"),
+    (0x0009, "RDCVE"),
+    (0x000B, "RDCVF"),
+    (0x0032, "RDSTATC"),
+    (0x0033, "RDSTATD"),
+    (0x002C, "RDSID"),
+    (0x003A, "RDRR"),
+    (0x0001, "WRCFGA"),
+    (0x0024, "WRCFGB"),
+    (0x0039, "WRRR"),
+    (0x0717, "CLRFLAG"),
+    (0x0715, "CLOVUV"),
+    (0x0028, "MUTE"),
+    (0x0029, "UNMUTE"),
+    (0x002E, "RSTCC"),
+    (0x0038, "ULRR"),
+    (0x0711, "CLRCELL"),
+];
+const READS: std::ops::Range<usize> = 0..12;
+const WRITES: std::ops::Range<usize> = 12..17;
+
+#[derive(Clone, Copy, PartialEq, Eq)]
+pub enum Shape {
+    Read,
+    Write,
+    Bare,
+}
+
+/// An unlisted code has no shape.
+pub fn shape(code: u16) -> Option<Shape> {
+    let place = LISTED.iter().position(|(listed, _)| *listed == code)?;
+    Some(if READS.contains(&place) {
+        Shape::Read
+    } else if WRITES.contains(&place) {
+        Shape::Write
+    } else {
+        Shape::Bare
+    })
+}
+
+pub fn any_listed(random: &mut Random) -> u16 {
+    random.pick(&LISTED).0
+}
+
+/// A code that is not listed, often one bit away from one that is.
+pub fn any_unlisted(random: &mut Random) -> u16 {
+    loop {
+        let code = if random.once_in(2) { any_listed(random) ^ 1 << random.below(16) } else { random.next() as u16 };
+        if shape(code).is_none() {
+            return code;
+        }
+    }
+}
+
+pub fn head(code: u16) -> [u8; 4] {
+    let [high, low] = code.to_be_bytes();
+    let [pec_high, pec_low] = (model::command_pec(&[high, low]) << 1).to_be_bytes();
+    [high, low, pec_high, pec_low]
+}
+
+/// A right payload; its counter bits are often 0, as our host sends them, and otherwise any.
+pub fn payload(random: &mut Random) -> [u8; 8] {
+    let six: [u8; 6] = match random.below(4) {
+        0 => [random.pick(&[0x00, 0xFF]); 6],
+        _ => random.next().to_le_bytes()[..6].try_into().expect("six of eight bytes"),
+    };
+    let counter = if random.once_in(2) { 0 } else { random.below(64) as u8 };
+    let [pec_high, pec_low] = model::data_pec_with_counter(&six, counter).to_be_bytes();
+    let mut eight = [0; 8];
+    eight[..6].copy_from_slice(&six);
+    eight[6] = counter << 2 | pec_high;
+    eight[7] = pec_low;
+    eight
+}
+
+/// One or more wrong bits: one, two, or a byte that is another one.
+pub fn damage(random: &mut Random, bytes: &mut [u8]) {
+    let place = random.below(bytes.len());
+    match random.below(3) {
+        0 => bytes[place] ^= 1 << random.below(8),
+        1 => {
+            bytes[place] ^= 1 << random.below(8);
+            let other = random.below(bytes.len());
+            bytes[other] ^= 1 << random.below(8);
+        }
+        _ => bytes[place] = bytes[place].wrapping_add(1 + random.below(255) as u8),
+    }
+}
+
+/// Right payloads, or some damaged, or all.
+pub fn payloads(random: &mut Random, monitors: usize) -> Vec<u8> {
+    let damaged_of_four = random.pick(&[0, 0, 1, 2, 4]);
+    let mut bytes = Vec::with_capacity(8 * monitors);
+    for _ in 0..monitors {
+        let mut eight = payload(random);
+        if random.below(4) < damaged_of_four {
+            damage(random, &mut eight);
+        }
+        bytes.extend(eight);
+    }
+    bytes
+}
+
+/// A frame of this code with the length that it should have for so many monitors.
+pub fn frame_of(random: &mut Random, code: u16, monitors: usize) -> Vec<u8> {
+    let mut frame = head(code).to_vec();
+    match shape(code) {
+        Some(Shape::Write) => frame.extend(payloads(random, monitors)),
+        Some(Shape::Read) if random.once_in(2) => frame.resize(4 + 8 * monitors, 0xFF),
+        Some(Shape::Read) => frame.extend(random.bytes(8 * monitors)),
+        Some(Shape::Bare) => {}
+        None => frame.extend(random.bytes(8 * monitors)),
+    }
+    frame
+}
+
+/// A wrong length: under four, one or eight off, or any up to more than 33 monitors' bytes.
+pub fn miscut(random: &mut Random, frame: &mut Vec<u8>) {
+    let length = frame.len();
+    let wrong = match random.below(6) {
+        0 => random.below(4),
+        1 => length - 1,
+        2 => length + 1,
+        3 => length.saturating_sub(8),
+        4 => length + 8,
+        _ => random.below(4 + 8 * 33 + 10),
+    };
+    let more = random.bytes(wrong.saturating_sub(length));
+    frame.truncate(wrong);
+    frame.extend(more);
+}
+
+/// Any frame for a chain of so many monitors: half of them without a fault in command and length.
+pub fn frame(random: &mut Random, monitors: usize) -> Vec<u8> {
+    let good = random.once_in(2);
+    let code = if !good && random.once_in(5) { any_unlisted(random) } else { any_listed(random) };
+    let mut frame = frame_of(random, code, monitors);
+    if !good {
+        if random.once_in(4) {
+            damage(random, &mut frame[..4]);
+        }
+        if random.once_in(8) {
+            frame[3] |= 1;
+        }
+        if random.once_in(2) {
+            miscut(random, &mut frame);
+        }
+    }
+    frame
+}
+
+/// One record that is sound: any bytes, or all alike, or with clear flags and near thresholds, so that a load shows.
+pub fn record(random: &mut Random) -> Vec<u8> {
+    let mut record = match random.below(4) {
+        0 => vec![random.pick(&[0x00, 0xFF]); RECORD],
+        _ => random.bytes(RECORD),
+    };
+    if random.once_in(2) {
+        record[50..56].fill(0);
+    }
+    if random.once_in(3) {
+        let edges = [(-2048, 2047), (2047, -2048), (0, 0), (-1, 0), (0, -1), (-2048, -2048), (2047, 2047), (-1, -1), (100, 100)];
+        let (vuv, vov) = random.pick(&edges);
+        set_thresholds(&mut record, vuv, vov);
+    }
+    record[68] = if random.once_in(2) { random.pick(&[0, 1, 61, 62, 63]) } else { random.below(64) as u8 };
+    record[69] = random.below(2) as u8;
+    record
+}
+
+fn set_thresholds(record: &mut [u8], vuv: i16, vov: i16) {
+    let (vuv, vov) = (vuv as u16 & 0xFFF, vov as u16 & 0xFFF);
+    record[6] = vuv as u8;
+    record[7] = (vuv >> 8 | (vov & 0xF) << 4) as u8;
+    record[8] = (vov >> 4) as u8;
+}
+
+/// A sound table, where N is 1 to 32.
+pub fn table(random: &mut Random, monitors: usize) -> Vec<u8> {
+    (0..monitors).flat_map(|_| record(random)).collect()
+}
+
+/// A table with at least one reason not to be sound.
+pub fn unsound(random: &mut Random) -> Vec<u8> {
+    let monitors = random.within(1, MOST);
+    let mut bytes = table(random, monitors);
+    match random.below(4) {
+        0 => {
+            let at = random.below(monitors) * RECORD + 68;
+            bytes[at] = random.within(64, 255) as u8;
+        }
+        1 => {
+            let at = random.below(monitors) * RECORD + 69;
+            bytes[at] = random.within(2, 255) as u8;
+        }
+        2 => {
+            let monitors = random.pick(&[0, 33, 34, 64, 256]);
+            bytes = table(random, monitors);
+        }
+        _ => {
+            let length = bytes.len() + random.within(1, RECORD - 1);
+            bytes = table(random, monitors + 1);
+            bytes.truncate(length);
+        }
+    }
+    bytes
+}
+
+/// A code to load into this record: at, beside and far from its thresholds, never -32768.
+pub fn code_for(random: &mut Random, record: &[u8]) -> i16 {
+    let step = if random.once_in(2) {
+        i32::from(record[6]) | i32::from(record[7] & 0x0F) << 8
+    } else {
+        i32::from(record[7] >> 4) | i32::from(record[8]) << 4
+    };
+    let at = 16 * if step >= 2048 { step - 4096 } else { step };
+    let code = match random.below(6) {
+        0 => at - 1,
+        1 => at,
+        2 => at + 1,
+        3 => random.pick(&[-32767, -1, 0, 1, 32767]),
+        _ => i32::from(random.code()),
+    };
+    code.clamp(-32767, 32767) as i16
+}
+
+pub fn codes_for(random: &mut Random, record: &[u8]) -> Vec<i16> {
+    (0..16).map(|_| code_for(random, record)).collect()
+}

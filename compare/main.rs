@@ -1,0 +1,106 @@
+//! Compares the library (target/c/liboskorbine.a) with a second implementation of document 01, the crate `model`: every function of
+//! include/oskorbine.h, after each call the answer and every byte of every buffer. Usage: compare [SEED [ROUNDS]]
+
+mod both;
+mod cases;
+mod clocks;
+mod difference;
+mod inputs;
+mod lent;
+mod random;
+mod run;
+mod surface;
+mod tally;
+
+use run::{Run, CALLS};
+use std::process::ExitCode;
+use std::sync::atomic::Ordering;
+
+const SEED: u64 = 0x0534_B012;
+const ROUNDS: u64 = 2;
+const MOST_ROUNDS: u64 = 100_000;
+/// Fewer calls than this are no comparison.
+const LEAST_CALLS: u64 = 200_000;
+
+const HEADER: &str = include_str!("../include/oskorbine.h");
+
+fn main() -> ExitCode {
+    let Some((seed, rounds)) = arguments(std::env::args().skip(1).collect()) else {
+        eprintln!("usage: compare [SEED [ROUNDS]]   SEED: 64 bits, decimal or 0x and hex; ROUNDS: 1 to {MOST_ROUNDS}");
+        return ExitCode::from(2);
+    };
+    if let Err(unlike) = header_is_as_declared() {
+        eprintln!("compare: {unlike}");
+        return ExitCode::FAILURE;
+    }
+    // A panic here is a fault of the model or of this program (an overflow, say): it needs its case too.
+    let panics = std::panic::take_hook();
+    std::panic::set_hook(Box::new(move |panic| {
+        panics(panic);
+        eprintln!("compare: stopped (seed {seed:#x}, case {})", CALLS.load(Ordering::Relaxed));
+    }));
+
+    let mut run = Run::new(seed);
+    for _ in 0..rounds {
+        for (kind, cases) in cases::KINDS {
+            run.tally.begin(kind);
+            if let Err(difference) = cases(&mut run) {
+                eprint!("{difference}");
+                return ExitCode::FAILURE;
+            }
+        }
+    }
+    run.tally.print();
+    let calls = CALLS.load(Ordering::Relaxed);
+    let mut seldom = run.tally.too_seldom();
+    if calls < LEAST_CALLS {
+        seldom.push(format!("calls: {calls}, not {LEAST_CALLS}"));
+    }
+    if !seldom.is_empty() {
+        eprintln!("compare: tried too little (seed {seed:#x}):\n  {}", seldom.join("\n  "));
+        return ExitCode::FAILURE;
+    }
+    println!("compare: {calls} calls, 0 differences (seed {seed:#x})");
+    ExitCode::SUCCESS
+}
+
+fn arguments(given: Vec<String>) -> Option<(u64, u64)> {
+    let seed = match given.first() {
+        Some(text) => number(text)?,
+        None => SEED,
+    };
+    let rounds = match given.get(1) {
+        Some(text) => number(text)?,
+        None => ROUNDS,
+    };
+    (given.len() <= 2 && (1..=MOST_ROUNDS).contains(&rounds)).then_some((seed, rounds))
+}
+
+/// Digits only: the parser of numbers would take a sign as well.
+fn number(text: &str) -> Option<u64> {
+    let (digits, radix) = match text.strip_prefix("0x") {
+        Some(hex) => (hex, 16),
+        None => (text, 10),
+    };
+    let all_digits = digits.chars().all(|digit| digit.is_digit(radix));
+    if all_digits {
+        u64::from_str_radix(digits, radix).ok()
+    } else {
+        None
+    }
+}
+
+/// The header declares exactly the functions that are compared here, and the state's length as it is written here.
+fn header_is_as_declared() -> Result<(), String> {
+    let declared: Vec<&str> =
+        HEADER.lines().filter(|line| line.ends_with(");")).filter_map(|line| line.split('(').next()?.split(' ').next_back()).collect();
+    let compared = surface::Function::ALL.map(|function| function.name());
+    if declared != compared {
+        return Err(format!("include/oskorbine.h declares {declared:?}, and this program compares {compared:?}"));
+    }
+    let length = format!("#define OSK_CLOCK_STATE {}", surface::CLOCK_STATE);
+    if !HEADER.lines().any(|line| line == length) {
+        return Err(format!("include/oskorbine.h has no line '{length}'"));
+    }
+    Ok(())
+}

@@ -1,0 +1,86 @@
+//! "The table", a whole frame and a load, each with its refusals in the paper's order.
+
+use crate::commands::{received, Command};
+use crate::monitor::{self, Record, CLEARED, RECORD};
+use crate::numbers::{packed, Outcome, Refusal};
+
+const MOST_MONITORS: usize = 32;
+
+/// N of a sound table.
+pub fn sound(table: &[u8]) -> Result<usize, Refusal> {
+    let (records, rest) = table.as_chunks::<RECORD>();
+    let some = !records.is_empty() && records.len() <= MOST_MONITORS && rest.is_empty();
+    if some && records.iter().all(monitor::sound) {
+        Ok(records.len())
+    } else {
+        Err(Refusal::TableNotSound)
+    }
+}
+
+pub fn monitors_right(monitors: usize) -> bool {
+    (1..=MOST_MONITORS).contains(&monitors)
+}
+
+pub fn records(table: &[u8]) -> &[Record] {
+    table.as_chunks().0
+}
+
+pub fn records_mut(table: &mut [u8]) -> &mut [Record] {
+    table.as_chunks_mut().0
+}
+
+/// A whole frame. Values: how many monitors took it, and the length of the reply.
+pub fn frame(table: &mut [u8], frame: &[u8], reply: &mut [u8]) -> u32 {
+    packed(whole(table, frame, reply))
+}
+
+fn whole(table: &mut [u8], frame: &[u8], reply: &mut [u8]) -> Outcome {
+    let monitors = sound(table)?;
+    let (&head, rest) = frame.split_first_chunk::<4>().ok_or(Refusal::FrameShort)?;
+    let command = received(head)?;
+    if rest.len() != command.length_after_four(monitors) {
+        return Err(Refusal::LengthWrong);
+    }
+    let records = records_mut(table);
+    match command {
+        Command::Read(read) => {
+            let reply = reply.get_mut(..8 * monitors).ok_or(Refusal::NoRoom)?;
+            for (record, eight) in records.iter_mut().zip(reply.as_chunks_mut::<8>().0) {
+                *eight = monitor::reply(record, read);
+                monitor::lock(record);
+            }
+            Ok((monitors, 8 * monitors))
+        }
+        Command::Write(write) => {
+            // The first eight bytes travel to monitor N.
+            let far_end_first = rest.as_chunks::<8>().0;
+            let pairs = records.iter_mut().zip(far_end_first.iter().rev());
+            let taken = pairs.map(|(record, sent)| usize::from(monitor::write(record, write, sent))).sum();
+            Ok((taken, 0))
+        }
+        Command::Bare(bare) => {
+            for record in records {
+                monitor::bare(record, bare);
+            }
+            Ok((monitors, 0))
+        }
+    }
+}
+
+/// Loads 16 codes into the monitor at a position, 1 to N.
+pub fn load(table: &mut [u8], position: usize, codes: &[i16]) -> u32 {
+    packed(load_one(table, position, codes))
+}
+
+fn load_one(table: &mut [u8], position: usize, codes: &[i16]) -> Outcome {
+    let monitors = sound(table)?;
+    if !(1..=monitors).contains(&position) {
+        return Err(Refusal::PositionWrong);
+    }
+    let codes: &[i16; 16] = codes.try_into().map_err(|_| Refusal::CountWrong)?;
+    if codes.contains(&CLEARED) {
+        return Err(Refusal::CodeCleared);
+    }
+    monitor::load(&mut records_mut(table)[position - 1], codes);
+    Ok((0, 0))
+}

@@ -1,0 +1,99 @@
+//! "Commands": the list of codes, and the lengths of their frames.
+
+use crate::check_words::command_bytes;
+use crate::numbers::Refusal;
+
+#[derive(Clone, Copy, Debug, PartialEq, Eq)]
+pub enum Command {
+    Read(Read),
+    Write(Write),
+    Bare(Bare),
+}
+
+/// What a read shows of a record.
+#[derive(Clone, Copy, Debug, PartialEq, Eq)]
+pub enum Read {
+    /// The six bytes from this one on.
+    SixFrom(usize),
+    /// RDCVF: cell 16 and then four bytes FF.
+    Cell16,
+}
+
+#[derive(Clone, Copy, Debug, PartialEq, Eq)]
+pub enum Write {
+    Wrcfga,
+    Wrcfgb,
+    Wrrr,
+    Clrflag,
+    Clovuv,
+}
+
+#[derive(Clone, Copy, Debug, PartialEq, Eq)]
+pub enum Bare {
+    Mute,
+    Unmute,
+    Rstcc,
+    Ulrr,
+    Clrcell,
+}
+
+/// The places of a record that the reads name, as the paper's table has them.
+pub mod at {
+    pub const CONFIGURATION_A: usize = 0;
+    pub const CONFIGURATION_B: usize = 6;
+    pub const CELLS: usize = 12;
+    pub const STATUS_C: usize = 44;
+    pub const STATUS_D: usize = 50;
+    pub const RETENTION: usize = 56;
+    pub const SERIAL_ID: usize = 62;
+    pub const COUNTER: usize = 68;
+    pub const UNLOCKED: usize = 69;
+}
+
+pub fn listed(code: u16) -> Option<Command> {
+    use Command::{Bare as B, Read as R, Write as W};
+    Some(match code {
+        0x0002 => R(Read::SixFrom(at::CONFIGURATION_A)),
+        0x0026 => R(Read::SixFrom(at::CONFIGURATION_B)),
+        0x0004 => R(Read::SixFrom(at::CELLS)),
+        0x0006 => R(Read::SixFrom(at::CELLS + 6)),
+        0x0008 => R(Read::SixFrom(at::CELLS + 12)),
+        0x000A => R(Read::SixFrom(at::CELLS + 18)),
+        0x0009 => R(Read::SixFrom(at::CELLS + 24)),
+        0x000B => R(Read::Cell16),
+        0x0032 => R(Read::SixFrom(at::STATUS_C)),
+        0x0033 => R(Read::SixFrom(at::STATUS_D)),
+        0x002C => R(Read::SixFrom(at::SERIAL_ID)),
+        0x003A => R(Read::SixFrom(at::RETENTION)),
+        0x0001 => W(Write::Wrcfga),
+        0x0024 => W(Write::Wrcfgb),
+        0x0039 => W(Write::Wrrr),
+        0x0717 => W(Write::Clrflag),
+        0x0715 => W(Write::Clovuv),
+        0x0028 => B(Bare::Mute),
+        0x0029 => B(Bare::Unmute),
+        0x002E => B(Bare::Rstcc),
+        0x0038 => B(Bare::Ulrr),
+        0x0711 => B(Bare::Clrcell),
+        _ => return None,
+    })
+}
+
+/// The command of a frame's first four bytes: refusals 3 and 4. A 1 after the PEC makes it wrong, since all 16 bits are compared.
+pub fn received(head: [u8; 4]) -> Result<Command, Refusal> {
+    let code = u16::from_be_bytes([head[0], head[1]]);
+    if head != command_bytes(code) {
+        return Err(Refusal::CommandWrong);
+    }
+    listed(code).ok_or(Refusal::CodeNotListed)
+}
+
+impl Command {
+    /// How many bytes follow the first four.
+    pub fn length_after_four(self, monitors: usize) -> usize {
+        match self {
+            Command::Read(_) | Command::Write(_) => 8 * monitors,
+            Command::Bare(_) => 0,
+        }
+    }
+}

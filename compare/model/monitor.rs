@@ -1,0 +1,115 @@
+//! One monitor's record: what a command does to it, what it replies, and what a load sets ("Effects", "Counter", "Thresholds").
+
+use crate::check_words::{payload, payload_right};
+use crate::commands::{at, Bare, Read, Write};
+
+pub const RECORD: usize = 70;
+pub type Record = [u8; RECORD];
+
+pub const CLEARED: i16 = -32768;
+
+const WRCFGA_MASKS: [u8; 6] = [0x87, 0xFF, 0xF8, 0xFF, 0x03, 0x0F];
+const MUTE_ST: u8 = 1 << 4;
+const SNAP_ST: u8 = 1 << 5;
+/// What CLRFLAG may clear in status C: nothing in bytes 2 and 3, nor bit 5 of byte 5.
+const CLRFLAG_MASKS: [u8; 6] = [0xFF, 0xFF, 0x00, 0x00, 0xFF, 0xDF];
+
+pub fn sound(record: &Record) -> bool {
+    record[at::COUNTER] <= 63 && record[at::UNLOCKED] <= 1
+}
+
+pub fn reply(record: &Record, read: Read) -> [u8; 8] {
+    let six = match read {
+        Read::SixFrom(first) => std::array::from_fn(|byte| record[first + byte]),
+        Read::Cell16 => [record[at::CELLS + 30], record[at::CELLS + 31], 0xFF, 0xFF, 0xFF, 0xFF],
+    };
+    payload(six, record[at::COUNTER])
+}
+
+/// Every command but ULRR ends an unlocking, whether the monitor takes it or not.
+pub fn lock(record: &mut Record) {
+    record[at::UNLOCKED] = 0;
+}
+
+/// Whether the monitor took the payload.
+pub fn write(record: &mut Record, write: Write, sent: &[u8; 8]) -> bool {
+    let unlocked = record[at::UNLOCKED] == 1;
+    lock(record);
+    if !payload_right(sent) {
+        return false;
+    }
+    let data = &sent[..6];
+    match write {
+        Write::Wrcfga => {
+            let kept = record[at::CONFIGURATION_A + 5] & (SNAP_ST | MUTE_ST);
+            for byte in 0..6 {
+                record[at::CONFIGURATION_A + byte] = data[byte] & WRCFGA_MASKS[byte];
+            }
+            record[at::CONFIGURATION_A + 5] |= kept;
+        }
+        Write::Wrcfgb => record[at::CONFIGURATION_B..][..6].copy_from_slice(data),
+        Write::Wrrr => {
+            if unlocked {
+                record[at::RETENTION..][..6].copy_from_slice(data);
+            }
+        }
+        Write::Clrflag => {
+            for byte in 0..6 {
+                record[at::STATUS_C + byte] &= !(data[byte] & CLRFLAG_MASKS[byte]);
+            }
+        }
+        Write::Clovuv => {
+            for byte in 0..4 {
+                record[at::STATUS_D + byte] &= !data[byte];
+            }
+        }
+    }
+    count(record);
+    true
+}
+
+pub fn bare(record: &mut Record, bare: Bare) {
+    lock(record);
+    count(record);
+    match bare {
+        Bare::Mute => record[at::CONFIGURATION_A + 5] |= MUTE_ST,
+        Bare::Unmute => record[at::CONFIGURATION_A + 5] &= !MUTE_ST,
+        Bare::Rstcc => record[at::COUNTER] = 0,
+        Bare::Ulrr => record[at::UNLOCKED] = 1,
+        Bare::Clrcell => {
+            for cell in 0..16 {
+                set_cell(record, cell, CLEARED);
+            }
+        }
+    }
+}
+
+/// After 63 comes 1: 0 stands for a reset.
+fn count(record: &mut Record) {
+    record[at::COUNTER] = if record[at::COUNTER] == 63 { 1 } else { record[at::COUNTER] + 1 };
+}
+
+fn set_cell(record: &mut Record, cell: usize, code: i16) {
+    record[at::CELLS + 2 * cell..][..2].copy_from_slice(&code.to_le_bytes());
+}
+
+/// VUV and VOV, as steps of 16 codes.
+pub fn thresholds(record: &Record) -> (i16, i16) {
+    let [low, middle, high] = [0, 1, 2].map(|byte| u16::from(record[at::CONFIGURATION_B + byte]));
+    (twelve_bits((middle & 0x0F) << 8 | low), twelve_bits(high << 4 | middle >> 4))
+}
+
+fn twelve_bits(bits: u16) -> i16 {
+    (bits << 4) as i16 >> 4
+}
+
+/// Stores the codes and then sets the flags; a flag that stands is left standing.
+pub fn load(record: &mut Record, codes: &[i16; 16]) {
+    let (vuv, vov) = thresholds(record);
+    for (cell, &code) in codes.iter().enumerate() {
+        set_cell(record, cell, code);
+        let uv = i32::from(code) < 16 * i32::from(vuv);
+        let ov = i32::from(code) > 16 * i32::from(vov);
+        record[at::STATUS_D + cell / 4] |= (u8::from(ov) << 1 | u8::from(uv)) << (2 * (cell % 4));
+    }
+}

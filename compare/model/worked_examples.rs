@@ -1,0 +1,157 @@
+//! The fourteen worked examples of "On either side of the line", and what stands below them as "run by a program".
+
+use crate::check_words::{command_bytes, payload};
+use crate::commands::{at, listed, Command, Write};
+use crate::monitor::{self, thresholds, RECORD};
+use crate::*;
+
+const ZERO_RECORD: [u8; RECORD] = [0; RECORD];
+
+/// A record whose configuration B holds these thresholds.
+fn record_with(vuv: i16, vov: i16) -> [u8; RECORD] {
+    let (vuv, vov) = (vuv as u16 & 0xFFF, vov as u16 & 0xFFF);
+    let mut record = ZERO_RECORD;
+    record[at::CONFIGURATION_B] = vuv as u8;
+    record[at::CONFIGURATION_B + 1] = (vuv >> 8) as u8 | ((vov & 0xF) << 4) as u8;
+    record[at::CONFIGURATION_B + 2] = (vov >> 4) as u8;
+    record
+}
+
+/// The two flag bits of cell 1 after a load of this code in every cell.
+fn flags_of_cell_1(vuv: i16, vov: i16, code: i16) -> u8 {
+    let mut table = record_with(vuv, vov);
+    assert_eq!(load(&mut table, 1, &[code; 16]), 0);
+    table[at::STATUS_D] & 0b11
+}
+
+#[test]
+fn examples_1_and_2_command_pec() {
+    assert_eq!(command_bytes(0x0001), [0x00, 0x01, 0x3D, 0x6E]);
+    assert_eq!(command_bytes(0x0002), [0x00, 0x02, 0x2B, 0x0A]);
+}
+
+#[test]
+fn examples_3_to_6_data_remainder() {
+    assert_eq!(data_pec(&[0x00]), 0x23C);
+    assert_eq!(data_pec(&[0x01]), 0x2B3);
+    assert_eq!(data_pec(&[0; 6]), 0x331);
+    assert_eq!(data_pec_with_counter(&[0; 6], 0), 0x3E3);
+}
+
+#[test]
+fn example_7_reply_for_six_zero_bytes() {
+    assert_eq!(payload([0; 6], 0), [0, 0, 0, 0, 0, 0, 0x03, 0xE3]);
+    let mut reply = [0xAA; 8];
+    let sent = [0x00, 0x02, 0x2B, 0x0A, 0xFF, 0xFF, 0xFF, 0xFF, 0xFF, 0xFF, 0xFF, 0xFF];
+    assert_eq!(frame(&mut ZERO_RECORD.clone(), &sent, &mut reply), 8 << 16 | 1 << 8);
+    assert_eq!(reply, [0, 0, 0, 0, 0, 0, 0x03, 0xE3]);
+}
+
+#[test]
+fn example_8_bit_after_the_command_pec() {
+    assert_eq!(frame(&mut ZERO_RECORD.clone(), &[0x00, 0x02, 0x2B, 0x0B], &mut []), 3);
+}
+
+#[test]
+fn example_9_write_without_payload() {
+    assert_eq!(frame(&mut ZERO_RECORD.clone(), &[0x00, 0x01, 0x3D, 0x6E], &mut []), 5);
+}
+
+#[test]
+fn example_10_thresholds() {
+    let mut record = ZERO_RECORD;
+    record[at::CONFIGURATION_B..][..3].copy_from_slice(&[0x00, 0x48, 0x06]);
+    assert_eq!(thresholds(&record), (-2048, 100));
+}
+
+#[test]
+fn examples_11_and_12_flags() {
+    assert_eq!(flags_of_cell_1(0, 100, 1600), 0b00);
+    assert_eq!(flags_of_cell_1(0, 100, 1601), 0b10);
+    assert_eq!(flags_of_cell_1(-1, 0, -16), 0b00);
+    assert_eq!(flags_of_cell_1(-1, 0, -17), 0b01);
+}
+
+#[test]
+fn example_13_counter_after_63() {
+    let mut table = ZERO_RECORD;
+    table[at::COUNTER] = 63;
+    assert_eq!(frame(&mut table, &command_bytes(0x0028), &mut []), 1 << 8);
+    assert_eq!(table[at::COUNTER], 1);
+}
+
+#[test]
+fn example_14_microvolts() {
+    assert_eq!(microvolts(-10000), 0);
+    assert_eq!(microvolts(32767), 6_415_050);
+    assert_eq!(microvolts(-32767), -3_415_050);
+}
+
+#[test]
+fn both_ways_to_a_remainder_agree() {
+    let bytes: Vec<u8> = (0..=255u8).chain((0..=255).rev()).map(|byte: u8| byte.wrapping_mul(167)).collect();
+    for first in 0..bytes.len() {
+        for length in [0, 1, 2, 6, 7, 40] {
+            let part = &bytes[first..bytes.len().min(first + length)];
+            assert_eq!(command_pec(part), command_pec_bit_by_bit(part));
+            assert_eq!(data_pec(part), data_pec_bit_by_bit(part));
+            for counter in 0..64 {
+                assert_eq!(data_pec_with_counter(part, counter), data_pec_with_counter_bit_by_bit(part, counter));
+            }
+        }
+    }
+}
+
+#[test]
+fn twenty_two_codes_are_listed() {
+    assert_eq!((0..=u16::MAX).filter(|&code| listed(code).is_some()).count(), 12 + 5 + 5);
+}
+
+#[test]
+fn tables_of_1_and_32_monitors() {
+    let mute = command_bytes(0x0028);
+    for (length, answer) in [(0, 1), (69, 1), (70, 1 << 8), (71, 1), (2240, 32 << 8), (2241, 1), (2310, 1)] {
+        assert_eq!(frame(&mut vec![0; length], &mute, &mut []), answer, "table of {length} bytes");
+    }
+}
+
+#[test]
+fn room_for_a_reply() {
+    for monitors in [1, 2, 32] {
+        let mut sent = [0xFF; 4 + 8 * 32];
+        sent[..4].copy_from_slice(&command_bytes(0x0004));
+        let sent = &sent[..4 + 8 * monitors];
+        let mut table = vec![0; RECORD * monitors];
+        assert_eq!(frame(&mut table, sent, &mut vec![0; 8 * monitors - 1]), 6);
+        assert_eq!(frame(&mut table, sent, &mut vec![0; 8 * monitors]), (8 * monitors as u32) << 16 | (monitors as u32) << 8);
+    }
+}
+
+#[test]
+fn summaries_of_0_and_513_codes() {
+    let mut out = [7.0; 3];
+    assert_eq!(summary(&[], &mut out), 8);
+    assert_eq!(summary(&[1; 513], &mut out), 8);
+    assert_eq!(summary(&[-32768; 512], &mut out), 0);
+    assert_eq!(out, [7.0; 3]);
+    assert_eq!(summary(&[-10000, -32768, 0, 10000], &mut out), 3 << 16 | 1 << 8);
+    assert_eq!(out, [0.0, 3.0, 4.5]);
+}
+
+/// WRCFGA to two monitors, by hand: the far monitor's payload comes first, and a mute stays.
+#[test]
+fn a_write_goes_to_the_far_end_first() {
+    assert_eq!(listed(0x0001), Some(Command::Write(Write::Wrcfga)));
+    let mut table = [[0; RECORD], [0; RECORD]];
+    for record in &mut table {
+        monitor::bare(record, commands::Bare::Mute);
+    }
+    let mut sent = [0; 20];
+    sent[..4].copy_from_slice(&command_bytes(0x0001));
+    sent[4..12].copy_from_slice(&payload([0xFF; 6], 5));
+    sent[12..].copy_from_slice(&payload([0; 6], 0));
+    assert_eq!(frame(table.as_flattened_mut(), &sent, &mut []), 2 << 8);
+    assert_eq!(table[0][..6], [0, 0, 0, 0, 0, 0x10]);
+    assert_eq!(table[1][..6], [0x87, 0xFF, 0xF8, 0xFF, 0x03, 0x1F]);
+    assert_eq!([table[0][at::COUNTER], table[1][at::COUNTER]], [2, 2]);
+}

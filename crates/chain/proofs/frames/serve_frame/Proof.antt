@@ -1,0 +1,38 @@
+-- `chain::frames::serve_frame` meets its contract: the payloads are what follows the first four bytes.
+-- Assumes nothing.
+use mathlib.Core.Path.{_≡_, ap, _∙_}
+use mathlib.Core.List.{List}
+use Prim.Native.Nat.{ℕ}
+use Rattle.laws.specs.Counts.{count}
+use Rattle.laws.specs.Rows.{rows, joined, along}
+use Rattle.wire.specs.Order.{writePayloads}
+use Rattle.monitor.specs.Record.{recordSize}
+use Rattle.monitor.specs.Commands.{payloadSize}
+use Rattle.monitor.specs.Effects.{takes, keeps}
+use Rattle.chain.specs.Frame.{payloadsIn, takenBy, kept}
+use borrow.Author.Needs.{needs}
+use Rattle.chain.proofs.frames.serve_frame.Statement.{statement}
+use Rattle.chain.proofs.frames.serve_frame.Tie as tie
+
+payloads-of-requires : tie.Need-payloads-of-requires
+payloads-of-requires c κs = search needs
+
+serve-requires : tie.Need-serve-requires
+serve-requires c κs = search needs
+
+same-length : tie.Need-same-length
+same-length c = search needs
+
+returns : tie.Need-returns
+unfolding takenBy kept payloadsIn
+returns c =
+    let a = c .before .before .before .before .before .before .before .args in
+    let served = c .before .before .serve .ensures in
+    let after = c .before .before .before .payloads-of .ensures in (
+      served .0 ∙ ap (λ (ps : List ℕ). count (takes (a .command)) (writePayloads payloadSize (a .n) ps)) after,
+      served .1
+          ∙ ap (λ (ps : List ℕ). joined (along (λ r eight. keeps (a .command) eight r) (rows recordSize (a .n) (a .table .now)) (writePayloads payloadSize (a .n) ps))) after,
+    )
+
+pub serve-frame-spec : {M : Type 1} → statement M
+serve-frame-spec = tie.close (tie.spec payloads-of-requires serve-requires same-length returns)
