@@ -14,6 +14,7 @@ use Rattle.laws.specs.Tables.{tabulate}
 use Rattle.laws.proofs.Tables.{at-each}
 use Rattle.laws.proofs.Xor.{zero-xor, xor-zero, xor-same, xor-div, xor-rem, xor-middle, xor-blocks, xor-shift}
 use Rattle.pec.specs.Remainder.{remainder}
+use Rattle.pec.specs.ByShifts.{withMoved, timesOne}
 use Rattle.pec.proofs.Remainder.{remainder-bits-linear}
 
 -- ---- linear functions
@@ -55,81 +56,64 @@ module _ {f h : ℕ → ℕ} (l : Linear f) (m : Linear h) where
       ∙ ap₂ _⊕_ (at-bit k t (div-lt-iff-lt-mul (pow-pos k) .1 (omega (arith, b))) (e k (omega arith))) (agree k (λ j i. e j (omega arith)) (mod-lt x (pow-pos k)))
       ∙ sym (ap h (top-and-low k x) ∙ m .adds (t * 2 ^ k) y)
 
--- ---- shifts and sums
+-- ---- shifts and sums are linear
 
--- a, and x moved down by each of these places, all added
-unfoldable pub downs : ℕ → List ℕ → ℕ → ℕ
-downs a [] x = a
-downs a (s ∷ ss) x = downs (a ⊕ x / 2 ^ s) ss x
+pub same : Linear (λ (x : ℕ). x)
+same = record { adds = λ a b. refl }
 
--- a, and x moved up by each of these places, all added
-unfoldable pub ups : ℕ → List ℕ → ℕ → ℕ
-ups a [] x = a
-ups a (s ∷ ss) x = ups (a ⊕ x * 2 ^ s) ss x
+pub sum : {f h : ℕ → ℕ} → Linear f → Linear h → Linear (λ (x : ℕ). f x ⊕ h x)
+sum {f} {h} l m = record { adds = λ a b. ap₂ _⊕_ (l .adds a b) (m .adds a b) ∙ xor-middle (f a) (f b) (h a) (h b) }
 
-downs-linear : (ss : List ℕ) (a b x y : ℕ) → downs (a ⊕ b) ss (x ⊕ y) ≡ downs a ss x ⊕ downs b ss y
-unfolding downs
-downs-linear [] a b x y = refl
-downs-linear (s ∷ ss) a b x y =
-    ap (λ (n : ℕ). downs n ss (x ⊕ y)) (ap (λ (n : ℕ). a ⊕ b ⊕ n) (xor-div x y s) ∙ xor-middle a b (x / 2 ^ s) (y / 2 ^ s))
-    ∙ downs-linear ss (a ⊕ x / 2 ^ s) (b ⊕ y / 2 ^ s) x y
+pub down : (s : ℕ) → Linear (λ (x : ℕ). x / 2 ^ s)
+down s = record { adds = λ a b. xor-div a b s }
 
-ups-linear : (ss : List ℕ) (a b x y : ℕ) → ups (a ⊕ b) ss (x ⊕ y) ≡ ups a ss x ⊕ ups b ss y
-unfolding ups
-ups-linear [] a b x y = refl
-ups-linear (s ∷ ss) a b x y =
-    ap (λ (n : ℕ). ups n ss (x ⊕ y)) (ap (λ (n : ℕ). a ⊕ b ⊕ n) (sym (xor-shift s x y)) ∙ xor-middle a b (x * 2 ^ s) (y * 2 ^ s))
-    ∙ ups-linear ss (a ⊕ x * 2 ^ s) (b ⊕ y * 2 ^ s) x y
+pub up : (s : ℕ) → Linear (λ (x : ℕ). x * 2 ^ s)
+up s = record { adds = λ a b. sym (xor-shift s a b) }
 
--- the message times each of the factors, one after the other
-unfoldable pub times : List (List ℕ) → ℕ → ℕ
-times [] x = x
-times (ss ∷ more) x = times more (downs x ss x)
+pub low : (w : ℕ) → Linear (λ (x : ℕ). x % 2 ^ w)
+low w = record { adds = λ a b. xor-rem a b w }
 
--- what is left of a message: the w low bits of the quotient, times the polynomial's terms below x^w
-unfoldable pub left : ℕ → List ℕ → ℕ → ℕ
-left w terms q = ups (q % 2 ^ w) terms (q % 2 ^ w) % 2 ^ w
+-- a, and x moved by each of these places, all added
+unfoldable pub sums : (ℕ → ℕ → ℕ) → ℕ → List ℕ → ℕ → ℕ
+sums move a [] x = a
+sums move a (s ∷ ss) x = sums move (a ⊕ move s x) ss x
 
-unfoldable pub byShifts : ℕ → List (List ℕ) → List ℕ → ℕ → ℕ
-byShifts w factors terms x = left w terms (times factors x)
+sums-linear : (move : ℕ → ℕ → ℕ) → ((s : ℕ) → Linear (move s)) → (ss : List ℕ) (a b x y : ℕ)
+    → sums move (a ⊕ b) ss (x ⊕ y) ≡ sums move a ss x ⊕ sums move b ss y
+unfolding sums
+sums-linear move l [] a b x y = refl
+sums-linear move l (s ∷ ss) a b x y =
+    ap (λ (n : ℕ). sums move n ss (x ⊕ y)) (ap (λ (n : ℕ). a ⊕ b ⊕ n) (l s .adds x y) ∙ xor-middle a b (move s x) (move s y))
+    ∙ sums-linear move l ss (a ⊕ move s x) (b ⊕ move s y) x y
 
-times-linear : (factors : List (List ℕ)) → Linear (times factors)
-unfolding times
-times-linear [] = record { adds = λ a b. refl }
-times-linear (ss ∷ more) = then-linear (record { adds = λ a b. downs-linear ss a b a b }) (times-linear more)
+pub moved-sum : (move : ℕ → ℕ → ℕ) → ((s : ℕ) → Linear (move s)) → (ss : List ℕ) → Linear (λ (x : ℕ). sums move x ss x)
+moved-sum move l ss = record { adds = λ a b. sums-linear move l ss a b a b }
 
-left-linear : (w : ℕ) (terms : List ℕ) → Linear (left w terms)
-unfolding left
-left-linear w terms =
-    record {
-      adds = λ a b.
-          ap (λ (n : ℕ). ups n terms n % 2 ^ w) (xor-rem a b w)
-          ∙ ap (λ (n : ℕ). n % 2 ^ w) (ups-linear terms (a % 2 ^ w) (b % 2 ^ w) (a % 2 ^ w) (b % 2 ^ w))
-          ∙ xor-rem (ups (a % 2 ^ w) terms (a % 2 ^ w)) (ups (b % 2 ^ w) terms (b % 2 ^ w)) w;
-    }
+pub times-linear : (k : ℕ) → Linear (timesOne k)
+unfolding timesOne withMoved
+times-linear k =
+    let with : (s : ℕ) → Linear (withMoved s) = λ s. sum same (down s) in
+    sum (with (3 * k)) (then-linear (then-linear (down (7 * k)) (with k)) (with (2 * k)))
 
 -- ---- the law
 
-module _ (w g k : ℕ) (factors : List (List ℕ)) (terms : List ℕ) where
+module _ (w g k : ℕ) (f : ℕ → ℕ) where
   -- the formula and the remainder, at each power of 2 in turn
   unfoldable pub formula : List ℕ
-  formula = tabulate (λ (j : ℕ). byShifts w factors terms (2 ^ j)) 0 k
+  formula = tabulate (λ (j : ℕ). f (2 ^ j)) 0 k
 
   unfoldable pub rule : List ℕ
   rule = tabulate (λ (j : ℕ). remainder w g 0 (bitsOf k (2 ^ j))) 0 k
 
-  pub by-shifts : formula ≡ rule → {x : ℕ} → x < 2 ^ k → byShifts w factors terms x ≡ remainder w g 0 (bitsOf k x)
-  unfolding formula rule byShifts
-  by-shifts e h = agree shifts rest k at h
+  pub by-shifts : Linear f → formula ≡ rule → {x : ℕ} → x < 2 ^ k → f x ≡ remainder w g 0 (bitsOf k x)
+  unfolding formula rule
+  by-shifts l e h = agree l rest k at h
     where
-      shifts : Linear (byShifts w factors terms)
-      shifts = then-linear (times-linear factors) (left-linear w terms)
-
       rest : Linear (λ (x : ℕ). remainder w g 0 (bitsOf k x))
       rest = record { adds = λ a b. ap (λ (s : ℕ). remainder w g s (bitsOf k (a ⊕ b))) (sym (xor-zero 0)) ∙ remainder-bits-linear w g 0 0 k a b }
 
-      at : (j : ℕ) → j < k → byShifts w factors terms (2 ^ j) ≡ remainder w g 0 (bitsOf k (2 ^ j))
+      at : (j : ℕ) → j < k → f (2 ^ j) ≡ remainder w g 0 (bitsOf k (2 ^ j))
       at j b =
-          sym (at-each (λ (i : ℕ). byShifts w factors terms (2 ^ i)) k j b)
+          sym (at-each (λ (i : ℕ). f (2 ^ i)) k j b)
           ∙ ap (λ (t : List ℕ). getD t j 0) e
           ∙ at-each (λ (i : ℕ). remainder w g 0 (bitsOf k (2 ^ i))) k j b

@@ -2,27 +2,34 @@
 // x, the quotient is the message times (1 + a)(1 + a^2)(1 + a^4) and so on, since 1 + 1 = 0; the remainder is the w low bits of the
 // quotient times the polynomial's terms below x^w. There is no table to copy and no byte waits for the one before it.
 ghost use mathlib.Core.Path.{_≡_};
-ghost use Prim.Native.Nat.{_^_, _<_};
+ghost use Prim.Native.Nat.{_^_, _<_, _≤_};
 ghost use Rattle.laws.specs.Bits.{bitsOf};
 ghost use Rattle.pec.specs.Remainder.{remainder};
+ghost use Rattle.pec.specs.ByShifts.{timesOne};
 ghost use Rattle.pec.specs.Words.{polynomial10, polynomial15, numberRight};
 
-// Ten bits, of 64, from 0.
+// A number times 1 + a^k, for the ten-bit polynomial: its a is y^3 + y^7 (1 + y)(1 + y^2), where y moves a number down one place, and
+// to the power k, a power of 2, every exponent is k times what it was.
+fn times(x: u64, k: u64) -> u64
+    requires { ⌜ k ≤ 8 ⌝ }
+    ensures { λ r. ⌜ r ≡ timesOne k x ⌝ }
+{
+    let far = x >> (7 * k);
+    let two = far ^ (far >> k);
+    let four = two ^ (two >> (2 * k));
+    x ^ (x >> (3 * k)) ^ four
+}
+
+// Ten bits, of 64, from 0. The polynomial's lower terms are (1 + x)(1 + x^2) + x^7.
 fn remainder_10(message: u64) -> u16
     ensures { λ r. ⌜ r ≡ remainder 10 polynomial10 0 (bitsOf 64 message) ⌝ }
 {
-    let a = message
-        ^ (message >> 3)
-        ^ (message >> 7)
-        ^ (message >> 8)
-        ^ (message >> 9)
-        ^ (message >> 10);
-    let b = a ^ (a >> 6) ^ (a >> 14) ^ (a >> 16) ^ (a >> 18) ^ (a >> 20);
-    let c = b ^ (b >> 12) ^ (b >> 28) ^ (b >> 32) ^ (b >> 36) ^ (b >> 40);
-    let d = c ^ (c >> 24) ^ (c >> 56);
+    let d = times(times(times(times(message, 1), 2), 4), 8);
     let e = d ^ (d >> 48);
     let q = e % 1024;
-    let left = (q ^ (q * 2) ^ (q * 4) ^ (q * 8) ^ (q * 128)) % 1024;
+    let two = q ^ (q * 2);
+    let four = two ^ (two * 4);
+    let left = (four ^ (q * 128)) % 1024;
     left as u16
 }
 

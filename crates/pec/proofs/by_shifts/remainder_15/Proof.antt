@@ -3,13 +3,13 @@
 use mathlib.Core.Path.{_≡_, refl}
 use mathlib.Core.Bool.{xor}
 use mathlib.Core.List.{List, [], _∷_}
-use Prim.Native.Nat.{ℕ}
+use Prim.Native.Nat.{ℕ, _*_, _/_, _%_, _^_}
 use borrow.Author.Needs.{needs}
 use Rattle.laws.specs.Bits.{_⊕_, odd, bitsOf}
 use Rattle.laws.specs.Tables.{tabulate}
 use Rattle.pec.specs.Remainder.{once, step, remainder}
 use Rattle.pec.specs.Words.{polynomial15}
-use Rattle.pec.proofs.ByShifts.{downs, ups, times, left, byShifts, formula, rule, by-shifts}
+use Rattle.pec.proofs.ByShifts.{Linear, then-linear, down, up, low, sums, moved-sum, formula, rule, by-shifts}
 use Rattle.pec.proofs.by_shifts.remainder_15.Statement.{statement}
 use Rattle.pec.proofs.by_shifts.remainder_15.Tie as tie
 
@@ -34,24 +34,35 @@ mul-left-6 c = search needs
 cast-result : tie.Need-cast-result
 cast-result c = search needs
 
-factors : List (List ℕ)
-factors =
-    (1 ∷ 5 ∷ 7 ∷ 8 ∷ 11 ∷ 12 ∷ 15 ∷ [])
-    ∷ (2 ∷ 10 ∷ 14 ∷ [])
-    ∷ (4 ∷ [])
-    ∷ (8 ∷ [])
-    ∷ []
+downs : List ℕ → ℕ → ℕ
+downs ss x = sums (λ s y. y / 2 ^ s) x ss x
 
-terms : List ℕ
-terms = 3 ∷ 4 ∷ 7 ∷ 8 ∷ 10 ∷ 14 ∷ []
+ups : List ℕ → ℕ → ℕ
+ups ss x = sums (λ s y. y * 2 ^ s) x ss x
 
-tested : formula 15 polynomial15 16 factors terms ≡ rule 15 polynomial15 16 factors terms
-unfolding formula rule byShifts left times downs ups factors terms tabulate remainder step once bitsOf odd _⊕_ xor
+-- the message times (1 + a)(1 + a^2)(1 + a^4)(1 + a^8)
+quotient : ℕ → ℕ
+quotient x = downs (8 ∷ []) (downs (4 ∷ []) (downs (2 ∷ 10 ∷ 14 ∷ []) (downs (1 ∷ 5 ∷ 7 ∷ 8 ∷ 11 ∷ 12 ∷ 15 ∷ []) x)))
+
+-- its low bits times the polynomial's lower terms
+left : ℕ → ℕ
+left x = ups (3 ∷ 4 ∷ 7 ∷ 8 ∷ 10 ∷ 14 ∷ []) (quotient x % 2 ^ 15) % 2 ^ 15
+
+left-linear : Linear left
+unfolding left quotient downs ups
+left-linear =
+    let lower : (ss : List ℕ) → Linear (λ (x : ℕ). sums (λ s y. y / 2 ^ s) x ss x) = moved-sum _ down in
+    then-linear
+    (then-linear (then-linear (then-linear (lower (1 ∷ 5 ∷ 7 ∷ 8 ∷ 11 ∷ 12 ∷ 15 ∷ [])) (lower (2 ∷ 10 ∷ 14 ∷ []))) (lower (4 ∷ []))) (lower (8 ∷ [])))
+    (then-linear (then-linear (low 15) (moved-sum _ up (3 ∷ 4 ∷ 7 ∷ 8 ∷ 10 ∷ 14 ∷ []))) (low 15))
+
+tested : formula 15 polynomial15 16 left ≡ rule 15 polynomial15 16 left
+unfolding formula rule left quotient downs ups sums tabulate remainder step once bitsOf odd _⊕_ xor
 tested = refl
 
 returns : tie.Need-returns
-unfolding byShifts left times downs ups factors terms _⊕_
-returns c = by-shifts 15 polynomial15 16 factors terms tested (c .fits .message .fits)
+unfolding left quotient downs ups sums _⊕_
+returns c = by-shifts 15 polynomial15 16 left left-linear tested (c .fits .message .fits)
 
 pub remainder-15-spec : {M : Type 1} → statement M
 remainder-15-spec = tie.close (tie.spec mul-left mul-left-2 mul-left-3 mul-left-4 mul-left-5 mul-left-6 cast-result returns)
