@@ -31,67 +31,71 @@ pub(crate) const COUNTER: usize = 68;
 
 pub(crate) const UNLOCKED: usize = 69;
 
-// Where a part of the record begins, and how many bytes it has.
+// Where a part of the record begins, and how many bytes it has. In bytes, so that a command is three of them: the compiler copies a
+// larger one in pieces that wait for each other.
 pub struct Part {
-    pub at: usize,
-    pub size: usize,
+    pub at: u8,
+    pub size: u8,
 }
 
 // What each read shows. The cells' registers A to E have three cells each, and F has cell 16.
 pub(crate) const RDCFGA: Part = Part {
-    at: CONFIGURATION_A,
+    at: CONFIGURATION_A as u8,
     size: 6,
 };
 
 pub(crate) const RDCFGB: Part = Part {
-    at: CONFIGURATION_B,
+    at: CONFIGURATION_B as u8,
     size: 6,
 };
 
-pub(crate) const RDCVA: Part = Part { at: CELLS, size: 6 };
+pub(crate) const RDCVA: Part = Part {
+    at: CELLS as u8,
+    size: 6,
+};
 
 pub(crate) const RDCVB: Part = Part {
-    at: CELLS + 6,
+    at: (CELLS + 6) as u8,
     size: 6,
 };
 
 pub(crate) const RDCVC: Part = Part {
-    at: CELLS + 12,
+    at: (CELLS + 12) as u8,
     size: 6,
 };
 
 pub(crate) const RDCVD: Part = Part {
-    at: CELLS + 18,
+    at: (CELLS + 18) as u8,
     size: 6,
 };
 
 pub(crate) const RDCVE: Part = Part {
-    at: CELLS + 24,
+    at: (CELLS + 24) as u8,
     size: 6,
 };
 
 pub(crate) const RDCVF: Part = Part {
-    at: CELLS + 30,
+    at: (CELLS + 30) as u8,
     size: 2,
 };
 
 pub(crate) const RDSTATC: Part = Part {
-    at: STATUS_C,
+    at: STATUS_C as u8,
     size: 6,
 };
 
 pub(crate) const RDSTATD: Part = Part {
-    at: STATUS_D,
+    at: STATUS_D as u8,
     size: 6,
 };
 
 pub(crate) const RDSID: Part = Part {
-    at: SERIAL_ID,
+    at: SERIAL_ID as u8,
     size: 6,
 };
 
 pub(crate) const RDRR: Part = Part {
-    at: RETENTION,
+    at: RETENTION as u8,
     size: 6,
 };
 

@@ -11,8 +11,8 @@ use crate::record::byte_at;
 fn shown_byte(rec: &[u8], part: Part, i: usize) -> u8
     ensures { λ b. ⌜ b ≡ getD (bytesOf part (now (rec .entry))) i 0xFF ⌝ }
 {
-    let at = part.at;
-    let size = part.size;
+    let at = part.at as usize;
+    let size = part.size as usize;
     if i < size {
         if at < rec.len() {
             if i < rec.len() - at {
@@ -41,8 +41,8 @@ fn shown_register(part: Part, rec: &[u8]) -> [u8; 6]
 fn register_of(part: Part, rec: &[u8]) -> [u8; 6]
     ensures { λ r. ⌜ r ≡ register part (now (rec .entry)) ⌝ }
 {
-    let at = part.at;
-    let size = part.size;
+    let at = part.at as usize;
+    let size = part.size as usize;
     if 6 <= size {
         if 6 <= rec.len() {
             if at <= rec.len() - 6 {

@@ -7,6 +7,12 @@ use borrow.Author.Needs.{needs}
 use Rattle.monitor.proofs.replies.register_of.Statement.{statement}
 use Rattle.monitor.proofs.replies.register_of.Tie as tie
 
+cast-at : tie.Need-cast-at
+cast-at c = search needs
+
+cast-size : tie.Need-cast-size
+cast-size c = search needs
+
 sub-if3 : tie.Need-sub-if3
 sub-if3 c = search needs
 
@@ -56,6 +62,8 @@ pub register-of-spec : {M : Type 1} → statement M
 register-of-spec =
     tie.close
     (tie.spec
+    cast-at
+    cast-size
     sub-if3
     shared-slice-read-t12
     add-t13

@@ -6,6 +6,12 @@ use borrow.Author.Needs.{needs}
 use Rattle.monitor.proofs.replies.shown_byte.Statement.{statement}
 use Rattle.monitor.proofs.replies.shown_byte.Tie as tie
 
+cast-at : tie.Need-cast-at
+cast-at c = search needs
+
+cast-size : tie.Need-cast-size
+cast-size c = search needs
+
 sub-if3 : tie.Need-sub-if3
 sub-if3 c = search needs
 
@@ -17,21 +23,25 @@ shared-slice-read-result c = search needs
 
 returns : tie.Need-returns
 returns c =
-    shows (c .before .before .before .before .args .part) (c .before .before .before .before .args .rec .now) (c .before .before .before .before .args .i) (c .before .before .before .if1 .taken) (omega arith)
+    let a = c .before .before .before .before .before .before .args in
+    shows (a .part) (a .rec .now) (a .i) (c .before .before .before .if1 .taken) (omega arith)
 
 returns-2 : tie.Need-returns-2
 returns-2 c =
-    shows-past (c .before .before .before .args .part) (c .before .before .before .args .rec .now) (c .before .before .before .args .i) (past-slice (c .before .before .before .args .part) (c .before .before .before .args .rec .now) (c .before .before .before .args .i) (c .if3 .left))
+    let a = c .before .before .before .before .before .args in
+    shows-past (a .part) (a .rec .now) (a .i) (past-slice (a .part) (a .rec .now) (a .i) (c .if3 .left))
 
 returns-3 : tie.Need-returns-3
 returns-3 c =
-    shows-past (c .before .before .args .part) (c .before .before .args .rec .now) (c .before .before .args .i) (past-slice (c .before .before .args .part) (c .before .before .args .rec .now) (c .before .before .args .i) (omega arith))
+    let a = c .before .before .before .before .args in
+    shows-past (a .part) (a .rec .now) (a .i) (past-slice (a .part) (a .rec .now) (a .i) (omega arith))
 
 returns-4 : tie.Need-returns-4
 returns-4 c =
-    shows-past (c .before .args .part) (c .before .args .rec .now) (c .before .args .i) (past-part (c .before .args .part) (c .before .args .rec .now) (c .before .args .i) (c .if1 .left))
+    let a = c .before .before .before .args in
+    shows-past (a .part) (a .rec .now) (a .i) (past-part (a .part) (a .rec .now) (a .i) (c .if1 .left))
 
 pub shown-byte-spec : {M : Type 1} → statement M
 shown-byte-spec =
     tie.close
-    (tie.spec sub-if3 add-result shared-slice-read-result returns returns-2 returns-3 returns-4)
+    (tie.spec cast-at cast-size sub-if3 add-result shared-slice-read-result returns returns-2 returns-3 returns-4)
