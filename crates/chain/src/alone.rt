@@ -61,6 +61,9 @@ pub fn reply_all(table: &[u8], command: Command, buffer: &mut [u8]) -> usize
     ensures { λ r. ⌜ r ≡ cond (repliesInto command (now (table .entry)) (length (now (buffer .entry)))) (replyLength command (monitors (now (table .entry)))) 0 ⌝ }
     ensures { λ _. ⌜ now (buffer .exit) ≡ cond (repliesInto command (now (table .entry)) (length (now (buffer .entry)))) (replied command (monitors (now (table .entry))) (now (table .entry)) (now (buffer .entry))) (now (buffer .entry)) ⌝ }
 {
+    if reply_length(command, 1) == 0 {
+        return 0;
+    }
     let n = sound_count(table);
     if n == 0 {
         return 0;

@@ -2,7 +2,7 @@
 ghost use mathlib.Core.Path.{_≡_};
 ghost use mathlib.Core.List.{_++_, _∷_, []};
 ghost use lib.ListN.{length, getD, drop};
-ghost use Rattle.clocked.specs.Clock.{known, kindOf, clocked, leaving, answered};
+ghost use Rattle.clocked.specs.Clock.{known, chainedBy, kindOf, clocked, leaving, answered};
 ghost use Rattle.clocked.specs.State.{stateSize, kindIn, chainedIn, registerIn, clockOf, noted, shifted, movedOn, takenIn, stateAfter};
 use crate::state::CHAINED;
 use crate::state::HEAD;
@@ -21,12 +21,13 @@ use monitor::PAYLOAD_SIZE;
 // What is answered where nothing leaves monitor 1, and what the last window draws.
 const FAR: u8 = 0xff;
 
-// The command of the first four bytes, where refusals 1, 3 and 4 do not hold.
-fn known_command(table: &[u8], head: &[u8]) -> Command
-    requires { ⌜ length (now head) ≡ 4 ⌝ }
+// The command of the first four bytes, where refusals 1, 3 and 4 do not hold. The count of the table, 0 if it is not sound, is known
+// already: a look at all of it is dear.
+fn known_command(table: &[u8], head: &[u8], count: usize) -> Command
+    requires { ⌜ (length (now head) ≡ 4) × (count ≡ chainedBy (now table)) ⌝ }
     ensures { λ r. ⌜ r ≡ known (now (table .entry)) (now (head .entry)) ⌝ }
 {
-    if !chain::sound(table) {
+    if count == 0 {
         return Command::Unlisted;
     }
     if !pec::command_right(head) {
@@ -52,9 +53,10 @@ fn note(state: &mut [u8], table: &[u8])
     requires { ⌜ length (now state) ≡ stateSize ⌝ }
     ensures { λ _. ⌜ now (state .exit) ≡ noted (now (table .entry)) (now (state .entry)) ⌝ }
 {
-    let command = known_command(table, &state[HEAD..WINDOWS]);
+    let count = chain::sound_count(table);
+    let command = known_command(table, &state[HEAD..WINDOWS], count);
     state[KIND] = kind_byte(kind_of(command));
-    state[CHAINED] = chain::sound_count(table) as u8;
+    state[CHAINED] = count as u8;
     chain::reply_all(table, command, &mut state[WINDOWS..STATE_SIZE]);
 }
 

@@ -2,7 +2,8 @@
 -- Assumes nothing.
 use mathlib.Core.Path.{sym, ap, _∙_}
 use native.Mathlib.Omega.{arith}
-use lib.ListN.{length, length-set}
+use lib.ListN.{length, length-set, length-drop, drop}
+use lib.Seq.{length-take-le}
 use Rattle.clocked.specs.Clock.{chainedBy}
 use Rattle.clocked.specs.State.{kindByte, headIn, stateSize}
 use Rattle.clocked.proofs.Known.{chained-by-few}
@@ -11,6 +12,9 @@ use Rattle.clocked.proofs.Noting.{length-stored, noted-by}
 use borrow.Author.Needs.{needs}
 use Rattle.clocked.proofs.bytes_in.note.Statement.{statement}
 use Rattle.clocked.proofs.bytes_in.note.Tie as tie
+
+sound-count-requires : tie.Need-sound-count-requires
+sound-count-requires c κs = search needs
 
 sub-known-command : tie.Need-sub-known-command
 sub-known-command c = search needs
@@ -22,7 +26,10 @@ part-known-command-end : tie.Need-part-known-command-end
 part-known-command-end c = search needs
 
 known-command-requires : tie.Need-known-command-requires
-known-command-requires c κs = search needs
+unfolding chainedBy
+known-command-requires c κs =
+    let s = c .before .before .before .before .before in
+    (length-take-le 4 (drop 4 (s .args .state .now)) (omega (arith, length-drop 4 (s .args .state .now), s .pre)), c .before .before .sound-count .ensures)
 
 kind-of-requires : tie.Need-kind-of-requires
 kind-of-requires c κs = search needs
@@ -33,15 +40,12 @@ kind-byte-requires c κs = search needs
 slice-write-state : tie.Need-slice-write-state
 slice-write-state c = search needs
 
-sound-count-requires : tie.Need-sound-count-requires
-sound-count-requires c κs = search needs
-
 cast-state : tie.Need-cast-state
 unfolding chainedBy
-cast-state c = omega (arith, c .sound-count .ensures, chained-by-few (c .before .before .before .before .before .before .before .before .args .table .now))
+cast-state c = omega (arith, c .before .before .before .before .before .sound-count .ensures, chained-by-few (c .before .before .before .before .before .before .before .before .args .table .now))
 
 slice-write-state-2 : tie.Need-slice-write-state-2
-slice-write-state-2 c = search needs
+slice-write-state-2 c = omega (arith, length-set (c .before .before .before .before .before .before .before .before .args .state .now) 2 (c .kind-byte .result), c .before .before .before .before .before .before .before .before .pre)
 
 sub-reply-all : tie.Need-sub-reply-all
 sub-reply-all c = search needs
@@ -52,7 +56,7 @@ part-reply-all-start c = search needs
 part-reply-all-end : tie.Need-part-reply-all-end
 part-reply-all-end c =
     let start = c .before .before .before .before .before .before .before .before in
-    omega (arith, length-stored (start .args .table .now) (start .args .state .now) (c .before .kind-byte .result) (c .sound-count .result) (start .pre))
+    omega (arith, length-stored (start .args .table .now) (start .args .state .now) (c .kind-byte .result) (c .before .before .before .before .before .sound-count .result) (start .pre))
 
 reply-all-requires : tie.Need-reply-all-requires
 reply-all-requires c κs = search needs
@@ -61,7 +65,7 @@ returns : tie.Need-returns
 unfolding chainedBy headIn
 returns c =
     let start = c .before .before .before .before .before .before .before .before .before .before .before .before in
-    noted-by (start .args .table .now) (start .args .state .now) _ _ (start .pre) (c .before .before .before .before .before .before .before .known-command .ensures) (c .before .before .before .before .before .kind-byte .ensures ∙ ap kindByte (c .before .before .before .before .before .before .kind-of .ensures)) (c .before .before .before .before .sound-count .ensures) (c .before .before .reply-all .ensures .1)
+    noted-by (start .args .table .now) (start .args .state .now) _ _ (start .pre) (c .before .before .before .before .before .before .known-command .ensures) (c .before .before .before .before .kind-byte .ensures ∙ ap kindByte (c .before .before .before .before .before .kind-of .ensures)) (c .before .before .before .before .before .before .before .before .before .sound-count .ensures) (c .before .before .reply-all .ensures .1)
 
 same-length : tie.Need-same-length
 same-length c =
@@ -72,6 +76,7 @@ pub note-spec : {M : Type 1} → statement M
 note-spec =
     tie.close
     (tie.spec
+    sound-count-requires
     sub-known-command
     part-known-command-start
     part-known-command-end
@@ -79,7 +84,6 @@ note-spec =
     kind-of-requires
     kind-byte-requires
     slice-write-state
-    sound-count-requires
     cast-state
     slice-write-state-2
     sub-reply-all
