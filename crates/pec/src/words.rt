@@ -1,7 +1,7 @@
 // The two check words of document 01, and what is sent of them.
 ghost use mathlib.Core.Path.{_≡_};
 ghost use mathlib.Core.List.{_++_};
-ghost use Prim.Native.Nat.{_*_, _^_, _≤_, _<_};
+ghost use Prim.Native.Nat.{_+_, _*_, _^_, _≤_, _<_};
 ghost use lib.ListN.{length};
 ghost use Rattle.laws.specs.Bits.{bitsOf, bitsOfBytes, numberOf};
 ghost use Rattle.pec.specs.Remainder.{remainder};
@@ -52,20 +52,13 @@ fn number_of(bytes: &[u8]) -> u64
     n
 }
 
-// Eight bytes and six, in two parts: the compiler then reads each part with one load.
-fn number_of_eight(eight: &[u8]) -> u64
-    requires { ⌜ length (now eight) ≡ 8 ⌝ }
-    ensures { λ r. ⌜ r ≡ numberOf (now (eight .entry)) ⌝ }
+// The same in two parts, the first four bytes long, for eight bytes or six: the compiler then reads each part with one load.
+fn number_by_parts(bytes: &[u8], rest: u64) -> u64
+    requires { ⌜ (length (now bytes) ≡ 4 + rest) × (rest ≤ 4) ⌝ }
+    ensures { λ r. ⌜ r ≡ numberOf (now (bytes .entry)) ⌝ }
+    ensures { λ r. ⌜ r < 2 ^ (8 * (4 + rest)) ⌝ }
 {
-    number_of(&eight[..4]) * 4294967296 + number_of(&eight[4..])
-}
-
-fn number_of_six(six: &[u8]) -> u64
-    requires { ⌜ length (now six) ≡ 6 ⌝ }
-    ensures { λ r. ⌜ r ≡ numberOf (now (six .entry)) ⌝ }
-    ensures { λ r. ⌜ r < 2 ^ 48 ⌝ }
-{
-    number_of(&six[..4]) * 65536 + number_of(&six[4..])
+    (number_of(&bytes[..4]) << (8 * rest)) + number_of(&bytes[4..])
 }
 
 // The 15-bit remainder of a byte string, bit by bit.
@@ -133,7 +126,7 @@ pub fn data_pec(bytes: &[u8], counter: u8) -> u16
 {
     let bits = counter % 64;
     if bytes.len() == 6 {
-        return by_shifts::of_message(number_of_six(bytes) * 64 + (bits as u64));
+        return by_shifts::of_message(number_by_parts(bytes, 2) * 64 + (bits as u64));
     }
     pec10_and_bits(bytes, 6, bits as u16)
 }
@@ -151,7 +144,7 @@ fn seal_six(six: &[u8], counter: u8) -> [u8; 8]
     ensures { λ r. ⌜ r ≡ now (six .entry) ++ seal (now (six .entry)) counter ⌝ }
 {
     let six_bits = counter % 64;
-    let check = by_shifts::of_message(number_of_six(six) * 64 + (six_bits as u64));
+    let check = by_shifts::of_message(number_by_parts(six, 2) * 64 + (six_bits as u64));
     let end = two_bytes((six_bits as u16) * 1024 + check);
     [
         six[0],
@@ -181,7 +174,7 @@ pub fn number_in(eight: &[u8]) -> u64
     if eight.len() != 8 {
         return 0;
     }
-    number_of_eight(eight)
+    number_by_parts(eight, 4)
 }
 
 // Is a payload right that is one number?

@@ -15,20 +15,20 @@ use borrow.Author.Needs.{needs}
 use Rattle.pec.proofs.words.data_pec.Statement.{statement}
 use Rattle.pec.proofs.words.data_pec.Tie as tie
 
-number-of-six-requires : tie.Need-number-of-six-requires
-number-of-six-requires c κs = search needs
+number-by-parts-requires : tie.Need-number-by-parts-requires
+number-by-parts-requires c κs = search needs
 
 mul-of-message : tie.Need-mul-of-message
-mul-of-message c = omega (arith, c .number-of-six .ensures .1)
+mul-of-message c = omega (arith, c .number-by-parts .ensures .1)
 
 cast-of-message : tie.Need-cast-of-message
 cast-of-message c = search needs
 
 add-of-message : tie.Need-add-of-message
-add-of-message c = omega (arith, c .number-of-six .ensures .1)
+add-of-message c = omega (arith, c .number-by-parts .ensures .1)
 
 of-message-requires : tie.Need-of-message-requires
-of-message-requires c κs = omega (arith, c .number-of-six .ensures .1)
+of-message-requires c κs = omega (arith, c .number-by-parts .ensures .1)
 
 returns : tie.Need-returns
 unfolding dataPec
@@ -36,7 +36,7 @@ returns c =
     let s = c .before .before .before in
     let a = s .before .args in
     c .of-message .ensures
-    ∙ ap (λ (n : ℕ). remainder 10 polynomial10 16 (bitsOf 54 (n * 64 + a .counter % 64))) (c .before .number-of-six .ensures .0)
+    ∙ ap (λ (n : ℕ). remainder 10 polynomial10 16 (bitsOf 54 (n * 64 + a .counter % 64))) (c .before .number-by-parts .ensures .0)
     ∙ data-message (a .bytes .now) (a .counter % 64) (λ i. s .shared-slice-known .given i .fits) (c .before .before .if1 .taken) (mod-lt (a .counter) (lit< tt))
     ∙ counter-bits (a .bytes .now) (a .counter)
 
@@ -56,7 +56,7 @@ pub data-pec-spec : {M : Type 1} → statement M
 data-pec-spec =
     tie.close
     (tie.spec
-    number-of-six-requires
+    number-by-parts-requires
     mul-of-message
     cast-of-message
     add-of-message

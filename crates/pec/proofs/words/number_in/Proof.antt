@@ -72,8 +72,8 @@ returns c =
       zero-wrong ∙ sym (ap (λ (b : Bool). b && eqb (wordAt eight 6 % 1024) (dataPec (take 6 eight) (counterOf eight))) other),
     )
 
-number-of-eight-requires : tie.Need-number-of-eight-requires
-number-of-eight-requires c κs = search needs
+number-by-parts-requires : tie.Need-number-by-parts-requires
+number-by-parts-requires c κs = search needs
 
 returns-2 : tie.Need-returns-2
 unfolding numberIn numberRight payloadRight
@@ -82,7 +82,7 @@ returns-2 c =
     let eight = s .before .args .eight .now in
     let whole = c .before .if1 .left in
     let there = eq-eqb (length eight) 8 whole in
-    let number = c .number-of-eight .ensures in (
+    let number = c .number-by-parts .ensures .0 in (
       number ∙ sym (ap (λ (b : Bool). cond b (numberOf eight) 0) there),
       ap (λ (n : ℕ). eqb (remainder 10 polynomial10 16 (bitsOf 64 n)) 0) number
           ∙ check eight (λ i. s .shared-slice-known .given i .fits) whole
@@ -90,4 +90,4 @@ returns-2 c =
     )
 
 pub number-in-spec : {M : Type 1} → statement M
-number-in-spec = tie.close (tie.spec returns number-of-eight-requires returns-2)
+number-in-spec = tie.close (tie.spec returns number-by-parts-requires returns-2)

@@ -27,8 +27,8 @@ both : (six : List ℕ) (n : ℕ) → length six ≡ 6 → eight six (twoBytes n
 unfolding tabulate twoBytes
 both six n e = ap (λ (l : List ℕ). l ++ twoBytes n) (rebuilt six 6 e)
 
-number-of-six-requires : tie.Need-number-of-six-requires
-number-of-six-requires c κs = search needs
+number-by-parts-requires : tie.Need-number-by-parts-requires
+number-by-parts-requires c κs = search needs
 
 mul-of-message : tie.Need-mul-of-message
 mul-of-message c = search needs
@@ -90,7 +90,7 @@ returns c =
     (c .before .before .before .before .before .before .two-bytes .ensures
     ∙ ap (λ (n : ℕ). twoBytes (counter % 64 * 1024 + n))
     (c .before .before .before .before .before .before .before .of-message .ensures
-    ∙ ap (λ (n : ℕ). remainder 10 polynomial10 16 (bitsOf 54 (n * 64 + counter % 64))) (c .before .before .before .before .before .before .before .before .number-of-six .ensures .0)
+    ∙ ap (λ (n : ℕ). remainder 10 polynomial10 16 (bitsOf 54 (n * 64 + counter % 64))) (c .before .before .before .before .before .before .before .before .number-by-parts .ensures .0)
     ∙ data-message six (counter % 64) (λ i. s .shared-slice-known .given i .fits) (s .before .pre) (mod-lt counter (lit< tt))
     ∙ counter-bits six counter))
     ∙ both six _ (s .before .pre)
@@ -99,7 +99,7 @@ pub seal-six-spec : {M : Type 1} → statement M
 seal-six-spec =
     tie.close
     (tie.spec
-    number-of-six-requires
+    number-by-parts-requires
     mul-of-message
     cast-of-message
     add-of-message
