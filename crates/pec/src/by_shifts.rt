@@ -37,7 +37,7 @@ fn remainder_10(message: u64) -> u16
 fn remainder_15(message: u16) -> u16
     ensures { λ r. ⌜ r ≡ remainder 15 polynomial15 0 (bitsOf 16 message) ⌝ }
 {
-    let m = message as u32;
+    let m = message as u64;
     let a = m ^ (m >> 1) ^ (m >> 5) ^ (m >> 7) ^ (m >> 8) ^ (m >> 11) ^ (m >> 12) ^ (m >> 15);
     let b = a ^ (a >> 2) ^ (a >> 10) ^ (a >> 14);
     let c = b ^ (b >> 4);
