@@ -24,7 +24,8 @@ fn main() {
     println!("  each measure, before it and after it.");
     println!("- Method: {ROUNDS} rounds of at least {LEAST_ROUND_MS} ms for each contestant; they take turns within a round, and each");
     println!("  round starts with another one. {INPUTS} inputs in rotation. The clock is the thread's processor time.");
-    println!("- Buffers were not cleared between calls: tables, replies and states persist, so counters move on.");
+    println!("- Buffers were not cleared between calls: tables and replies persist, so counters move on. A clock is started for each");
+    println!("  frame, and copied for a release.");
     println!("- A cell is the median in ns (the smallest; the width of the middle half, as a part of the median). Ratios are of");
     println!("  medians, of osk to the best of the plain programs: {}.", names[1..].join(", "));
     let mut random = inputs::Random(2024);

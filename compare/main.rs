@@ -20,7 +20,7 @@ const SEED: u64 = 0x0534_B012;
 const ROUNDS: u64 = 2;
 const MOST_ROUNDS: u64 = 100_000;
 /// Fewer calls than this are no comparison.
-const LEAST_CALLS: u64 = 200_000;
+const LEAST_CALLS: u64 = 10_000_000;
 
 const HEADER: &str = include_str!("../include/oskorbine.h");
 

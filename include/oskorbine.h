@@ -5,8 +5,8 @@
  * definitions of the project say. It keeps nothing between calls and asks nothing of the bytes it is lent.
  *
  * A pointer and the length behind it are one buffer, and the length counts elements. The caller owes what C cannot check: the pointer
- * is valid and aligned for so many elements, also where the length is 0 (then any object's address will do), and a buffer that is
- * written overlaps no other one of the same call.
+ * is valid and aligned for so many elements, also where the length is 0 (then the address of any object of that type will do), and a
+ * buffer that is written overlaps no other one of the same call.
  */
 #ifndef OSKORBINE_H
 #define OSKORBINE_H
@@ -45,7 +45,7 @@ enum {
     OSK_NEITHER_RIGHT = 10   /* neither port's bytes are right */
 };
 
-/* ---- the chain: a table of N records, nearest monitor first */
+/* ---- the chain: a table of N records of 70 bytes, nearest monitor first, laid out as document 01 has it. Zero bytes are a sound table */
 
 /* Handles a frame. The table becomes what the monitors keep of it; the reply to a read, nearest monitor first, goes to the start of
  * `reply`, and bytes past it stay.

@@ -120,7 +120,7 @@ fn payload_in(payloads: &[u8], n: usize, k: usize) -> &[u8]
 {
     let at = (n - 1 - k) * PAYLOAD_SIZE;
     let end = at + PAYLOAD_SIZE;
-    // The same for every k, so that the compiler asks it once for all monitors.
+    // In a whole write or read all of them are there: one test, the same for every k.
     if n * PAYLOAD_SIZE <= payloads.len() {
         return &payloads[at..end];
     }
@@ -133,8 +133,8 @@ fn payload_in(payloads: &[u8], n: usize, k: usize) -> &[u8]
     &payloads[..0]
 }
 
-// Every monitor acts on its own of the payloads, and those that took the command are counted. This is the only loop in which monitors
-// act, so that the compiler keeps all of it in one place.
+// Every monitor acts on its own of the payloads, and those that took the command are counted. Nothing else reaches a monitor's act, so that
+// the compiler keeps all of it in this loop.
 pub(crate) fn serve(table: &mut [u8], command: Command, n: usize, payloads: &[u8]) -> usize
     requires { ⌜ (length (now table) ≡ n * recordSize) × (n ≤ mostMonitors) ⌝ }
     ensures { λ r. ⌜ r ≡ count (takes command) (writePayloads payloadSize n (now (payloads .entry))) ⌝ }

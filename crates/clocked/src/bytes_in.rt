@@ -21,8 +21,8 @@ use monitor::PAYLOAD_SIZE;
 // What is answered where nothing leaves monitor 1, and what the last window draws.
 const FAR: u8 = 0xff;
 
-// The command of the first four bytes, where refusals 1, 3 and 4 do not hold. The count of the table, 0 if it is not sound, is known
-// already: a look at all of it is dear.
+// The command of the first four bytes, and one that is not listed where refusal 1, 3 or 4 holds. The count of the table, 0 if it is not
+// sound, is known already: a look at all of it is dear.
 fn known_command(table: &[u8], head: &[u8], count: usize) -> Command
     requires { ⌜ (length (now head) ≡ 4) × (count ≡ chainedBy (now table)) ⌝ }
     ensures { λ r. ⌜ r ≡ known (now (table .entry)) (now (head .entry)) ⌝ }

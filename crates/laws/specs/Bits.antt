@@ -30,6 +30,7 @@ unfoldable pub numberFrom : ℕ → List ℕ → ℕ
 numberFrom n [] = n
 numberFrom n (b ∷ bs) = numberFrom (n * 256 + b) bs
 
+-- a byte string as one number
 unfoldable pub numberOf : List ℕ → ℕ
 numberOf bs = numberFrom 0 bs
 

@@ -52,7 +52,7 @@ fn number_of(bytes: &[u8]) -> u64
     n
 }
 
-// The same in two parts, the first four bytes long, for eight bytes or six: the compiler then reads each part with one load.
+// The same in two parts, the first four bytes long, for eight bytes or six: such loads the compiler can join.
 fn number_by_parts(bytes: &[u8], rest: u64) -> u64
     requires { ⌜ (length (now bytes) ≡ 4 + rest) × (rest ≤ 4) ⌝ }
     ensures { λ r. ⌜ r ≡ numberOf (now (bytes .entry)) ⌝ }
