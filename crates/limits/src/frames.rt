@@ -73,17 +73,7 @@ pub(crate) fn read(code: u16) -> [u8; 20] {
 
 // Six bytes as a write carries them, with a counter.
 pub(crate) fn payload(six: [u8; 6], counter: u8) -> [u8; 8] {
-    let check = pec::seal(&six, counter);
-    [
-        six[0],
-        six[1],
-        six[2],
-        six[3],
-        six[4],
-        six[5],
-        check[0],
-        check[1],
-    ]
+    pec::sealed(&six, counter)
 }
 
 // A write for two monitors from what each is sent. The first eight bytes are those of the farthest, monitor 2.
