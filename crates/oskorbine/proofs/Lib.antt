@@ -1,5 +1,3 @@
 pub mod Packed
 pub mod Fits
 pub mod Pointed
-pub mod Numbers
-pub mod Surface

@@ -11,3 +11,5 @@ pub mod Demand1
 pub mod Demand2
 pub mod ByteFour
 pub mod Demand3
+pub mod SurfaceNumbers
+pub mod Surface

@@ -24,16 +24,16 @@ use Rattle.host.specs.Ports.{portRefusals, portOf}
 use Rattle.host.specs.Parts.{bytesOf}
 use Rattle.readings.specs.declared.pack_summary.Pack.the-variants.{Nothing}
 use Rattle.readings.specs.Readings.{microvolts, readingOf, summaryOf}
 use Rattle.story.specs.Numbers.{firstNumber, summaryRefusals}
 use Rattle.story.proofs.OneOutcome.{Settles, leaves, settles}
 use Rattle.story.proofs.Demand1.{Promised}
 use Rattle.oskorbine.specs.Packed.{packed, apart, refused, accepted, frameParts, loadParts, builtParts, checkedParts, portParts, pointed, lookedParts}
 use Rattle.oskorbine.specs.Volts.{voltsOrNan, roomRow, summaryParts, summaryOut}
 use Rattle.oskorbine.proofs.Packed.{apart-packed}
 use Rattle.oskorbine.proofs.Fits.{frame-fits, release-fits, load-fits, built-fits, checked-fits, port-fits, look-fits, byte-fits, summary-fits}
 use Rattle.oskorbine.proofs.Pointed.{pointed-bytes}
-use Rattle.oskorbine.proofs.Numbers.{frame-number, load-number, release-number, look-number, built-number, checked-number, port-number, summary-number, summary-stays, nothing-stays}
+use Rattle.story.proofs.SurfaceNumbers.{frame-number, load-number, release-number, look-number, built-number, checked-number, port-number, summary-number, summary-stays, nothing-stays}
 use Rattle.oskorbine.proofs as oskorbine
 
 -- ---- every function
 
