@@ -7,7 +7,7 @@ use crate::parts::bytes_of;
 use crate::parts::far_of;
 use crate::parts::near_of;
 use host::Built;
-use host::Port;
+use ports::Port;
 
 const WRCFGB: u16 = 0x0024;
 
@@ -145,8 +145,8 @@ fn six_of(part: &[u8]) -> [u8; 6] {
 // A monitor's bytes as the host picks them from the two replies: port A's where they are right, otherwise port B's.
 fn register_of(a: [u8; 16], b: [u8; 16], monitor: usize) -> Register {
     Register {
-        six: six_of(host::part_of(&a, &b, 2, monitor)),
-        port: host::port_of(&a, &b, 2, monitor),
+        six: six_of(ports::part_of(&a, &b, 2, monitor)),
+        port: ports::port_of(&a, &b, 2, monitor),
     }
 }
 

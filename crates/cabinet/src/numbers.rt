@@ -1,5 +1,5 @@
 // Codes and microvolts.
-use loads::ResultCode;
+use thresholds::ResultCode;
 
 // A code from the two bytes that a reply has of it, low byte first, two's complement.
 pub(crate) fn code_in(low: u8, high: u8) -> i16 {

@@ -19,7 +19,7 @@ use crate::parts::bytes_of;
 use crate::parts::far_of;
 use crate::parts::near_of;
 use crate::say;
-use host::Port;
+use ports::Port;
 
 pub(crate) fn limits(words: &[u8], l: Limits) {
     say::text(words);

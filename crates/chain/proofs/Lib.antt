@@ -1,13 +1,4 @@
-pub mod Payloads
-pub mod Serving
-pub mod OneTurn
-pub mod Soundness
-pub mod Judging
-pub mod Turns
-pub mod EachActs
-pub mod RepliesInto
+pub mod Room
 pub mod Outcome
 pub mod Refused
-pub mod Keeps
-pub mod OwnBytes
-pub mod Taken
+pub mod FrameKeeps

@@ -18,18 +18,19 @@ use Rattle.laws.proofs.Rows.{Every, length-rows, length-joined, every-image, al
 use Rattle.wire.specs.Order.{replyData}
 use Rattle.wire.specs.Windows.{empty, enterAll}
 use Rattle.wire.proofs.Windows.{windows-after-write, length-enterAll, length-empty, length-drawn, left-whole}
-use Rattle.monitor.specs.declared.commands.Command.{Command}
-use Rattle.monitor.specs.declared.commands.Command.the-variants.{Reads, Writes, Bares, Unlisted}
-use Rattle.monitor.specs.declared.record.Part.{Part}
-use Rattle.monitor.specs.Record.{recordSize}
-use Rattle.monitor.specs.Commands.{isListed, payloadSize, frameLength}
+use Rattle.records.specs.declared.commands.Command.{Command}
+use Rattle.records.specs.declared.commands.Command.the-variants.{Reads, Writes, Bares, Unlisted}
+use Rattle.records.specs.declared.record.Part.{Part}
+use Rattle.records.specs.Record.{recordSize}
+use Rattle.records.specs.Commands.{isListed, payloadSize, frameLength, replyLength}
 use Rattle.monitor.specs.Effects.{takes, keeps}
-use Rattle.monitor.specs.Reply.{reply}
-use Rattle.monitor.proofs.Sound.{length-reply}
-use Rattle.chain.specs.Frame.{payloadsIn, replyLength, takenBy, kept, replied}
-use Rattle.chain.proofs.Turns.{length-payloadsIn}
-use Rattle.chain.proofs.Taken.{taken-read, taken-bare}
-use Rattle.clocked.specs.Clock.{far, filledFor}
+use Rattle.reads.specs.Reply.{reply}
+use Rattle.reads.proofs.Showing.{length-reply}
+use Rattle.serving.specs.Served.{payloadsIn, takenBy, kept}
+use Rattle.replying.specs.Replied.{replied}
+use Rattle.serving.proofs.OwnPayload.{length-payloadsIn}
+use Rattle.serving.proofs.Taken.{taken-read, taken-bare}
+use Rattle.clocking.specs.Clock.{far, filledFor}
 use Rattle.clocked.specs.Frames.{keptBack}
 use Rattle.clocked.proofs.Run.{windowsFor, cameFor}
 

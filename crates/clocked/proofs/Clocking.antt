@@ -11,9 +11,8 @@ use lib.Dec.{leb, ltb}
 use lib.ListN.{length, getD, set, take, drop, length-append, length-take, length-drop, drop-of-length-le}
 use lib.Seq.{take-all, take-nil, take-suc, take-append-le, drop-append-le, drop-cons, set-at, append-snoc}
 use borrow.Author.Tests.{lt-ltb, le-ltb, le-leb, lt-leb}
-use Rattle.clocked.specs.Clock.{Clock, clocked, answered}
+use Rattle.clocking.specs.Clock.{Clock, clocked, answered}
 use Rattle.clocked.specs.Frames.{clockedAll, answeredAll, keptOne, keptBack}
-use Rattle.clocked.proofs.Run.{length-answeredAll}
 
 -- ---- one byte more of a frame
 

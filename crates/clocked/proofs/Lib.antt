@@ -1,16 +1,6 @@
-pub mod Register
-pub mod Known
-pub mod Lengths
-pub mod View
-pub mod Noting
-pub mod Shifting
-pub mod Leaving
 pub mod Run
 pub mod Clocking
 pub mod SameRefusals
 pub mod Acting
 pub mod Whole
-pub mod ReleaseJudging
-pub mod ReleaseOutcome
 pub mod Settling
-pub mod LookJudging

@@ -11,11 +11,11 @@ use lib.Dec.{ltb, lit≤}
 use lib.ListN.{length, take, drop, replicate}
 use borrow.Author.Tests.{lt-ltb, le-ltb, ne-eqb}
 use Rattle.wire.specs.Windows.{enterAll, left, drawn}
-use Rattle.monitor.specs.declared.commands.Command.{Command}
-use Rattle.monitor.specs.Commands.{payloadSize}
-use Rattle.clocked.specs.declared.state.Kind.{Kind}
-use Rattle.clocked.specs.declared.state.Kind.the-variants.{Fills, Drains, Still}
-use Rattle.clocked.specs.Clock.{Clock, start, far, known, kindOf, filledFor, chainedBy, fourth, early, mostSeen, oneMore, moved, later, clocked, leaving, answered}
+use Rattle.records.specs.declared.commands.Command.{Command}
+use Rattle.records.specs.Commands.{payloadSize}
+use Rattle.clock_state.specs.declared.state.Kind.{Kind}
+use Rattle.clock_state.specs.declared.state.Kind.the-variants.{Fills, Drains, Still}
+use Rattle.clocking.specs.Clock.{Clock, start, far, known, kindOf, filledFor, chainedBy, fourth, early, mostSeen, oneMore, moved, later, clocked, leaving, answered}
 use Rattle.clocked.specs.Frames.{clockedAll, answeredAll}
 
 -- a byte comes back for each that was clocked

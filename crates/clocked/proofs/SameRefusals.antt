@@ -2,7 +2,7 @@
 -- both, and of a frame under four bytes the second; otherwise both have the same list of refusals, row by row.
 -- Assumes nothing.
 use mathlib.Core.Path.{_≡_, refl, sym, ap, ap₂, _∙_}
-use mathlib.Core.Bool.{Bool, true, false, cond, not, _&&_, _||_, and-false, or-false}
+use mathlib.Core.Bool.{Bool, true, false, not, _&&_, _||_, and-false, or-false}
 use mathlib.Core.List.{List, [], _∷_}
 use Prim.Native.Nat.{ℕ, _+_, _*_, _≤_, _<_, min}
 use native.Mathlib.Decide.{decLt}
@@ -16,16 +16,17 @@ use Rattle.refusals.specs.declared.Refusal.{Refusal}
 use Rattle.refusals.specs.declared.Refusal.the-variants.{TableNotSound, FrameShort, CodeNotListed, LengthWrong}
 use Rattle.refusals.specs.Order.{Row, _gives_, decide}
 use Rattle.refusals.proofs.Deciding.{holds-here, holds-not, Passed, passed-agree}
-use Rattle.monitor.specs.declared.commands.Command.{Command}
-use Rattle.monitor.specs.declared.commands.Command.the-variants.{Reads, Writes, Bares, Unlisted}
-use Rattle.monitor.specs.Commands.{commands, commandOf, isListed, mostMonitors, frameLength}
-use Rattle.chain.specs.Table.{monitors, sound}
-use Rattle.chain.specs.Frame.{commandIn, commandRow, roomRow, frameRefusals}
-use Rattle.chain.proofs.Soundness.{is-sound}
-use Rattle.clocked.specs.Clock.{Clock, start, chainedBy, mostSeen}
-use Rattle.clocked.specs.Release.{anotherCount, another, releaseRefusals}
+use Rattle.records.specs.declared.commands.Command.{Command}
+use Rattle.records.specs.declared.commands.Command.the-variants.{Reads, Writes, Bares, Unlisted}
+use Rattle.records.specs.Commands.{commands, commandOf, isListed, mostMonitors, frameLength}
+use Rattle.judging.specs.Table.{monitors, sound}
+use Rattle.judging.specs.Refusals.{commandIn, commandRow, roomRow}
+use Rattle.chain.specs.Frame.{frameRefusals}
+use Rattle.judging.proofs.Soundness.{is-sound}
+use Rattle.clocking.specs.Clock.{Clock, start, mostSeen}
+use Rattle.releasing.specs.Release.{anotherCount, another, releaseRefusals}
 use Rattle.clocked.specs.Frames.{clockedAll, settleRefusals}
-use Rattle.clocked.proofs.Known.{chained-sound}
+use Rattle.clocking.proofs.Known.{chained-sound}
 use Rattle.clocked.proofs.Run.{seen-short, run}
 
 -- ---- what the two have in common

@@ -17,23 +17,26 @@ use Rattle.wire.specs.Order.{replyData}
 use Rattle.refusals.specs.declared.Refusal.{Refusal}
 use Rattle.refusals.specs.Order.{decide}
 use Rattle.refusals.proofs.Deciding.{decide-append, Passed, passes, has-passed}
-use Rattle.monitor.specs.declared.commands.Command.{Command}
-use Rattle.monitor.specs.declared.commands.Command.the-variants.{Reads, Writes, Bares, Unlisted}
-use Rattle.monitor.specs.declared.record.Part.{Part}
-use Rattle.monitor.specs.Record.{recordSize}
-use Rattle.monitor.specs.Commands.{isListed, mostMonitors, payloadSize, frameLength}
+use Rattle.records.specs.declared.commands.Command.{Command}
+use Rattle.records.specs.declared.commands.Command.the-variants.{Reads, Unlisted}
+use Rattle.records.specs.declared.record.Part.{Part}
+use Rattle.records.specs.Record.{recordSize}
+use Rattle.records.specs.Commands.{isListed, mostMonitors, payloadSize, frameLength, replyLength}
 use Rattle.monitor.specs.Effects.{takes, keeps}
-use Rattle.monitor.specs.Reply.{reply}
+use Rattle.reads.specs.Reply.{reply}
 use Rattle.chain.specs.declared.frames.Answer.the-variants.{Refused, Accepted}
-use Rattle.chain.specs.Table.{monitors, sound}
-use Rattle.chain.specs.Frame.{commandIn, replyLength, roomRow, frameRefusals, takenBy, kept, replied, answer, tableAfter, replyAfter}
-use Rattle.chain.proofs.Soundness.{is-sound}
+use Rattle.judging.specs.Table.{monitors, sound}
+use Rattle.judging.specs.Refusals.{commandIn, roomRow}
+use Rattle.serving.specs.Served.{takenBy, kept}
+use Rattle.replying.specs.Replied.{replied}
+use Rattle.chain.specs.Frame.{frameRefusals, answer, tableAfter, replyAfter}
+use Rattle.judging.proofs.Soundness.{is-sound}
 use Rattle.chain.proofs.Refused.{accepted-apart, accepted-reply, accepted-length}
-use Rattle.clocked.specs.Clock.{Clock, start, known}
-use Rattle.clocked.specs.Release.{releaseRefusals, takenOf, keptOf, released, tableReleased}
+use Rattle.clocking.specs.Clock.{Clock, start, known}
+use Rattle.releasing.specs.Release.{releaseRefusals, takenOf, keptOf, released, tableReleased}
 use Rattle.clocked.specs.Frames.{clockedAll, answeredAll, keptBack, settleRefusals, settled, tableSettled, bufferSettled}
 use Rattle.clocked.proofs.Run.{windowsFor, cameFor, run, back}
-use Rattle.clocked.proofs.Known.{chained-sound, reply-short}
+use Rattle.clocking.proofs.Known.{chained-sound, reply-short}
 use Rattle.clocked.proofs.SameRefusals.{command-head, same-outcome}
 use Rattle.clocked.proofs.Acting.{same-taken, same-kept, came-reply, length-came, same-reply, same-buffer}
 

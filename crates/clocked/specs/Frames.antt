@@ -7,12 +7,15 @@ use Prim.Native.Nat.{ℕ, _-_}
 use lib.Dec.{leb, ltb}
 use lib.ListN.{length, set, take, drop}
 use Rattle.refusals.specs.Order.{Row, decide}
+use Rattle.records.specs.Commands.{mostMonitors, replyLength}
 use Rattle.chain.specs.declared.frames.Answer.{Answer}
 use Rattle.chain.specs.declared.frames.Answer.the-variants.{Refused, Accepted}
-use Rattle.chain.specs.Table.{monitors}
-use Rattle.chain.specs.Frame.{commandIn, replyLength, roomRow}
-use Rattle.clocked.specs.Clock.{Clock, clocked, answered}
-use Rattle.clocked.specs.Release.{releaseRefusals, takenOf, keptOf}
+use Rattle.judging.specs.declared.heads.Judged.{Judged}
+use Rattle.judging.specs.declared.heads.Judged.the-variants.{Bad, Good}
+use Rattle.judging.specs.Table.{monitors}
+use Rattle.judging.specs.Refusals.{commandIn, roomRow}
+use Rattle.clocking.specs.Clock.{Clock, clocked, answered}
+use Rattle.releasing.specs.Release.{releaseRefusals, takenOf, keptOf}
 
 -- ---- byte after byte
 
@@ -34,6 +37,11 @@ unfoldable pub keptBack : List ℕ → List ℕ → List ℕ
 keptBack back buffer = take (length buffer) (drop 4 back) ++ drop (length (drop 4 back)) buffer
 
 -- ---- the end of it, with a reply buffer
+
+-- the length of the reply where a release is so judged: a refusal has none, nor have more monitors than a chain has
+abbrev pub replyOf : Judged → ℕ
+replyOf (Bad r) = 0
+replyOf (Good command n) = cond (leb n mostMonitors) (replyLength command n) 0
 
 unfoldable pub settleRefusals : Clock → List ℕ → ℕ → List Row
 settleRefusals c table room = releaseRefusals c table ++ roomRow room (commandIn (c .head)) (monitors table) ∷ []

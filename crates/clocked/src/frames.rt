@@ -1,20 +1,18 @@
 // A whole frame clocked a byte at a time.
 ghost use mathlib.Core.Path.{_≡_};
-ghost use Prim.Native.Nat.{_*_};
 ghost use lib.ListN.{length};
-ghost use Rattle.monitor.specs.Commands.{mostMonitors, payloadSize};
 ghost use Rattle.chain.specs.Frame.{answer, tableAfter, replyAfter};
-ghost use Rattle.clocked.specs.Frames.{clockedAll, answeredAll, keptOne, keptBack, settled, tableSettled, bufferSettled};
-ghost use Rattle.clocked.specs.State.{stateSize, clockOf};
-use crate::bytes_in::clock_in;
-use crate::releases::finish;
-use crate::releases::judge;
-use crate::state::STATE_SIZE;
+ghost use Rattle.clocked.specs.Frames.{clockedAll, answeredAll, keptOne, keptBack, replyOf, settled, tableSettled, bufferSettled};
+ghost use Rattle.clocking.specs.Bytes.{clockOf};
 use chain::Answer;
-use chain::Judged;
-use monitor::MOST_MONITORS;
-use monitor::PAYLOAD_SIZE;
+use clock_state::STATE_SIZE;
+use clocking::clock;
+use judging::Judged;
+use records::MOST_MONITORS;
+use records::PAYLOAD_SIZE;
 use refusals::Refusal;
+use releasing::judge;
+use releasing::release;
 
 // The bytes of the longest reply.
 const REPLY_SIZE: usize = PAYLOAD_SIZE * MOST_MONITORS;
@@ -32,37 +30,46 @@ fn keep(back: &mut [u8], i: usize, byte: u8)
 }
 
 // Clocks every byte of a frame in, and keeps the bytes that came back after the fourth.
-fn clock_all(state: &mut [u8], table: &[u8], frame: &[u8], back: &mut [u8])
-    requires { ⌜ length (now state) ≡ stateSize ⌝ }
+fn clock_all(state: &mut [u8; STATE_SIZE], table: &[u8], frame: &[u8], back: &mut [u8])
     ensures { λ _. ⌜ clockOf (now (state .exit)) ≡ clockedAll (now (table .entry)) (now (frame .entry)) (clockOf (now (state .entry))) ⌝ }
     ensures { λ _. ⌜ now (back .exit) ≡ keptBack (answeredAll (now (table .entry)) (now (frame .entry)) (clockOf (now (state .entry)))) (now (back .entry)) ⌝ }
 {
     let mut i = 0;
     while i < frame.len() {
-        let byte = clock_in(state, table, frame[i]);
+        let byte = clock(state, table, frame[i]);
         keep(back, i, byte);
         i += 1;
     }
 }
 
+// The length of the reply where a release is so judged; a refusal has none.
+fn reply_after(judged: Judged) -> usize
+    ensures { λ r. ⌜ r ≡ replyOf judged ⌝ }
+{
+    match judged {
+        Judged::Bad(_) => 0,
+        Judged::Good(command, n) => records::reply_size(command, n),
+    }
+}
+
 // What comes of the clocked frame: the reply goes to the start of the buffer where the read is accepted.
-fn settle(state: &[u8], table: &mut [u8], back: &[u8], buffer: &mut [u8]) -> Answer
-    requires { ⌜ (length (now state) ≡ stateSize) × (length (now back) ≡ payloadSize * mostMonitors) ⌝ }
+fn settle(
+    state: &mut [u8; STATE_SIZE],
+    table: &mut [u8],
+    back: &[u8; REPLY_SIZE],
+    buffer: &mut [u8],
+) -> Answer
     ensures { λ r. ⌜ r ≡ settled (clockOf (now (state .entry))) (now (table .entry)) (length (now (buffer .entry))) ⌝ }
     ensures { λ _. ⌜ now (table .exit) ≡ tableSettled (clockOf (now (state .entry))) (now (table .entry)) (length (now (buffer .entry))) ⌝ }
     ensures { λ _. ⌜ now (buffer .exit) ≡ bufferSettled (clockOf (now (state .entry))) (now (table .entry)) (now (back .entry)) (now (buffer .entry)) ⌝ }
 {
-    match judge(state, table) {
-        Judged::Bad(refusal) => Answer::Refused(refusal),
-        Judged::Good(command, n) => {
-            let size = chain::reply_size(command, n);
-            if buffer.len() < size {
-                return Answer::Refused(Refusal::NoRoom);
-            }
-            bytes::put(buffer, 0, &back[..size]);
-            finish(state, table)
-        }
+    let size = reply_after(judge(state, table));
+    if buffer.len() < size {
+        return Answer::Refused(Refusal::NoRoom);
     }
+    let came = &back[..];
+    bytes::put(buffer, 0, &came[..size]);
+    release(state, table)
 }
 
 // Handles a frame as the chain does, by clocking it: the same answer, table and reply. That it is clocked is promised of `start`,
@@ -75,5 +82,5 @@ pub fn handle(table: &mut [u8], frame: &[u8], buffer: &mut [u8]) -> Answer
     let mut state = [0; STATE_SIZE];
     let mut back = [0; REPLY_SIZE];
     clock_all(&mut state, table, frame, &mut back);
-    settle(&state, table, &back, buffer)
+    settle(&mut state, table, &back, buffer)
 }

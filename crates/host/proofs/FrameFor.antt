@@ -2,7 +2,7 @@
 -- command is the code; what follows hands each monitor its own six bytes, sealed, or is filler. And what a request that is
 -- accepted or refused leaves in the buffer.
 -- Assumes nothing.
-use mathlib.Core.Path.{_≡_, refl, sym, ap, _∙_, subst}
+use mathlib.Core.Path.{_≡_, refl, sym, ap, _∙_}
 use mathlib.Core.Bool.{true}
 use mathlib.Core.List.{List, [], _++_, map}
 use Prim.Native.Nat.{ℕ, _+_, _*_, _≤_, _<_}
@@ -19,17 +19,15 @@ use Rattle.laws.proofs.Rows.{length-rows, rows-lengths}
 use Rattle.pec.specs.Words.{twoBytes, wordAt, commandCheck, commandRight, payloadRight}
 use Rattle.pec.proofs.CheckWords.{command-check-right}
 use Rattle.wire.specs.Order.{writePayloads}
-use Rattle.monitor.specs.declared.commands.Command.{Command}
-use Rattle.monitor.specs.declared.commands.Write.{Write}
-use Rattle.monitor.specs.declared.commands.Command.the-variants.{Reads, Writes, Bares, Unlisted}
-use Rattle.monitor.specs.declared.record.Part.{Part}
-use Rattle.monitor.specs.Commands.{commands, commandOf, payloadSize, frameLength}
+use Rattle.records.specs.declared.commands.Command.{Command}
+use Rattle.records.specs.declared.commands.Write.{Write}
+use Rattle.records.specs.declared.commands.Command.the-variants.{Reads, Writes, Bares, Unlisted}
+use Rattle.records.specs.declared.record.Part.{Part}
+use Rattle.records.specs.Commands.{commands, commandOf, payloadSize, frameLength}
+use Rattle.host.specs.declared.frames.Built.{Built}
 use Rattle.host.specs.declared.frames.Built.the-variants.{Unbuilt, Length}
-use Rattle.host.specs.declared.frames.Judged.{Judged}
-use Rattle.host.specs.declared.frames.Judged.the-variants.{Refused, Accepted}
 use Rattle.host.specs.Frames.{headSize, dataSize, sealed, body, valueCount, frameFor, built, bufferAfter}
-use Rattle.host.specs.Judged.{judged}
-use Rattle.host.proofs.Judging.{Buildable, byJudgement, buildable-accepted, accepted-command, accepted-buildable, built-by, after-by}
+use Rattle.host.proofs.Judging.{Buildable, byJudgement, buildable-accepted, accepted-length, accepted-buildable, built-by, after-by}
 use Rattle.host.proofs.Payloads.{length-data, payloads-round, sealed-right}
 
 -- ---- how long
@@ -113,52 +111,48 @@ head-fits (Bares b) n = omega arith
 head-fits Unlisted n = omega arith
 
 module _ (code n : ℕ) (values buffer : List ℕ) where
-  -- by the judgement
-  by-judged : {j : Judged} → judged code n values (length buffer) ≡ j
-      → (built code n values (length buffer) ≡ byJudgement Unbuilt (λ c. Length (frameLength c n)) j)
-      × (bufferAfter code n values buffer ≡ byJudgement (λ r. buffer) (λ c. frameFor code n values ++ drop (frameLength c n) buffer) j)
-  by-judged e = (
-    built-by code n values (length buffer) ∙ ap (byJudgement Unbuilt (λ c. Length (frameLength c n))) e,
-    after-by code n values buffer ∙ ap (byJudgement (λ r. buffer) (λ c. frameFor code n values ++ drop (frameLength c n) buffer)) e,
-  )
+  abbrev asked : Built
+  asked = built code n values (length buffer)
+
+  -- by the outcome
+  by-outcome : {b : Built} → asked ≡ b → bufferAfter code n values buffer ≡ byJudgement (λ r. buffer) (λ l. frameFor code n values ++ drop l buffer) b
+  by-outcome e =
+      after-by code n values buffer
+      ∙ ap (byJudgement (λ r. buffer) (λ l. frameFor code n values ++ drop l buffer)) (sym (built-by code n values (length buffer)) ∙ e)
 
   -- refused: nothing changes
-  pub built-refused : (r : Refusal) → judged code n values (length buffer) ≡ Refused r
-      → (built code n values (length buffer) ≡ Unbuilt r) × (bufferAfter code n values buffer ≡ buffer)
-  built-refused r e = by-judged e
+  pub built-refused : (r : Refusal) → asked ≡ Unbuilt r → bufferAfter code n values buffer ≡ buffer
+  built-refused r e = by-outcome e
 
-  -- accepted: the frame is at the buffer's start, and the bytes past it stay
-  pub built-accepted : (c : Command) → judged code n values (length buffer) ≡ Accepted c
-      → (built code n values (length buffer) ≡ Length (frameLength c n))
-      × (bufferAfter code n values buffer ≡ frameFor code n values ++ drop (frameLength c n) buffer)
-  built-accepted c e = by-judged e
+  -- accepted: no refusal held
+  pub built-buildable : {l : ℕ} → asked ≡ Length l → Buildable (commandOf code commands) n (length values) (length buffer)
+  built-buildable e =
+      accepted-buildable (commandOf code commands) n (length values) (length buffer) (sym (built-by code n values (length buffer)) ∙ e)
 
-  -- and its length is the frame's
-  pub length-accepted : (c : Command) → judged code n values (length buffer) ≡ Accepted c → length (frameFor code n values) ≡ frameLength c n
-  length-accepted c e =
-      subst (λ (k : Command). length values ≡ valueCount k n → length (frameFor code n values) ≡ frameLength k n)
-      (sym (accepted-command code n values (length buffer) e))
-      (length-frame code n values)
-      (accepted-buildable code n values (length buffer) e .count)
+  -- the frame is at the buffer's start, its length is told, and the bytes past it stay
+  pub built-accepted : {l : ℕ} → asked ≡ Length l
+      → (l ≡ length (frameFor code n values)) × (bufferAfter code n values buffer ≡ frameFor code n values ++ drop l buffer)
+  built-accepted e = (
+    accepted-length (commandOf code commands) n (length values) (length buffer) (sym (built-by code n values (length buffer)) ∙ e)
+        ∙ sym (length-frame code n values (built-buildable e .count)),
+    by-outcome e,
+  )
 
   -- the command and its check put at the start, and then what follows
-  pub placed-accepted : (c : Command) → judged code n values (length buffer) ≡ Accepted c
-      → placed headSize (body c n values) (placed 0 (head code) buffer) ≡ bufferAfter code n values buffer
+  pub placed-accepted : {l : ℕ} → asked ≡ Length l
+      → placed headSize (body (commandOf code commands) n values) (placed 0 (head code) buffer) ≡ bufferAfter code n values buffer
   unfolding frameFor
-  placed-accepted c e =
-      let b = accepted-buildable code n values (length buffer) e in
-      placed-more 0 headSize (head code) buffer (zero-add (length (head code)) ∙ length-head code) (omega (arith, b .fits, head-fits c n)) (body c n values)
-      ∙ ap (λ (k : Command). placed 0 (head code ++ body k n values) buffer) (accepted-command code n values (length buffer) e)
-      ∙ unfold placed in ap (λ (m : ℕ). frameFor code n values ++ drop m buffer) (zero-add (length (frameFor code n values)) ∙ length-accepted c e)
-      ∙ sym (built-accepted c e .1)
+  placed-accepted e =
+      let b = built-buildable e in
+      let a = built-accepted e in
+      placed-more 0 headSize (head code) buffer (zero-add (length (head code)) ∙ length-head code) (omega (arith, b .fits, head-fits (commandOf code commands) n)) (body (commandOf code commands) n values)
+      ∙ unfold placed in ap (λ (m : ℕ). frameFor code n values ++ drop m buffer) (zero-add (length (frameFor code n values)) ∙ sym (a .0))
+      ∙ sym (a .1)
 
   -- a request is accepted where no refusal holds
-  pub built-given : Buildable (commandOf code commands) n values (length buffer)
-      → (built code n values (length buffer) ≡ Length (length (frameFor code n values)))
+  pub built-given : Buildable (commandOf code commands) n (length values) (length buffer)
+      → (asked ≡ Length (length (frameFor code n values)))
       × (bufferAfter code n values buffer ≡ frameFor code n values ++ drop (length (frameFor code n values)) buffer)
   built-given b =
-      let e = buildable-accepted code n values (length buffer) b in
-      let l = sym (length-frame code n values (b .count)) in (
-        built-accepted (commandOf code commands) e .0 ∙ ap Length l,
-        built-accepted (commandOf code commands) e .1 ∙ ap (λ (m : ℕ). frameFor code n values ++ drop m buffer) l,
-      )
+      let e : asked ≡ Length (length (frameFor code n values)) = built-by code n values (length buffer) ∙ buildable-accepted (commandOf code commands) n (length values) (length buffer) b ∙ ap Length (sym (length-frame code n values (b .count))) in
+      (e, by-outcome e)

@@ -16,7 +16,7 @@ use Rattle.pec.specs.Words.{twoBytes, seal, payloadRight}
 use Rattle.pec.proofs.CheckWords.{seal-right}
 use Rattle.wire.specs.Order.{farthestFirst, writeData, writePayloads}
 use Rattle.wire.proofs.Order.{length-farthestFirst, farthest-first-at, length-writeData, write-round}
-use Rattle.monitor.specs.Commands.{payloadSize}
+use Rattle.records.specs.Commands.{payloadSize}
 use Rattle.host.specs.Frames.{dataSize, sealed}
 
 -- ---- one payload

@@ -1,23 +1,21 @@
 -- Document 01: the frames that our host writes. Values are nearest monitor first; on the wire the farthest comes first.
 -- Assumes nothing.
-use mathlib.Core.Bool.{Bool, cond, not, _&&_}
+use mathlib.Core.Bool.{not, _&&_}
 use mathlib.Core.List.{List, [], _∷_, _++_, map}
 use Prim.Native.Nat.{ℕ, _+_, _*_}
 use lib.Dec.{eqb, leb, ltb}
 use lib.ListN.{length, drop, replicate}
 use Rattle.laws.specs.Rows.{rows}
-use Rattle.pec.specs.Words.{twoBytes, commandCheck, seal, payloadRight}
+use Rattle.pec.specs.Words.{twoBytes, commandCheck, seal}
 use Rattle.wire.specs.Order.{writeData}
 use Rattle.refusals.specs.declared.Refusal.{Refusal}
-use Rattle.refusals.specs.declared.Refusal.the-variants.{CodeNotListed, LengthWrong, NoRoom, PositionWrong, CountWrong}
+use Rattle.refusals.specs.declared.Refusal.the-variants.{CodeNotListed, NoRoom, PositionWrong, CountWrong}
 use Rattle.refusals.specs.Order.{Row, _gives_, decide}
-use Rattle.monitor.specs.declared.commands.Command.{Command}
-use Rattle.monitor.specs.declared.commands.Command.the-variants.{Reads, Writes, Bares, Unlisted}
-use Rattle.monitor.specs.Commands.{commands, commandOf, isListed, mostMonitors, payloadSize, frameLength}
+use Rattle.records.specs.declared.commands.Command.{Command}
+use Rattle.records.specs.declared.commands.Command.the-variants.{Reads, Writes, Bares, Unlisted}
+use Rattle.records.specs.Commands.{commands, commandOf, isListed, mostMonitors, payloadSize, frameLength}
 use Rattle.host.specs.declared.frames.Built.{Built}
 use Rattle.host.specs.declared.frames.Built.the-variants.{Unbuilt, Length}
-use Rattle.host.specs.declared.frames.Checked.{Checked}
-use Rattle.host.specs.declared.frames.Checked.the-variants.{Unchecked, Right, Wrong}
 
 -- the bytes of a command and its check
 abbrev pub headSize : ℕ
@@ -49,13 +47,21 @@ valueCount (Writes c) n = dataSize * n
 valueCount (Bares c) n = 0
 valueCount Unlisted n = 0
 
-unfoldable pub buildRefusals : ℕ → ℕ → List ℕ → ℕ → List Row
-buildRefusals code n values room =
-    (not (isListed (commandOf code commands)) gives CodeNotListed)
+-- the refusals of a request for a command's frame, with so many value bytes and so much room
+abbrev pub requestRefusals : Command → ℕ → ℕ → ℕ → List Row
+requestRefusals command n given room =
+    (not (isListed command) gives CodeNotListed)
     ∷ (not (leb 1 n && leb n mostMonitors) gives PositionWrong)
-    ∷ (not (eqb (length values) (valueCount (commandOf code commands) n)) gives CountWrong)
-    ∷ (ltb room (frameLength (commandOf code commands) n) gives NoRoom)
+    ∷ (not (eqb given (valueCount command n)) gives CountWrong)
+    ∷ (ltb room (frameLength command n) gives NoRoom)
     ∷ []
+
+-- what such a request comes to: a refusal, or the frame's length
+unfoldable pub judged : Command → ℕ → ℕ → ℕ → Built
+judged command n given room = decide (requestRefusals command n given room) Unbuilt (Length (frameLength command n))
+
+unfoldable pub buildRefusals : ℕ → ℕ → List ℕ → ℕ → List Row
+buildRefusals code n values room = requestRefusals (commandOf code commands) n (length values) room
 
 -- what comes of building: the frame at the start of the buffer, and its length; bytes past it stay. A refusal changes nothing
 unfoldable pub built : ℕ → ℕ → List ℕ → ℕ → Built
@@ -65,10 +71,3 @@ unfoldable pub bufferAfter : ℕ → ℕ → List ℕ → List ℕ → List ℕ
 bufferAfter code n values buffer =
     decide (buildRefusals code n values (length buffer)) (λ r. buffer)
     (frameFor code n values ++ drop (frameLength (commandOf code commands) n) buffer)
-
--- the check of one payload
-unfoldable pub checkRefusals : List ℕ → List Row
-checkRefusals payload = (not (eqb (length payload) payloadSize) gives LengthWrong) ∷ []
-
-unfoldable pub checked : List ℕ → Checked
-checked payload = decide (checkRefusals payload) Unchecked (cond (payloadRight payload) Right Wrong)

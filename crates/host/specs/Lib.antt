@@ -1,4 +1,1 @@
 pub mod Frames
-pub mod Judged
-pub mod Ports
-pub mod Parts

@@ -1,36 +1,22 @@
 // The frames that our host writes.
 ghost use mathlib.Core.Path.{_≡_};
 ghost use mathlib.Core.List.{_++_, map};
-ghost use Prim.Native.Nat.{_+_, _*_, _≤_};
+ghost use Prim.Native.Nat.{_+_, _-_, _*_, _<_, _≤_};
 ghost use lib.ListN.{length, replicate};
-ghost use Rattle.laws.specs.Rows.{rows};
+ghost use Rattle.laws.specs.Rows.{rows, rowAt};
 ghost use Rattle.bytes.specs.Placed.{placed};
 ghost use Rattle.pec.specs.Words.{twoBytes, commandCheck};
 ghost use Rattle.wire.specs.Order.{writeData};
-ghost use Rattle.monitor.specs.Commands.{mostMonitors, payloadSize, frameLength};
-ghost use Rattle.host.specs.Frames.{headSize, dataSize, sealed, body, valueCount, built, bufferAfter, checked};
-ghost use Rattle.host.specs.Judged.{judged};
+ghost use Rattle.records.specs.Commands.{mostMonitors, payloadSize, frameLength};
+ghost use Rattle.host.specs.Frames.{headSize, dataSize, sealed, body, valueCount, judged, built, bufferAfter};
 use crate::chain::is_chain;
-use monitor::Command;
+use records::Command;
 use refusals::Refusal;
 
 // What comes of building a frame: its refusal, or its length.
 pub enum Built {
     Unbuilt(Refusal),
     Length(usize),
-}
-
-// What comes of the check of one payload.
-pub enum Checked {
-    Unchecked(Refusal),
-    Right,
-    Wrong,
-}
-
-// What a request for a frame comes to: its refusal, or the command of its code.
-enum Judged {
-    Refused(Refusal),
-    Accepted(Command),
 }
 
 // The bytes of a command and its check.
@@ -43,7 +29,7 @@ const DATA_SIZE: usize = 6;
 const FILLER: u8 = 0xff;
 
 // The most that is sent of it: the replies of as many monitors as a chain has.
-const MOST_FILLER: usize = monitor::PAYLOAD_SIZE * monitor::MOST_MONITORS;
+const MOST_FILLER: usize = records::PAYLOAD_SIZE * records::MOST_MONITORS;
 
 // The value bytes that a command wants.
 fn value_count(command: Command, n: usize) -> usize
@@ -58,24 +44,24 @@ fn value_count(command: Command, n: usize) -> usize
     }
 }
 
-// The refusals of a request, in their order.
-fn judge(code: u16, n: usize, values: &[u8], room: usize) -> Judged
-    ensures { λ r. ⌜ r ≡ judged code n (now (values .entry)) room ⌝ }
+// The refusals of a request, in their order, or the length of its frame: by the command and how many value bytes there are.
+fn judge(command: Command, n: usize, given: usize, room: usize) -> Built
+    ensures { λ r. ⌜ r ≡ judged command n given room ⌝ }
 {
-    let command = monitor::command_of(code);
-    if !monitor::is_listed(command) {
-        return Judged::Refused(Refusal::CodeNotListed);
+    if !records::is_listed(command) {
+        return Built::Unbuilt(Refusal::CodeNotListed);
     }
     if !is_chain(n) {
-        return Judged::Refused(Refusal::PositionWrong);
+        return Built::Unbuilt(Refusal::PositionWrong);
     }
-    if values.len() != value_count(command, n) {
-        return Judged::Refused(Refusal::CountWrong);
+    if given != value_count(command, n) {
+        return Built::Unbuilt(Refusal::CountWrong);
     }
-    if room < monitor::frame_length(command, n) {
-        return Judged::Refused(Refusal::NoRoom);
+    let length = records::frame_length(command, n);
+    if room < length {
+        return Built::Unbuilt(Refusal::NoRoom);
     }
-    Judged::Accepted(command)
+    Built::Length(length)
 }
 
 // The command and its check, at the buffer's start.
@@ -83,36 +69,41 @@ fn put_head(buffer: &mut [u8], code: u16)
     requires { ⌜ headSize ≤ length (now buffer) ⌝ }
     ensures { λ _. ⌜ now (buffer .exit) ≡ placed 0 (twoBytes code ++ commandCheck code) (now (buffer .entry)) ⌝ }
 {
-    let command = [(code / 256) as u8, (code % 256) as u8];
+    let command = check_words::two_bytes(code);
     bytes::put(buffer, 0, &command);
-    let check = pec::command_check(code);
+    let check = check_words::command_check(code);
     bytes::put(buffer, 2, &check);
 }
 
-// One monitor's payload: its six bytes, and the seal over them with the counter 0.
-fn put_payload(buffer: &mut [u8], at: usize, six: &[u8])
-    requires { ⌜ (at + payloadSize ≤ length (now buffer)) × (length (now six) ≡ dataSize) ⌝ }
-    ensures { λ _. ⌜ now (buffer .exit) ≡ placed at (sealed (now (six .entry))) (now (buffer .entry)) ⌝ }
+// Six bytes of a slice.
+fn six_of(six: &[u8]) -> [u8; 6]
+    requires { ⌜ length (now six) ≡ dataSize ⌝ }
+    ensures { λ r. ⌜ r ≡ now (six .entry) ⌝ }
 {
-    let values = [six[0], six[1], six[2], six[3], six[4], six[5]];
-    let payload = pec::sealed(&values, 0);
-    bytes::put(buffer, at, &payload);
+    [six[0], six[1], six[2], six[3], six[4], six[5]]
 }
 
-// The payloads of a write. The values are nearest monitor first; the farthest monitor's payload is sent first.
+// The payload at place i of a write: six bytes, and the seal over them with the counter 0. The values are nearest monitor first; the
+// farthest monitor's payload is sent first.
+fn put_payload(buffer: &mut [u8], n: usize, values: &[u8], i: usize)
+    requires { ⌜ (i < n) × (n ≤ mostMonitors) × (length (now values) ≡ dataSize * n) × (headSize + payloadSize * n ≤ length (now buffer)) ⌝ }
+    ensures { λ _. ⌜ now (buffer .exit) ≡ placed (headSize + i * payloadSize) (sealed (rowAt dataSize (n - (i + 1)) (now (values .entry)))) (now (buffer .entry)) ⌝ }
+{
+    let from = (n - (i + 1)) * DATA_SIZE;
+    let to = from + DATA_SIZE;
+    let six = six_of(&values[from..to]);
+    let payload = check_words::sealed(&six, 0);
+    bytes::put(buffer, HEAD_SIZE + i * records::PAYLOAD_SIZE, &payload);
+}
+
+// The payloads of a write.
 fn put_payloads(buffer: &mut [u8], n: usize, values: &[u8])
     requires { ⌜ (n ≤ mostMonitors) × (length (now values) ≡ dataSize * n) × (headSize + payloadSize * n ≤ length (now buffer)) ⌝ }
     ensures { λ _. ⌜ now (buffer .exit) ≡ placed headSize (writeData (map sealed (rows dataSize n (now (values .entry))))) (now (buffer .entry)) ⌝ }
 {
     let mut i = 0;
     while i < n {
-        let from = (n - (i + 1)) * DATA_SIZE;
-        let to = from + DATA_SIZE;
-        put_payload(
-            buffer,
-            HEAD_SIZE + i * monitor::PAYLOAD_SIZE,
-            &values[from..to],
-        );
+        put_payload(buffer, n, values, i);
         i += 1;
     }
 }
@@ -132,7 +123,7 @@ fn put_body(buffer: &mut [u8], command: Command, n: usize, values: &[u8])
     ensures { λ _. ⌜ now (buffer .exit) ≡ placed headSize (body command n (now (values .entry))) (now (buffer .entry)) ⌝ }
 {
     match command {
-        Command::Reads(_) => put_filler(buffer, monitor::PAYLOAD_SIZE * n),
+        Command::Reads(_) => put_filler(buffer, records::PAYLOAD_SIZE * n),
         Command::Writes(_) => put_payloads(buffer, n, values),
         Command::Bares(_) => {}
         Command::Unlisted => {}
@@ -144,27 +135,12 @@ pub fn build(code: u16, n: usize, values: &[u8], buffer: &mut [u8]) -> Built
     ensures { λ r. ⌜ r ≡ built code n (now (values .entry)) (length (now (buffer .entry))) ⌝ }
     ensures { λ _. ⌜ now (buffer .exit) ≡ bufferAfter code n (now (values .entry)) (now (buffer .entry)) ⌝ }
 {
-    let judged = judge(code, n, values, buffer.len());
-    match judged {
-        Judged::Refused(refusal) => Built::Unbuilt(refusal),
-        Judged::Accepted(command) => {
-            put_head(buffer, code);
-            put_body(buffer, command, n, values);
-            Built::Length(monitor::frame_length(command, n))
-        }
-    }
-}
-
-// Is one payload right?
-pub fn check(payload: &[u8]) -> Checked
-    ensures { λ r. ⌜ r ≡ checked (now (payload .entry)) ⌝ }
-{
-    if payload.len() != monitor::PAYLOAD_SIZE {
-        return Checked::Unchecked(Refusal::LengthWrong);
-    }
-    if pec::payload_right(payload) {
-        Checked::Right
-    } else {
-        Checked::Wrong
-    }
+    let command = records::command_of(code);
+    let built = judge(command, n, values.len(), buffer.len());
+    let Built::Length(_) = built else {
+        return built;
+    };
+    put_head(buffer, code);
+    put_body(buffer, command, n, values);
+    built
 }

@@ -1,7 +1,7 @@
--- Two tests that hold together are one.
+-- Two tests that hold together are one; and of two tests that both pass, the second passes.
 -- Assumes nothing.
 use mathlib.Core.Path.{_≡_, refl, sym, _∙_}
-use mathlib.Core.Bool.{Bool, true, false}
+use mathlib.Core.Bool.{Bool, true, false, _&&_}
 use Prim.Native.Nat.{ℕ}
 use lib.Dec.{eqb}
 use borrow.Author.Tests.{eq-eqb, ne-eqb, eqb-true, eqb-false}
@@ -13,3 +13,9 @@ module _ (a b c d : ℕ) (there : a ≡ b → c ≡ d) (back : c ≡ d → a ≡
 
   pub same-test : eqb a b ≡ eqb c d
   same-test = by (eqb c d) refl
+
+-- of two tests that both pass, the second
+pub both-second : (a b : Bool) → a && b ≡ true → b ≡ true
+both-second true b h = h
+both-second false true h = refl
+both-second false false h = h

@@ -45,7 +45,7 @@ pub(crate) const CLRCELL: u16 = 0x0711;
 
 // The command with its check: all of a bare frame.
 pub(crate) fn bare(code: u16) -> [u8; 4] {
-    let check = pec::command_check(code);
+    let check = check_words::command_check(code);
     [(code / 256) as u8, (code % 256) as u8, check[0], check[1]]
 }
 
@@ -73,7 +73,7 @@ pub(crate) fn read(code: u16) -> [u8; 20] {
 
 // Six bytes as a write carries them, with a counter.
 pub(crate) fn payload(six: [u8; 6], counter: u8) -> [u8; 8] {
-    pec::sealed(&six, counter)
+    check_words::sealed(&six, counter)
 }
 
 // A write for two monitors from what each is sent. The first eight bytes are those of the farthest, monitor 2.

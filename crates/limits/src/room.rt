@@ -10,7 +10,7 @@ use crate::say;
 use crate::tally;
 use crate::tally::Tally;
 use chain::Numbers;
-use monitor::RECORD_SIZE;
+use records::RECORD_SIZE;
 
 // What the reply buffer holds before.
 const BEFORE: u8 = 0xee;

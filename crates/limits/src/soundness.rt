@@ -8,7 +8,7 @@ use crate::say;
 use crate::tally;
 use crate::tally::Tally;
 use chain::Numbers;
-use monitor::RECORD_SIZE;
+use records::RECORD_SIZE;
 
 // MUTE on a table of n records of 0.
 fn mute(t: Tally, n: usize, expected: Numbers) -> Tally
@@ -39,7 +39,7 @@ fn of_size(t: Tally, size: usize, expected: bool) -> Tally
 {
     let table = [0u8; 2310];
     say::number(b"table, bytes ", size as u64);
-    said(t, chain::sound(&table[0..size]), expected)
+    said(t, judging::sound(&table[0..size]), expected)
 }
 
 // Two records of 0, but for one byte.
@@ -50,7 +50,7 @@ fn with_byte(t: Tally, at: usize, value: u8, expected: bool) -> Tally
     table[at] = value;
     say::number(b"two monitors of 0, at ", at as u64);
     say::number(b" the value ", value as u64);
-    said(t, chain::sound(&table), expected)
+    said(t, judging::sound(&table), expected)
 }
 
 pub(crate) fn all(t: Tally) -> Tally {

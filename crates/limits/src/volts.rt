@@ -3,9 +3,9 @@ ghost use Prim.Native.Nat.{_≤_};
 use crate::say;
 use crate::tally;
 use crate::tally::Tally;
-use loads::ResultCode;
 use readings::Pack;
 use readings::Reading;
+use thresholds::ResultCode;
 
 // Stands for the bits of a reading that is cleared: those of a NaN, which no reading is.
 const CLEARED: u64 = 0x7ff8_0000_0000_0000;

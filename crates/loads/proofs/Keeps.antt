@@ -14,14 +14,14 @@ use borrow.Author.Tests.{leb-true}
 use Rattle.laws.specs.Counts.{all}
 use Rattle.laws.specs.Rows.{rows, rowAt}
 use Rattle.laws.proofs.Rows.{row-fits, length-rows, length-row-at, row-at, rows-set}
-use Rattle.monitor.specs.Record.{recordSize, recordSound}
-use Rattle.chain.specs.Table.{monitors, sound}
-use Rattle.chain.proofs.Soundness.{is-sound}
-use Rattle.chain.proofs.Keeps.{Keeps, both, stays, keeps-by-records}
-use Rattle.chain.proofs.Refused.{either-way}
-use Rattle.loads.specs.Cells.{load}
+use Rattle.records.specs.Record.{recordSize, recordSound}
+use Rattle.judging.specs.Table.{monitors, sound}
+use Rattle.judging.proofs.Soundness.{both, is-sound}
+use Rattle.judging.proofs.Keeps.{Keeps, stays, keeps-by-records}
+use Rattle.judging.proofs.Decided.{either-way}
+use Rattle.cells.specs.Cells.{load}
 use Rattle.loads.specs.Load.{loadRefusals, loadedAt, tableAfterLoad}
-use Rattle.loads.proofs.Loaded.{length-load, sound-load}
+use Rattle.cells.proofs.Loaded.{length-load, sound-load}
 use Rattle.loads.proofs.LoadJudging.{pass-1, stop-2, the-table}
 
 module _ {A : Type 0} (test : A → Bool) where

@@ -1,9 +1,3 @@
-pub mod ConfigurationB
-pub mod TwosComplement
-pub mod Flags
-pub mod Loaded
-pub mod Examples
-pub mod Codes
 pub mod Loading
 pub mod LoadJudging
 pub mod Refused

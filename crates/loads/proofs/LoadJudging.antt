@@ -13,11 +13,11 @@ use Rattle.laws.proofs.Counts.{and-false}
 use Rattle.refusals.specs.declared.Refusal.the-variants.{TableNotSound, PositionWrong, CountWrong, CodeCleared}
 use Rattle.refusals.specs.Order.{decide}
 use Rattle.refusals.proofs.Deciding.{holds-here, holds-not, none-left, decide-map}
-use Rattle.monitor.specs.Record.{cellCount}
-use Rattle.chain.specs.Table.{monitors, sound}
+use Rattle.records.specs.Record.{cellCount}
+use Rattle.judging.specs.Table.{monitors, sound}
 use Rattle.loads.specs.declared.loads.Loaded.{Loaded}
 use Rattle.loads.specs.declared.loads.Loaded.the-variants.{Unloaded, Done}
-use Rattle.loads.specs.Cells.{isCleared}
+use Rattle.cells.specs.Cells.{isCleared}
 use Rattle.loads.specs.Load.{loadRefusals, loadedAt, loaded, tableAfterLoad}
 
 module _ (table : List ℕ) (position : ℕ) (codes : List ℤ) where

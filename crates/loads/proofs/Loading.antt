@@ -10,9 +10,9 @@ use lib.ListN.{length, take, drop}
 use borrow.Author.Tests.{eq-eqb}
 use borrow.Rule.Slice.PartMut.{putMid}
 use Rattle.laws.proofs.LentParts.{part-lent, part-back}
-use Rattle.monitor.specs.Record.{recordSize, isRecord, cellCount}
-use Rattle.chain.proofs.Serving.{lent, lent-record}
-use Rattle.loads.specs.Cells.{load}
+use Rattle.records.specs.Record.{recordSize, isRecord, cellCount}
+use Rattle.judging.proofs.Lent.{lent, lent-record}
+use Rattle.cells.specs.Cells.{load}
 use Rattle.loads.specs.Load.{loadedAt}
 
 pub back-loaded : (k : ℕ) (codes : List ℤ) (table : List ℕ) → k * recordSize + recordSize ≤ length table → length codes ≡ cellCount

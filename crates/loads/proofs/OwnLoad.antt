@@ -10,8 +10,8 @@ use lib.ListN.{length, getD, set}
 use lib.Seq.{getD-set-same, getD-set-other}
 use Rattle.laws.specs.Rows.{rows, rowAt}
 use Rattle.laws.proofs.Rows.{length-rows, row-at}
-use Rattle.monitor.specs.Record.{recordSize}
-use Rattle.loads.specs.Cells.{load}
+use Rattle.records.specs.Record.{recordSize}
+use Rattle.cells.specs.Cells.{load}
 use Rattle.loads.specs.Load.{loadedAt}
 use Rattle.loads.proofs.Keeps.{rows-loaded}
 

@@ -7,7 +7,7 @@ use Prim.Native.Nat.{ℕ, _-_}
 use native.Mathlib.Omega.{arith}
 use lib.IntN.{ℤ}
 use Rattle.refusals.specs.declared.Refusal.{Refusal}
-use Rattle.chain.proofs.Refused.{stays-so, goes-on}
+use Rattle.judging.proofs.Decided.{stays-so, goes-on}
 use Rattle.loads.specs.declared.loads.Loaded.the-variants.{Unloaded, Done}
 use Rattle.loads.specs.Load.{loadRefusals, loadedAt, loaded, tableAfterLoad}
 

@@ -1,5 +1,3 @@
-pub mod Thresholds
-pub mod Cells
 pub mod Load
 pub mod LoadJudged
 pub mod Numbers

@@ -10,11 +10,11 @@ use Rattle.laws.specs.Counts.{all}
 use Rattle.laws.specs.Rows.{rowAt}
 use Rattle.refusals.specs.declared.Refusal.the-variants.{TableNotSound, PositionWrong, CountWrong, CodeCleared}
 use Rattle.refusals.specs.Order.{Row, _gives_, decide}
-use Rattle.monitor.specs.Record.{recordSize, cellCount}
-use Rattle.chain.specs.Table.{monitors, sound}
+use Rattle.records.specs.Record.{recordSize, cellCount}
+use Rattle.judging.specs.Table.{monitors, sound}
 use Rattle.loads.specs.declared.loads.Loaded.{Loaded}
 use Rattle.loads.specs.declared.loads.Loaded.the-variants.{Unloaded, Done}
-use Rattle.loads.specs.Cells.{isCleared, load}
+use Rattle.cells.specs.Cells.{isCleared, load}
 
 unfoldable pub loadRefusals : List ℕ → ℕ → List ℤ → List Row
 loadRefusals table position codes =

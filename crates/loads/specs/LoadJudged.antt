@@ -5,8 +5,8 @@ use mathlib.Core.List.{List}
 use Prim.Native.Nat.{ℕ, _*_, _≤_}
 use lib.IntN.{ℤ}
 use lib.ListN.{length}
-use Rattle.monitor.specs.Record.{recordSize, cellCount}
-use Rattle.monitor.specs.Commands.{mostMonitors}
+use Rattle.records.specs.Record.{recordSize, cellCount}
+use Rattle.records.specs.Commands.{mostMonitors}
 use Rattle.loads.specs.declared.loads.Loaded.{Loaded}
 use Rattle.loads.specs.declared.loads.Loaded.the-variants.{Unloaded, Done}
 

@@ -4,15 +4,15 @@ ghost use mathlib.Core.Bool.{not};
 ghost use Prim.Native.Nat.{_+_, _*_, _<_, _≤_};
 ghost use lib.ListN.{length};
 ghost use Rattle.laws.specs.Counts.{all};
-ghost use Rattle.monitor.specs.Record.{recordSize, cellCount};
-ghost use Rattle.monitor.specs.Commands.{mostMonitors};
-ghost use Rattle.loads.specs.Cells.{isCleared};
+ghost use Rattle.records.specs.Record.{recordSize, cellCount};
+ghost use Rattle.records.specs.Commands.{mostMonitors};
+ghost use Rattle.cells.specs.Cells.{isCleared};
 ghost use Rattle.loads.specs.Load.{loadedAt, loaded, tableAfterLoad};
 ghost use Rattle.loads.specs.LoadJudged.{LoadReadyIf};
-use crate::cells::load_one;
-use chain::sound_count;
-use monitor::CELL_COUNT;
-use monitor::RECORD_SIZE;
+use cells::load_one;
+use judging::sound_count;
+use records::CELL_COUNT;
+use records::RECORD_SIZE;
 use refusals::Refusal;
 
 // The code that a cleared cell holds.

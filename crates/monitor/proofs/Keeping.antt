@@ -1,43 +1,22 @@
--- What a monitor keeps: lengths stay, a write goes by its own check, and a sound record stays sound.
+-- What a monitor keeps of a write, by its own check, and what `act` promises, by whether the slice is a record.
 -- Assumes nothing.
-use mathlib.Core.Path.{_≡_, refl, sym, ap, ap₂, _∙_}
-use mathlib.Core.Bool.{Bool, true, false, cond, not, _&&_, _||_, false≢true}
+use mathlib.Core.Path.{_≡_, sym, ap, _∙_}
+use mathlib.Core.Bool.{Bool, true, false, cond, _&&_}
 use mathlib.Core.List.{List}
-use Prim.Native.Nat.{ℕ, _+_, _≤_, _<_}
+use Prim.Native.Nat.{ℕ}
 use native.Mathlib.Omega.{arith}
-use lib.Dec.{eqb, leb, lit≤}
-use lib.ListN.{length, getD}
-use borrow.Author.Tests.{eq-eqb, ne-eqb, eqb-true, leb-true, le-leb}
+use lib.Dec.{eqb, leb}
+use lib.ListN.{length}
+use borrow.Author.Tests.{eqb-true}
 use Rattle.pec.specs.Words.{payloadRight}
-use Rattle.monitor.specs.declared.effects.Rules.{Rules}
-use Rattle.monitor.specs.declared.commands.Write.{Write}
-use Rattle.monitor.specs.declared.commands.Write.the-variants.{Wrcfga, Wrcfgb, Wrrr, Clrflag, Clovuv}
-use Rattle.monitor.specs.declared.commands.Bare.{Bare}
-use Rattle.monitor.specs.declared.commands.Bare.the-variants.{Mute, Unmute, Rstcc, Ulrr, Clrcell}
-use Rattle.monitor.specs.declared.commands.Command.{Command}
-use Rattle.monitor.specs.declared.commands.Command.the-variants.{Reads, Writes, Bares, Unlisted}
-use Rattle.monitor.specs.declared.record.Part.{Part}
-use Rattle.monitor.specs.Record.{counter, unlocked, recordSize, byteOf, anew, onBytes, isRecord, recordSound}
-use Rattle.monitor.specs.Effects.{locked, nextCount, counted, rulesOf, changed, byRules, opens, written, done, takes, keeps}
-use Rattle.monitor.proofs.Answers.{is-record, no-record, both-first}
-
--- ---- a write's rules
-
-pub rules-fit : (w : Write) → rulesOf w .at + 6 ≤ recordSize
-rules-fit Wrcfga = lit≤ tt
-rules-fit Wrcfgb = lit≤ tt
-rules-fit Wrrr = lit≤ tt
-rules-fit Clrflag = lit≤ tt
-rules-fit Clovuv = lit≤ tt
-
-module _ (rules : Rules) (was : ℕ) where
-  pub opens-unlocked : rules .«only_unlocked» ≡ true → opens rules was ≡ eqb was 1
-  unfolding opens
-  opens-unlocked e = ap (λ (b : Bool). not b || eqb was 1) e
-
-  pub opens-always : rules .«only_unlocked» ≡ false → opens rules was ≡ true
-  unfolding opens
-  opens-always e = ap (λ (b : Bool). not b || eqb was 1) e
+use Rattle.records.specs.declared.commands.Write.{Write}
+use Rattle.records.specs.declared.commands.Command.{Command}
+use Rattle.records.specs.declared.commands.Command.the-variants.{Writes}
+use Rattle.records.specs.Record.{unlocked, recordSize, byteOf, isRecord}
+use Rattle.writes.specs.Writes.{written}
+use Rattle.monitor.specs.Effects.{locked, counted, takes, keeps}
+use Rattle.records.proofs.Answers.{is-record, no-record, both-first}
+use Rattle.writes.proofs.Written.{six-for-record}
 
 -- ---- one's own eight bytes
 
@@ -53,6 +32,15 @@ module _ (c : Write) (eight r : List ℕ) where
   pub keeps-wrong : payloadRight eight ≡ false → keeps (Writes c) eight r ≡ locked r
   unfolding keeps
   keeps-wrong h = ap (λ (b : Bool). cond b (written c (byteOf unlocked r) eight (counted (locked r))) (locked r)) h
+
+  -- what `write` leaves of a record that was counted
+  pub kept-right : payloadRight eight ≡ true → {begun after : List ℕ} → length begun ≡ recordSize → begun ≡ counted (locked r)
+      → after ≡ cond (isRecord begun && leb 6 (length eight)) (written c (byteOf unlocked r) eight begun) begun → after ≡ keeps (Writes c) eight r
+  kept-right h {begun} l e w =
+      w
+      ∙ six-for-record c (byteOf unlocked r) eight begun l (omega (arith, right-length eight h))
+      ∙ ap (written c (byteOf unlocked r) eight) e
+      ∙ sym (keeps-right h)
 
 -- ---- a slice that is a record, and one that is not
 

@@ -1,9 +1,2 @@
-pub mod Anew
-pub mod Making
-pub mod Storing
-pub mod Answers
-pub mod CommandList
 pub mod Keeping
 pub mod Sound
-pub mod Showing
-pub mod Parts

@@ -9,19 +9,17 @@ use native.Mathlib.Omega.{arith}
 use lib.Dec.{leb, ltb, lit<, lit≤}
 use lib.ListN.{length, getD}
 use borrow.Author.Tests.{leb-true, le-leb, ltb-true}
-use Rattle.laws.specs.Tables.{tabulate}
-use Rattle.pec.specs.Words.{payloadRight, twoBytes, seal}
-use Rattle.monitor.specs.declared.commands.Write.{Write}
-use Rattle.monitor.specs.declared.commands.Write.the-variants.{Wrcfga, Wrcfgb, Wrrr, Clrflag, Clovuv}
-use Rattle.monitor.specs.declared.commands.Bare.{Bare}
-use Rattle.monitor.specs.declared.commands.Bare.the-variants.{Mute, Unmute, Rstcc, Ulrr, Clrcell}
-use Rattle.monitor.specs.declared.commands.Command.{Command}
-use Rattle.monitor.specs.declared.commands.Command.the-variants.{Reads, Writes, Bares, Unlisted}
-use Rattle.monitor.specs.declared.record.Part.{Part}
-use Rattle.monitor.specs.Record.{cells, counter, unlocked, recordSize, byteOf, anew, onBytes, recordSound}
-use Rattle.monitor.specs.Effects.{locked, nextCount, counted, rulesOf, changed, byRules, opens, written, done, keeps}
-use Rattle.monitor.specs.Reply.{register, reply}
-use Rattle.monitor.proofs.Anew.{length-anew, anew-below, anew-above, anew-inside}
+use Rattle.pec.specs.Words.{payloadRight}
+use Rattle.records.specs.declared.commands.Write.{Write}
+use Rattle.records.specs.declared.commands.Write.the-variants.{Wrcfga, Wrcfgb, Wrrr, Clrflag, Clovuv}
+use Rattle.records.specs.declared.commands.Bare.{Bare}
+use Rattle.records.specs.declared.commands.Bare.the-variants.{Mute, Unmute, Rstcc, Ulrr, Clrcell}
+use Rattle.records.specs.declared.commands.Command.{Command}
+use Rattle.records.specs.declared.commands.Command.the-variants.{Reads, Writes, Bares, Unlisted}
+use Rattle.records.specs.Record.{cells, counter, unlocked, recordSize, byteOf, anew, onBytes, recordSound}
+use Rattle.writes.specs.Writes.{rulesOf, byRules, opens, written}
+use Rattle.monitor.specs.Effects.{locked, nextCount, counted, done, keeps}
+use Rattle.records.proofs.Anew.{length-anew, anew-below, anew-above, anew-inside}
 
 -- ---- lengths
 
@@ -58,10 +56,6 @@ length-keeps (Writes c) eight r =
     (length-locked r)
 length-keeps (Bares c) eight r = length-done c (counted (locked r)) ∙ length-counted (locked r) ∙ length-locked r
 length-keeps Unlisted eight r = refl
-
-pub length-reply : (part : Part) (r : List ℕ) → length (reply part r) ≡ 8
-unfolding reply register tabulate seal twoBytes
-length-reply part r = refl
 
 -- ---- the two bytes that make a record sound
 
@@ -163,9 +157,3 @@ from-fine r s = ap₂ _&&_ (le-leb _ _ (s .count)) (le-leb _ _ (s .lock))
 
 pub sound-keeps : (c : Command) (eight r : List ℕ) → length r ≡ recordSize → recordSound r ≡ true → recordSound (keeps c eight r) ≡ true
 sound-keeps c eight r w s = from-fine (keeps c eight r) (fine-keeps c eight r (to-fine r w s))
-
--- a change of bytes before the counter leaves a record as sound as it was
-pub sound-elsewhere : (f : ℕ → ℕ → ℕ) (at n : ℕ) (r : List ℕ) → at + n ≤ counter .at → recordSound (anew f at n r) ≡ recordSound r
-unfolding recordSound byteOf
-sound-elsewhere f at n r h =
-    ap₂ (λ (x y : ℕ). leb x 63 && leb y 1) (anew-above f at n r {j = counter .at} h) (anew-above f at n r {j = unlocked .at} (omega arith))

@@ -1,4 +1,1 @@
-pub mod Record
-pub mod Commands
 pub mod Effects
-pub mod Reply

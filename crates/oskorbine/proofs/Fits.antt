@@ -20,33 +20,36 @@ use Rattle.refusals.specs.Numbers.{numberOf}
 use Rattle.refusals.specs.Order.{Row, decide}
 use Rattle.refusals.proofs.Deciding.{Passed}
 use Rattle.wire.proofs.Order.{length-writePayloads}
-use Rattle.monitor.specs.declared.commands.Command.{Command}
-use Rattle.monitor.specs.declared.commands.Command.the-variants.{Reads, Writes, Bares, Unlisted}
-use Rattle.monitor.specs.Commands.{commands, commandOf, mostMonitors, payloadSize, frameLength}
+use Rattle.records.specs.declared.commands.Command.{Command}
+use Rattle.records.specs.declared.commands.Command.the-variants.{Reads, Writes, Bares, Unlisted}
+use Rattle.records.specs.Commands.{commands, commandOf, mostMonitors, payloadSize, frameLength}
 use Rattle.monitor.specs.Effects.{takes}
 use Rattle.chain.specs.declared.frames.Answer.the-variants.{Refused}
 use Rattle.loads.specs.declared.loads.Loaded.{Loaded}
 use Rattle.loads.specs.declared.loads.Loaded.the-variants.{Unloaded, Done}
-use Rattle.chain.specs.Table.{monitors, sound}
-use Rattle.chain.specs.Frame.{commandIn, payloadsIn, frameRefusals, takenBy, answer}
-use Rattle.chain.proofs.Soundness.{both, is-sound}
-use Rattle.clocked.specs.declared.looks.Looked.the-variants.{Refused as Unseen}
-use Rattle.clocked.specs.declared.state.Kind.{Kind}
-use Rattle.clocked.specs.declared.state.Kind.the-variants.{Fills, Drains, Still}
-use Rattle.clocked.specs.Clock.{far, leaving, answered}
-use Rattle.clocked.specs.Release.{releaseRefusals, takenOf, released}
-use Rattle.clocked.specs.Look.{windowOf, lookRefusals, looked}
-use Rattle.clocked.specs.State.{windowsAt, seenIn, kindIn, chainedIn, registerIn, windowsIn, clockOf}
-use Rattle.clocked.proofs.Known.{reply-short}
-use Rattle.clocked.proofs.Register.{come, chained-few, length-windows, leaves-first, fills-at, drains-at, still-at}
+use Rattle.judging.specs.Table.{monitors, sound}
+use Rattle.judging.specs.Refusals.{commandIn}
+use Rattle.serving.specs.Served.{payloadsIn, takenBy}
+use Rattle.chain.specs.Frame.{frameRefusals, answer}
+use Rattle.judging.proofs.Soundness.{both, is-sound}
+use Rattle.releasing.specs.declared.looks.Looked.the-variants.{Refused as Unseen}
+use Rattle.clock_state.specs.declared.state.Kind.{Kind}
+use Rattle.clock_state.specs.declared.state.Kind.the-variants.{Fills, Drains, Still}
+use Rattle.clocking.specs.Clock.{far, leaving, answered}
+use Rattle.releasing.specs.Release.{releaseRefusals, takenOf, released}
+use Rattle.releasing.specs.Look.{windowOf, lookRefusals, looked}
+use Rattle.clock_state.specs.State.{windowsAt, seenIn, kindIn, chainedIn, registerIn}
+use Rattle.clocking.specs.Bytes.{windowsIn, clockOf}
+use Rattle.clocking.proofs.Known.{reply-short}
+use Rattle.clocking.proofs.Register.{come, chained-few, length-windows, leaves-first, fills-at, drains-at, still-at}
 use Rattle.host.specs.declared.frames.Built.the-variants.{Unbuilt}
-use Rattle.host.specs.declared.frames.Checked.{Checked}
-use Rattle.host.specs.declared.frames.Checked.the-variants.{Unchecked, Right, Wrong}
-use Rattle.host.specs.declared.ports.Port.{Port}
-use Rattle.host.specs.declared.ports.Port.the-variants.{Refused as Unported, A, B}
+use Rattle.ports.specs.declared.checks.Checked.{Checked}
+use Rattle.ports.specs.declared.checks.Checked.the-variants.{Unchecked, Right, Wrong}
+use Rattle.ports.specs.declared.ports.Port.{Port}
+use Rattle.ports.specs.declared.ports.Port.the-variants.{Refused as Unported, A, B}
 use Rattle.host.specs.Frames.{buildRefusals, built}
-use Rattle.host.specs.Ports.{placeA, placeB, portOf}
-use Rattle.host.proofs.TwoPorts.{only-a, only-b}
+use Rattle.ports.specs.Ports.{placeA, placeB, portOf}
+use Rattle.ports.proofs.TwoPorts.{only-a, only-b}
 use Rattle.readings.specs.declared.pack_summary.Pack.{Pack}
 use Rattle.readings.specs.declared.pack_summary.Pack.the-variants.{Refused as Unsummed, Nothing, Whole}
 use Rattle.readings.specs.Readings.{mostCodes, measured, wholeOf, summaryOf}

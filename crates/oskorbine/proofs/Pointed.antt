@@ -4,11 +4,11 @@ use mathlib.Core.Path.{_≡_, refl, sym, _∙_}
 use mathlib.Core.List.{List, []}
 use Prim.Native.Nat.{ℕ}
 use Rattle.laws.specs.Rows.{rowAt}
-use Rattle.host.specs.declared.ports.Port.{Port}
-use Rattle.host.specs.declared.ports.Port.the-variants.{Refused, A, B}
-use Rattle.host.specs.Ports.{partA, partB, portOf}
-use Rattle.host.specs.Parts.{bytesOf}
-use Rattle.host.proofs.TwoPorts.{byPort, bytes-by-port}
+use Rattle.ports.specs.declared.ports.Port.{Port}
+use Rattle.ports.specs.declared.ports.Port.the-variants.{Refused, A, B}
+use Rattle.ports.specs.Ports.{partA, partB, portOf}
+use Rattle.ports.specs.Parts.{bytesOf}
+use Rattle.ports.proofs.TwoPorts.{byPort, bytes-by-port}
 use Rattle.oskorbine.specs.Packed.{portParts, pointed}
 
 pub pointed-bytes : (a b : List ℕ) (n k : ℕ) → pointed (portParts n k (portOf a b n k)) a b ≡ bytesOf a b n k

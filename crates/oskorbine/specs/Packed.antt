@@ -8,20 +8,20 @@ use lib.Dec.{eqb}
 use lib.ListN.{take, drop}
 use Rattle.refusals.specs.declared.Refusal.{Refusal}
 use Rattle.refusals.specs.Numbers.{numberOf}
-use Rattle.monitor.specs.Commands.{payloadSize}
+use Rattle.records.specs.Commands.{payloadSize}
 use Rattle.chain.specs.declared.frames.Answer.{Answer}
 use Rattle.chain.specs.declared.frames.Answer.the-variants.{Refused, Accepted}
 use Rattle.loads.specs.declared.loads.Loaded.{Loaded}
 use Rattle.loads.specs.Numbers.{loadNumber}
-use Rattle.clocked.specs.declared.looks.Looked.{Looked}
-use Rattle.clocked.specs.declared.looks.Looked.the-variants.{Refused as Unseen, Holds}
+use Rattle.releasing.specs.declared.looks.Looked.{Looked}
+use Rattle.releasing.specs.declared.looks.Looked.the-variants.{Refused as Unseen, Holds}
 use Rattle.host.specs.declared.frames.Built.{Built}
 use Rattle.host.specs.declared.frames.Built.the-variants.{Unbuilt, Length}
-use Rattle.host.specs.declared.frames.Checked.{Checked}
-use Rattle.host.specs.declared.frames.Checked.the-variants.{Unchecked, Right, Wrong}
-use Rattle.host.specs.declared.ports.Port.{Port}
-use Rattle.host.specs.declared.ports.Port.the-variants.{Refused as Unported, A, B}
-use Rattle.host.specs.Ports.{placeA, placeB}
+use Rattle.ports.specs.declared.checks.Checked.{Checked}
+use Rattle.ports.specs.declared.checks.Checked.the-variants.{Unchecked, Right, Wrong}
+use Rattle.ports.specs.declared.ports.Port.{Port}
+use Rattle.ports.specs.declared.ports.Port.the-variants.{Refused as Unported, A, B}
+use Rattle.ports.specs.Ports.{placeA, placeB}
 
 -- ---- the packing
 

@@ -1,24 +1,25 @@
 // The second engine: a frame a byte at a time, in a state that the caller lends.
 ghost use mathlib.Core.Path.{_≡_};
 ghost use lib.ListN.{length};
-ghost use Rattle.clocked.specs.Clock.{clocked, answered};
-ghost use Rattle.clocked.specs.Look.{looked, outAfter};
-ghost use Rattle.clocked.specs.Release.{released, tableReleased};
-ghost use Rattle.clocked.specs.State.{clockOf, idle, stateAfter};
+ghost use Rattle.clocking.specs.Clock.{clocked, answered};
+ghost use Rattle.releasing.specs.Look.{looked, outAfter};
+ghost use Rattle.releasing.specs.Release.{released, tableReleased};
+ghost use Rattle.clock_state.specs.State.{idle};
+ghost use Rattle.clocking.specs.Bytes.{clockOf, stateAfter};
 ghost use Rattle.oskorbine.specs.Packed.{packed, accepted, frameParts, lookedParts};
 use crate::packing::accepted;
 use crate::packing::frame_answer;
 use crate::packing::pack;
 use crate::packing::refused;
-use clocked::Looked;
-use clocked::STATE_SIZE;
+use clock_state::STATE_SIZE;
+use releasing::Looked;
 
 // Before a frame, whatever the bytes were: a frame that had begun is given up.
 #[no_mangle]
 pub extern "C" fn osk_clock_start(state: &mut [u8; STATE_SIZE])
     ensures { λ _. ⌜ now (state .exit) ≡ idle ⌝ }
 {
-    clocked::start(state);
+    clock_state::start(state);
 }
 
 // Clocks one byte in: the byte that comes back.
@@ -28,7 +29,7 @@ pub extern "C" fn osk_clock_byte(state: &mut [u8; STATE_SIZE], table: &[u8], byt
     ensures { λ _. ⌜ clockOf (now (state .exit)) ≡ clocked (now (table .entry)) byte (clockOf (now (state .entry))) ⌝ }
     ensures { λ _. ⌜ now (state .exit) ≡ stateAfter (now (table .entry)) byte (now (state .entry)) ⌝ }
 {
-    pack(0, clocked::clock(state, table, byte), 0)
+    pack(0, clocking::clock(state, table, byte), 0)
 }
 
 // The window of the monitor at a position, oldest byte first: how many bytes it holds.
@@ -37,7 +38,7 @@ pub extern "C" fn osk_clock_window(state: &[u8; STATE_SIZE], position: usize, ou
     ensures { λ r. ⌜ r ≡ packed (lookedParts (looked (clockOf (now (state .entry))) position (length (now (out .entry))))) ⌝ }
     ensures { λ _. ⌜ now (out .exit) ≡ outAfter (clockOf (now (state .entry))) position (now (out .entry)) ⌝ }
 {
-    match clocked::look(state, position, out) {
+    match releasing::look(state, position, out) {
         Looked::Refused(refusal) => refused(refusal),
         Looked::Holds(size) => accepted(0, size),
     }
@@ -50,5 +51,5 @@ pub extern "C" fn osk_clock_release(state: &mut [u8; STATE_SIZE], table: &mut [u
     ensures { λ _. ⌜ now (state .exit) ≡ idle ⌝ }
     ensures { λ _. ⌜ now (table .exit) ≡ tableReleased (clockOf (now (state .entry))) (now (table .entry)) ⌝ }
 {
-    frame_answer(clocked::release(state, table))
+    frame_answer(releasing::release(state, table))
 }

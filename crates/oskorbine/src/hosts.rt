@@ -1,15 +1,16 @@
 // The host: the frames it writes, the check of one payload, the two ports.
 ghost use mathlib.Core.Path.{_≡_};
 ghost use lib.ListN.{length};
-ghost use Rattle.host.specs.Frames.{built, bufferAfter, checked};
-ghost use Rattle.host.specs.Ports.{portOf};
+ghost use Rattle.host.specs.Frames.{built, bufferAfter};
+ghost use Rattle.ports.specs.Check.{checked};
+ghost use Rattle.ports.specs.Ports.{portOf};
 ghost use Rattle.oskorbine.specs.Packed.{packed, builtParts, checkedParts, portParts};
 use crate::packing::accepted;
 use crate::packing::refused;
 use host::Built;
-use host::Checked;
-use host::Port;
-use monitor::PAYLOAD_SIZE;
+use ports::Checked;
+use ports::Port;
+use records::PAYLOAD_SIZE;
 
 // Builds the frame for a command, a number of monitors and values: its length.
 #[no_mangle]
@@ -33,7 +34,7 @@ pub extern "C" fn osk_host_frame(
 pub extern "C" fn osk_check(payload: &[u8]) -> u32
     ensures { λ r. ⌜ r ≡ packed (checkedParts (checked (now (payload .entry)))) ⌝ }
 {
-    match host::check(payload) {
+    match ports::check(payload) {
         Checked::Unchecked(refusal) => refused(refusal),
         Checked::Right => accepted(1, 0),
         Checked::Wrong => accepted(2, 0),
@@ -45,7 +46,7 @@ pub extern "C" fn osk_check(payload: &[u8]) -> u32
 pub extern "C" fn osk_two_ports(a: &[u8], b: &[u8], monitors: usize, position: usize) -> u32
     ensures { λ r. ⌜ r ≡ packed (portParts monitors position (portOf (now (a .entry)) (now (b .entry)) monitors position)) ⌝ }
 {
-    match host::port_of(a, b, monitors, position) {
+    match ports::port_of(a, b, monitors, position) {
         Port::Refused(refusal) => refused(refusal),
         Port::A => accepted(1, (position - 1) * PAYLOAD_SIZE),
         Port::B => accepted(2, (monitors - position) * PAYLOAD_SIZE),

@@ -6,10 +6,10 @@ ghost use Rattle.oskorbine.specs.Packed.{packed};
 ghost use Rattle.oskorbine.specs.Volts.{voltsOrNan, summaryParts, summaryOut};
 use crate::packing::accepted;
 use crate::packing::refused;
-use loads::ResultCode;
 use readings::Pack;
 use readings::Reading;
 use refusals::Refusal;
+use thresholds::ResultCode;
 
 // The lowest, the highest and the total.
 const SUMMARY_SIZE: usize = 3;

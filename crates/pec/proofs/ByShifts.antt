@@ -1,21 +1,24 @@
 -- A remainder by shifts. Two linear functions that agree at each power of 2 below 2^k agree at every number of k bits; shifts, sums
--- and the remainder itself are linear, so that one computed test at the k powers shows a formula right for every message. Once over
--- the width.
+-- and the remainder itself are linear, so that one computed test at the k powers shows a formula right for every message. The
+-- remainder of each power is that of the one before it, and a zero bit more. Once over the width.
 -- Assumes nothing.
 use mathlib.Core.Path.{_≡_, refl, sym, ap, ap₂, _∙_}
+use mathlib.Core.Bool.{true, false}
 use mathlib.Core.List.{List, [], _∷_}
-use Prim.Native.Nat.{ℕ, zero, suc, _+_, _*_, _/_, _%_, _^_, _<_}
+use Prim.Native.Nat.{ℕ, zero, suc, _+_, _-_, _*_, _/_, _%_, _^_, _<_}
 use native.Mathlib.Nat.{mod-lt, add-zero, zero-add, zero-mul, one-mul, div-add-mod', div-lt-iff-lt-mul}
 use native.Mathlib.Omega.{arith}
-use lib.Pow.{pow-pos}
-use lib.ListN.{getD}
-use Rattle.laws.specs.Bits.{_⊕_, bitsOf}
+use lib.Pow.{pow-pos, pow-lt}
+use lib.ListN.{getD, replicate}
+use Rattle.laws.specs.Bits.{_⊕_, odd, bitsOf}
 use Rattle.laws.specs.Tables.{tabulate}
+use Rattle.laws.proofs.Bits.{bits-top, bits-of-zero}
 use Rattle.laws.proofs.Tables.{at-each}
 use Rattle.laws.proofs.Xor.{zero-xor, xor-zero, xor-same, xor-div, xor-rem, xor-middle, xor-blocks, xor-shift}
-use Rattle.pec.specs.Remainder.{remainder}
+use Rattle.pec.specs.Remainder.{step, remainder}
 use Rattle.pec.specs.ByShifts.{withMoved, timesOne}
 use Rattle.pec.proofs.Remainder.{remainder-bits-linear}
+use Rattle.pec.proofs.ManyBits.{zeros-first}
 
 -- ---- linear functions
 
@@ -97,13 +100,35 @@ times-linear k =
 
 -- ---- the law
 
+-- the remainders of the powers of 2 in turn: each has one zero more behind its one
+unfoldable pub powers : ℕ → ℕ → ℕ → ℕ → List ℕ
+powers w g r zero = []
+powers w g r (suc k) = r ∷ powers w g (step w g r false) k
+
+power-at : (w g r k j : ℕ) → j < k → getD (powers w g r k) j 0 ≡ remainder w g r (replicate j false)
+unfolding powers remainder
+power-at w g r zero j h = absurd (omega arith)
+power-at w g r (suc k) zero h = refl
+power-at w g r (suc k) (suc j) h = power-at w g (step w g r false) k j (omega arith)
+
+one-bit : (w g k j : ℕ) → j < k → remainder w g 0 (bitsOf k (2 ^ j)) ≡ remainder w g (step w g 0 true) (replicate j false)
+unfolding remainder odd
+one-bit w g k j h =
+    let apart : (k - suc j) + suc j ≡ k = omega arith in
+    let one : 2 ^ j ≡ 1 * 2 ^ j + 0 = omega arith in
+    ap (λ (n : ℕ). remainder w g 0 (bitsOf n (2 ^ j))) (sym apart)
+    ∙ zeros-first w g (k - suc j) (suc j) (pow-lt (omega arith))
+    ∙ ap (λ (n : ℕ). remainder w g 0 (bitsOf (suc j) n)) one
+    ∙ ap (remainder w g 0) (bits-top j 1 (pow-pos j))
+    ∙ ap (remainder w g (step w g 0 true)) (bits-of-zero j)
+
 module _ (w g k : ℕ) (f : ℕ → ℕ) where
   -- the formula and the remainder, at each power of 2 in turn
   unfoldable pub formula : List ℕ
   formula = tabulate (λ (j : ℕ). f (2 ^ j)) 0 k
 
   unfoldable pub rule : List ℕ
-  rule = tabulate (λ (j : ℕ). remainder w g 0 (bitsOf k (2 ^ j))) 0 k
+  rule = powers w g (step w g 0 true) k
 
   pub by-shifts : Linear f → formula ≡ rule → {x : ℕ} → x < 2 ^ k → f x ≡ remainder w g 0 (bitsOf k x)
   unfolding formula rule
@@ -116,4 +141,5 @@ module _ (w g k : ℕ) (f : ℕ → ℕ) where
       at j b =
           sym (at-each (λ (i : ℕ). f (2 ^ i)) k j b)
           ∙ ap (λ (t : List ℕ). getD t j 0) e
-          ∙ at-each (λ (i : ℕ). remainder w g 0 (bitsOf k (2 ^ i))) k j b
+          ∙ power-at w g (step w g 0 true) k j b
+          ∙ sym (one-bit w g k j b)

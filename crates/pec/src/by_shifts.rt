@@ -2,7 +2,7 @@
 // x, the quotient is the message times (1 + a)(1 + a^2)(1 + a^4) and so on, since 1 + 1 = 0; the remainder is the w low bits of the
 // quotient times the polynomial's terms below x^w. There is no table to copy and no byte waits for the one before it.
 ghost use mathlib.Core.Path.{_≡_};
-ghost use Prim.Native.Nat.{_^_, _<_, _≤_};
+ghost use Prim.Native.Nat.{_≤_};
 ghost use Rattle.laws.specs.Bits.{bitsOf};
 ghost use Rattle.pec.specs.Remainder.{remainder};
 ghost use Rattle.pec.specs.ByShifts.{timesOne};
@@ -20,8 +20,8 @@ fn times(x: u64, k: u64) -> u64
     x ^ (x >> (3 * k)) ^ four
 }
 
-// Ten bits, of 64, from 0. The polynomial's lower terms are (1 + x)(1 + x^2) + x^7.
-fn remainder_10(message: u64) -> u16
+// The 10-bit remainder of 64 bits, from 0. The polynomial's lower terms are (1 + x)(1 + x^2) + x^7.
+pub fn remainder_10(message: u64) -> u16
     ensures { λ r. ⌜ r ≡ remainder 10 polynomial10 0 (bitsOf 64 message) ⌝ }
 {
     let d = times(times(times(times(message, 1), 2), 4), 8);
@@ -33,7 +33,7 @@ fn remainder_10(message: u64) -> u16
     left as u16
 }
 
-// Fifteen bits, of 16, from 0.
+// The 15-bit remainder of 16 bits, from 0.
 fn remainder_15(message: u16) -> u16
     ensures { λ r. ⌜ r ≡ remainder 15 polynomial15 0 (bitsOf 16 message) ⌝ }
 {
@@ -50,27 +50,17 @@ fn remainder_15(message: u16) -> u16
 // What the start value leaves of so many zero bits. The remainder is linear: from the start value it is that from 0, and this added.
 const OF_16_ZEROS: u16 = 0x5b2e;
 
-const OF_54_ZEROS: u16 = 0x3e3;
-
 const OF_64_ZEROS: u16 = 0x04c;
 
-// The check of a command.
-pub(crate) fn of_command(code: u16) -> u16
+// The 15-bit remainder of a command's 16 bits, from the start value.
+pub fn of_command(code: u16) -> u16
     ensures { λ r. ⌜ r ≡ remainder 15 polynomial15 16 (bitsOf 16 code) ⌝ }
 {
     remainder_15(code) ^ OF_16_ZEROS
 }
 
-// The check of six bytes and six counter bits.
-pub(crate) fn of_message(message: u64) -> u16
-    requires { ⌜ message < 2 ^ 54 ⌝ }
-    ensures { λ r. ⌜ r ≡ remainder 10 polynomial10 16 (bitsOf 54 message) ⌝ }
-{
-    remainder_10(message) ^ OF_54_ZEROS
-}
-
 // Is nothing left of a payload, with its own check as its last bits? That one division by all 64 bits tells what is right.
-pub(crate) fn nothing_left(payload: u64) -> bool
+pub fn nothing_left(payload: u64) -> bool
     ensures { λ r. ⌜ r ≡ numberRight payload ⌝ }
 {
     remainder_10(payload) == OF_64_ZEROS

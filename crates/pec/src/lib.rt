@@ -1,19 +1,6 @@
-// The check words of document 01: the remainder over the width, bit by bit and through a table, and what is sent of it.
-mod bit_by_bit;
+// The remainder behind both check words of document 01, over the width. For what is sent it is had by shifts.
 mod by_shifts;
-mod tables;
-mod through_table;
-mod words;
 
-pub use words::command_check;
-pub use words::command_right;
-pub use words::data_pec;
-pub use words::number_in;
-pub use words::number_right;
-pub use words::payload_right;
-pub use words::pec10_bitwise;
-pub use words::pec10_by_table;
-pub use words::pec15_bitwise;
-pub use words::pec15_by_table;
-pub use words::seal;
-pub use words::sealed;
+pub use by_shifts::nothing_left;
+pub use by_shifts::of_command;
+pub use by_shifts::remainder_10;

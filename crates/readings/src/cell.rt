@@ -2,9 +2,9 @@
 ghost use mathlib.Core.Path.{_≡_};
 ghost use mathlib.Core.Bool.{true};
 ghost use lib.Ieee.{binary64, inFloat};
-ghost use Rattle.loads.specs.Cells.{isCleared};
+ghost use Rattle.cells.specs.Cells.{isCleared};
 ghost use Rattle.readings.specs.Readings.{microvolts, volts, readingOf};
-use loads::ResultCode;
+use thresholds::ResultCode;
 
 // The code of a cell that was cleared.
 const CLEARED: i32 = -32768;

@@ -15,29 +15,33 @@ use Rattle.laws.specs.Rows.{rowAt}
 use Rattle.pec.specs.Words.{payloadRight}
 use Rattle.refusals.specs.declared.Refusal.{Refusal}
 use Rattle.refusals.proofs.Deciding.{Passed, passes}
-use Rattle.monitor.specs.declared.commands.Bare.{Bare}
-use Rattle.monitor.specs.declared.commands.Command.{Command}
-use Rattle.monitor.specs.declared.commands.Command.the-variants.{Reads, Writes, Bares}
-use Rattle.monitor.specs.declared.commands.Write.{Write}
-use Rattle.monitor.specs.declared.record.Part.{Part}
-use Rattle.monitor.specs.Record.{recordSize}
-use Rattle.monitor.specs.Commands.{payloadSize}
+use Rattle.records.specs.declared.commands.Bare.{Bare}
+use Rattle.records.specs.declared.commands.Command.{Command}
+use Rattle.records.specs.declared.commands.Command.the-variants.{Reads, Writes, Bares}
+use Rattle.records.specs.declared.commands.Write.{Write}
+use Rattle.records.specs.declared.record.Part.{Part}
+use Rattle.records.specs.Record.{recordSize}
+use Rattle.records.specs.Commands.{payloadSize, replyLength}
 use Rattle.monitor.specs.Effects.{keeps}
-use Rattle.monitor.specs.Reply.{reply}
-use Rattle.monitor.proofs.Answers.{both-first}
+use Rattle.reads.specs.Reply.{reply}
+use Rattle.records.proofs.Answers.{both-first}
 use Rattle.chain.specs.declared.frames.Answer.the-variants.{Refused, Accepted}
-use Rattle.chain.specs.Table.{monitors, sound}
-use Rattle.chain.specs.Frame.{commandIn, payloadsIn, replyLength, frameRefusals, takenBy, kept, replied, answer, tableAfter, replyAfter}
-use Rattle.chain.proofs.OwnBytes.{own-record, own-reply, past-reply}
-use Rattle.chain.proofs.Soundness.{is-sound}
+use Rattle.judging.specs.Table.{monitors, sound}
+use Rattle.judging.specs.Refusals.{commandIn}
+use Rattle.serving.specs.Served.{payloadsIn, takenBy, kept}
+use Rattle.replying.specs.Replied.{replied}
+use Rattle.chain.specs.Frame.{frameRefusals, answer, tableAfter, replyAfter}
+use Rattle.serving.proofs.OwnRecord.{own-record}
+use Rattle.replying.proofs.OwnReply.{own-reply, past-reply}
+use Rattle.judging.proofs.Soundness.{is-sound}
 use Rattle.loads.specs.declared.loads.Loaded.the-variants.{Unloaded, Done}
-use Rattle.loads.specs.Cells.{load}
+use Rattle.cells.specs.Cells.{load}
 use Rattle.loads.specs.Load.{loadRefusals, loadedAt, loaded, tableAfterLoad}
 use Rattle.loads.proofs.OwnLoad.{loaded-record, other-record}
 use Rattle.host.specs.declared.frames.Built.the-variants.{Unbuilt, Length}
 use Rattle.host.specs.Frames.{frameFor, buildRefusals, built, bufferAfter}
 use Rattle.host.proofs.FrameFor.{length-frame}
-use Rattle.host.proofs.Tests.{both-second}
+use Rattle.laws.proofs.Tests.{both-second}
 use Rattle.story.specs.Numbers.{First}
 use Rattle.story.specs.Runs.{takers}
 use Rattle.story.proofs.Numbers.{first-refuses}

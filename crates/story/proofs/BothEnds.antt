@@ -13,19 +13,20 @@ use Rattle.laws.proofs.Lists.{getD-map}
 use Rattle.laws.proofs.Rows.{Every, every-image, every-reverse, length-rows, length-joined, row-at}
 use Rattle.pec.specs.Words.{payloadRight}
 use Rattle.wire.specs.Order.{replyData}
-use Rattle.monitor.specs.declared.commands.Command.the-variants.{Reads}
-use Rattle.monitor.specs.declared.record.Part.{Part}
-use Rattle.monitor.specs.Record.{recordSize}
-use Rattle.monitor.specs.Commands.{commands, commandOf, mostMonitors, payloadSize}
-use Rattle.monitor.specs.Reply.{reply}
-use Rattle.monitor.proofs.Sound.{length-reply}
-use Rattle.chain.specs.Table.{monitors, sound}
-use Rattle.chain.specs.Frame.{replied, replyAfter}
+use Rattle.records.specs.declared.commands.Command.the-variants.{Reads}
+use Rattle.records.specs.declared.record.Part.{Part}
+use Rattle.records.specs.Record.{recordSize}
+use Rattle.records.specs.Commands.{commands, commandOf, mostMonitors, payloadSize}
+use Rattle.reads.specs.Reply.{reply}
+use Rattle.reads.proofs.Showing.{length-reply}
+use Rattle.judging.specs.Table.{monitors, sound}
+use Rattle.replying.specs.Replied.{replied}
+use Rattle.chain.specs.Frame.{replyAfter}
 use Rattle.host.specs.Frames.{frameFor}
-use Rattle.host.specs.Ports.{partA, partB}
-use Rattle.host.specs.Parts.{bytesOf}
-use Rattle.host.proofs.BothEnds.{part-at-a, part-at-b}
-use Rattle.host.proofs.TwoPorts.{answer-a, answer-b}
+use Rattle.ports.specs.Ports.{partA, partB}
+use Rattle.ports.specs.Parts.{bytesOf}
+use Rattle.ports.proofs.BothEnds.{part-at-a, part-at-b}
+use Rattle.ports.proofs.TwoPorts.{answer-a, answer-b}
 use Rattle.story.proofs.OurHost.{reply-after, reply-right}
 use Rattle.story.proofs.Runs.{length-replies}
 

@@ -12,9 +12,9 @@ use borrow.Author.Tests.{ne-eqb, eq-eqb, le-leb, le-ltb}
 use Rattle.refusals.specs.declared.Refusal.the-variants.{TableNotSound}
 use Rattle.refusals.proofs.Deciding.{holds-here}
 use Rattle.chain.specs.declared.frames.Answer.the-variants.{Refused}
-use Rattle.chain.specs.Table.{monitors, sound}
-use Rattle.clocked.specs.Clock.{Clock, chainedBy, fourth, early, later, clocked}
-use Rattle.clocked.specs.Release.{anotherCount, releaseRefusals, released}
+use Rattle.judging.specs.Table.{monitors, sound}
+use Rattle.clocking.specs.Clock.{Clock, chainedBy, fourth, early, later, clocked}
+use Rattle.releasing.specs.Release.{anotherCount, releaseRefusals, released}
 
 -- a byte that is not the fourth does the same with any table
 pub only-byte-four : (table other : List ℕ) (byte : ℕ) (c : Clock) → (c .seen ≡ 3 → ⊥) → clocked table byte c ≡ clocked other byte c

@@ -19,32 +19,49 @@ use Rattle.bytes.proofs as bytes
 use Rattle.refusals.proofs as refusals
 use Rattle.refusals.proofs.Deciding.{Passed}
 use Rattle.pec.proofs as pec
-use Rattle.monitor.specs.declared.commands.Command.the-variants.{Writes, Bares}
-use Rattle.monitor.specs.declared.commands.Write.{Write}
-use Rattle.monitor.specs.declared.commands.Bare.{Bare}
+use Rattle.check_words.proofs as check_words
+use Rattle.remainders.proofs as remainders
+use Rattle.records.specs.declared.commands.Command.the-variants.{Writes, Bares}
+use Rattle.records.specs.declared.commands.Write.{Write}
+use Rattle.records.specs.declared.commands.Bare.{Bare}
+use Rattle.records.proofs as records
+use Rattle.writes.proofs as writes
+use Rattle.reads.proofs as reads
 use Rattle.monitor.proofs as monitor
 use Rattle.chain.specs.declared.frames.Answer.the-variants.{Refused}
-use Rattle.chain.specs.Frame.{roomRow, frameRefusals, answer, tableAfter, replyAfter}
+use Rattle.judging.specs.Refusals.{roomRow}
+use Rattle.chain.specs.Frame.{frameRefusals, answer, tableAfter, replyAfter}
 use Rattle.chain.specs.Numbers.{numbersOf}
+use Rattle.judging.proofs as judging
+use Rattle.serving.proofs as serving
+use Rattle.replying.proofs as replying
 use Rattle.chain.proofs as chain
 use Rattle.chain.proofs.Refused.{refused-table, refused-reply}
 use Rattle.loads.specs.declared.loads.Loaded.the-variants.{Unloaded}
 use Rattle.loads.specs.Load.{loadRefusals, loaded, tableAfterLoad}
 use Rattle.loads.specs.Numbers.{loadNumber}
+use Rattle.thresholds.proofs as thresholds
+use Rattle.cells.proofs as cells
 use Rattle.loads.proofs as loads
 use Rattle.loads.proofs.Refused.{refused-load}
-use Rattle.clocked.specs.declared.looks.Looked.the-variants.{Refused as Unseen}
-use Rattle.clocked.specs.Clock.{Clock, start}
-use Rattle.clocked.specs.Release.{releaseRefusals, released, tableReleased}
-use Rattle.clocked.specs.Look.{lookRefusals, looked, outAfter}
-use Rattle.clocked.specs.State.{clockOf, idle}
+use Rattle.releasing.specs.declared.looks.Looked.the-variants.{Refused as Unseen}
+use Rattle.clocking.specs.Clock.{Clock, start}
+use Rattle.releasing.specs.Release.{releaseRefusals, released, tableReleased}
+use Rattle.releasing.specs.Look.{lookRefusals, looked, outAfter}
+use Rattle.clock_state.specs.State.{idle}
+use Rattle.clocking.specs.Bytes.{clockOf}
+use Rattle.clock_state.proofs as clock_state
+use Rattle.clocking.proofs as clocking
+use Rattle.releasing.proofs as releasing
 use Rattle.clocked.proofs as clocked
-use Rattle.clocked.proofs.View.{view-idle}
+use Rattle.clocking.proofs.View.{view-idle}
 use Rattle.host.specs.declared.frames.Built.the-variants.{Unbuilt}
-use Rattle.host.specs.declared.ports.Port.the-variants.{Refused as Unported}
-use Rattle.host.specs.Frames.{buildRefusals, built, bufferAfter, checkRefusals, checked}
-use Rattle.host.specs.Ports.{portRefusals, portOf}
-use Rattle.host.specs.Parts.{bytesOf}
+use Rattle.ports.specs.declared.ports.Port.the-variants.{Refused as Unported}
+use Rattle.host.specs.Frames.{buildRefusals, built, bufferAfter}
+use Rattle.ports.specs.Check.{checkRefusals, checked}
+use Rattle.ports.specs.Ports.{portRefusals, portOf}
+use Rattle.ports.specs.Parts.{bytesOf}
+use Rattle.ports.proofs as ports
 use Rattle.host.proofs as host
 use Rattle.readings.specs.Readings.{summaryOf}
 use Rattle.readings.proofs as readings
@@ -64,56 +81,68 @@ pub record Promises : Type 2 where
   put : Promised bytes.put.Statement.statement bytes.put.Reads.Asked
   -- refusals
   number-of : Promised refusals.number_of.Statement.statement refusals.number_of.Reads.Asked
+  nothing-left : Promised pec.nothing_left.Statement.statement pec.nothing_left.Reads.Asked
+  of-command : Promised pec.of_command.Statement.statement pec.of_command.Reads.Asked
+  of-message : Promised pec.of_message.Statement.statement pec.of_message.Reads.Asked
+  two-bytes : Promised check_words.two_bytes.Statement.statement check_words.two_bytes.Reads.Asked
   -- pec
-  command-check : Promised pec.command_check.Statement.statement pec.command_check.Reads.Asked
-  command-right : Promised pec.command_right.Statement.statement pec.command_right.Reads.Asked
-  data-pec : Promised pec.data_pec.Statement.statement pec.data_pec.Reads.Asked
-  number-in : Promised pec.number_in.Statement.statement pec.number_in.Reads.Asked
-  number-right : Promised pec.number_right.Statement.statement pec.number_right.Reads.Asked
-  payload-right : Promised pec.payload_right.Statement.statement pec.payload_right.Reads.Asked
-  pec10-bitwise : Promised pec.pec10_bitwise.Statement.statement pec.pec10_bitwise.Reads.Asked
-  pec10-by-table : Promised pec.pec10_by_table.Statement.statement pec.pec10_by_table.Reads.Asked
-  pec15-bitwise : Promised pec.pec15_bitwise.Statement.statement pec.pec15_bitwise.Reads.Asked
-  pec15-by-table : Promised pec.pec15_by_table.Statement.statement pec.pec15_by_table.Reads.Asked
-  seal : Promised pec.seal.Statement.statement pec.seal.Reads.Asked
-  sealed : Promised pec.sealed.Statement.statement pec.sealed.Reads.Asked
+  command-check : Promised check_words.command_check.Statement.statement check_words.command_check.Reads.Asked
+  command-right : Promised check_words.command_right.Statement.statement check_words.command_right.Reads.Asked
+  data-pec : Promised remainders.data_pec.Statement.statement remainders.data_pec.Reads.Asked
+  number-in : Promised check_words.number_in.Statement.statement check_words.number_in.Reads.Asked
+  number-right : Promised check_words.number_right.Statement.statement check_words.number_right.Reads.Asked
+  payload-right : Promised check_words.payload_right.Statement.statement check_words.payload_right.Reads.Asked
+  pec10-bitwise : Promised remainders.pec10_bitwise.Statement.statement remainders.pec10_bitwise.Reads.Asked
+  pec10-by-table : Promised remainders.pec10_by_table.Statement.statement remainders.pec10_by_table.Reads.Asked
+  pec15-bitwise : Promised remainders.pec15_bitwise.Statement.statement remainders.pec15_bitwise.Reads.Asked
+  pec15-by-table : Promised remainders.pec15_by_table.Statement.statement remainders.pec15_by_table.Reads.Asked
+  seal : Promised remainders.seal.Statement.statement remainders.seal.Reads.Asked
+  sealed : Promised check_words.sealed.Statement.statement check_words.sealed.Reads.Asked
   -- monitor
-  command-of : Promised monitor.command_of.Statement.statement monitor.command_of.Reads.Asked
-  frame-length : Promised monitor.frame_length.Statement.statement monitor.frame_length.Reads.Asked
-  is-listed : Promised monitor.is_listed.Statement.statement monitor.is_listed.Reads.Asked
-  record-sound : Promised monitor.record_sound.Statement.statement monitor.record_sound.Reads.Asked
-  byte-at : Promised monitor.byte_at.Statement.statement monitor.byte_at.Reads.Asked
-  reply-of : Promised monitor.reply_of.Statement.statement monitor.reply_of.Reads.Asked
+  command-of : Promised records.command_of.Statement.statement records.command_of.Reads.Asked
+  frame-length : Promised records.frame_length.Statement.statement records.frame_length.Reads.Asked
+  reply-size : Promised records.reply_size.Statement.statement records.reply_size.Reads.Asked
+  is-listed : Promised records.is_listed.Statement.statement records.is_listed.Reads.Asked
+  record-sound : Promised records.record_sound.Statement.statement records.record_sound.Reads.Asked
+  byte-at : Promised records.byte_at.Statement.statement records.byte_at.Reads.Asked
+  reply-of : Promised reads.reply_of.Statement.statement reads.reply_of.Reads.Asked
+  write : Promised writes.write.Statement.statement writes.write.Reads.Asked
   act : Promised monitor.act.Statement.statement monitor.act.Reads.Asked
   -- chain
-  sound : Promised chain.sound.Statement.statement chain.sound.Reads.Asked
-  sound-count : Promised chain.sound_count.Statement.statement chain.sound_count.Reads.Asked
-  command-in : Promised chain.command_in.Statement.statement chain.command_in.Reads.Asked
-  reply-size : Promised chain.reply_size.Statement.statement chain.reply_size.Reads.Asked
+  sound : Promised judging.sound.Statement.statement judging.sound.Reads.Asked
+  sound-count : Promised judging.sound_count.Statement.statement judging.sound_count.Reads.Asked
+  whole-table : Promised judging.whole_table.Statement.statement judging.whole_table.Reads.Asked
+  command-in : Promised judging.command_in.Statement.statement judging.command_in.Reads.Asked
   numbers-of : Promised chain.numbers_of.Statement.statement chain.numbers_of.Reads.Asked
-  serve-at : Promised chain.serve_at.Statement.statement chain.serve_at.Reads.Asked
-  reply-all : Promised chain.reply_all.Statement.statement chain.reply_all.Reads.Asked
-  judge-head : Promised chain.judge_head.Statement.statement chain.judge_head.Reads.Asked
+  serve : Promised serving.serve.Statement.statement serving.serve.Reads.Asked
+  serve-at : Promised serving.serve_at.Statement.statement serving.serve_at.Reads.Asked
+  replies-of : Promised replying.replies_of.Statement.statement replying.replies_of.Reads.Asked
+  reply-all : Promised replying.reply_all.Statement.statement replying.reply_all.Reads.Asked
+  judge-head : Promised judging.judge_head.Statement.statement judging.judge_head.Reads.Asked
   handle : Promised chain.handle.Statement.statement chain.handle.Reads.Asked
   -- loads
-  codes-of : Promised loads.codes_of.Statement.statement loads.codes_of.Reads.Asked
-  over-threshold : Promised loads.over_threshold.Statement.statement loads.over_threshold.Reads.Asked
-  under-threshold : Promised loads.under_threshold.Statement.statement loads.under_threshold.Reads.Asked
+  codes-of : Promised thresholds.codes_of.Statement.statement thresholds.codes_of.Reads.Asked
+  over-threshold : Promised thresholds.over_threshold.Statement.statement thresholds.over_threshold.Reads.Asked
+  under-threshold : Promised thresholds.under_threshold.Statement.statement thresholds.under_threshold.Reads.Asked
   load-number : Promised loads.load_number.Statement.statement loads.load_number.Reads.Asked
-  store : Promised loads.store.Statement.statement loads.store.Reads.Asked
-  compare : Promised loads.compare.Statement.statement loads.compare.Reads.Asked
-  load-one : Promised loads.load_one.Statement.statement loads.load_one.Reads.Asked
+  store : Promised cells.store.Statement.statement cells.store.Reads.Asked
+  compare : Promised cells.compare.Statement.statement cells.compare.Reads.Asked
+  load-one : Promised cells.load_one.Statement.statement cells.load_one.Reads.Asked
   load : Promised loads.load.Statement.statement loads.load.Reads.Asked
   -- clocked
-  start : Promised clocked.start.Statement.statement clocked.start.Reads.Asked
-  clock : Promised clocked.clock.Statement.statement clocked.clock.Reads.Asked
-  release : Promised clocked.release.Statement.statement clocked.release.Reads.Asked
-  look : Promised clocked.look.Statement.statement clocked.look.Reads.Asked
+  start : Promised clock_state.start.Statement.statement clock_state.start.Reads.Asked
+  seen-in : Promised clock_state.seen_in.Statement.statement clock_state.seen_in.Reads.Asked
+  kind-in : Promised clock_state.kind_in.Statement.statement clock_state.kind_in.Reads.Asked
+  chained-in : Promised clock_state.chained_in.Statement.statement clock_state.chained_in.Reads.Asked
+  clock : Promised clocking.clock.Statement.statement clocking.clock.Reads.Asked
+  judge-release : Promised releasing.judge.Statement.statement releasing.judge.Reads.Asked
+  release : Promised releasing.release.Statement.statement releasing.release.Reads.Asked
+  look : Promised releasing.look.Statement.statement releasing.look.Reads.Asked
   handle-clocked : Promised clocked.handle.Statement.statement clocked.handle.Reads.Asked
   -- host
-  check : Promised host.check.Statement.statement host.check.Reads.Asked
-  port-of : Promised host.port_of.Statement.statement host.port_of.Reads.Asked
-  part-of : Promised host.part_of.Statement.statement host.part_of.Reads.Asked
+  check : Promised ports.check.Statement.statement ports.check.Reads.Asked
+  port-of : Promised ports.port_of.Statement.statement ports.port_of.Reads.Asked
+  part-of : Promised ports.part_of.Statement.statement ports.part_of.Reads.Asked
   build : Promised host.build.Statement.statement host.build.Reads.Asked
   -- readings
   microvolts-of : Promised readings.microvolts_of.Statement.statement readings.microvolts_of.Reads.Asked
@@ -173,50 +202,62 @@ proved =
     record {
       put = (λ M. bytes.put.Met.met, λ κ a. tt);
       number-of = (λ M. refusals.number_of.Met.met, λ κ a. tt);
-      command-check = (λ M. pec.command_check.Met.met, λ κ a. tt);
-      command-right = (λ M. pec.command_right.Met.met, λ κ a. tt);
-      data-pec = (λ M. pec.data_pec.Met.met, λ κ a. tt);
-      number-in = (λ M. pec.number_in.Met.met, λ κ a. tt);
-      number-right = (λ M. pec.number_right.Met.met, λ κ a. tt);
-      payload-right = (λ M. pec.payload_right.Met.met, λ κ a. tt);
-      pec10-bitwise = (λ M. pec.pec10_bitwise.Met.met, λ κ a. tt);
-      pec10-by-table = (λ M. pec.pec10_by_table.Met.met, λ κ a. tt);
-      pec15-bitwise = (λ M. pec.pec15_bitwise.Met.met, λ κ a. tt);
-      pec15-by-table = (λ M. pec.pec15_by_table.Met.met, λ κ a. tt);
-      seal = (λ M. pec.seal.Met.met, λ κ a. tt);
-      sealed = (λ M. pec.sealed.Met.met, λ κ a. tt);
-      command-of = (λ M. monitor.command_of.Met.met, λ κ a. tt);
-      frame-length = (λ M. monitor.frame_length.Met.met, λ κ a. tt);
-      is-listed = (λ M. monitor.is_listed.Met.met, λ κ a. tt);
-      record-sound = (λ M. monitor.record_sound.Met.met, λ κ a. tt);
-      byte-at = (λ M. monitor.byte_at.Met.met, λ κ a. tt);
-      reply-of = (λ M. monitor.reply_of.Met.met, λ κ a. tt);
+      nothing-left = (λ M. pec.nothing_left.Met.met, λ κ a. tt);
+      of-command = (λ M. pec.of_command.Met.met, λ κ a. tt);
+      of-message = (λ M. pec.of_message.Met.met, λ κ a. tt);
+      two-bytes = (λ M. check_words.two_bytes.Met.met, λ κ a. tt);
+      command-check = (λ M. check_words.command_check.Met.met, λ κ a. tt);
+      command-right = (λ M. check_words.command_right.Met.met, λ κ a. tt);
+      data-pec = (λ M. remainders.data_pec.Met.met, λ κ a. tt);
+      number-in = (λ M. check_words.number_in.Met.met, λ κ a. tt);
+      number-right = (λ M. check_words.number_right.Met.met, λ κ a. tt);
+      payload-right = (λ M. check_words.payload_right.Met.met, λ κ a. tt);
+      pec10-bitwise = (λ M. remainders.pec10_bitwise.Met.met, λ κ a. tt);
+      pec10-by-table = (λ M. remainders.pec10_by_table.Met.met, λ κ a. tt);
+      pec15-bitwise = (λ M. remainders.pec15_bitwise.Met.met, λ κ a. tt);
+      pec15-by-table = (λ M. remainders.pec15_by_table.Met.met, λ κ a. tt);
+      seal = (λ M. remainders.seal.Met.met, λ κ a. tt);
+      sealed = (λ M. check_words.sealed.Met.met, λ κ a. tt);
+      command-of = (λ M. records.command_of.Met.met, λ κ a. tt);
+      frame-length = (λ M. records.frame_length.Met.met, λ κ a. tt);
+      reply-size = (λ M. records.reply_size.Met.met, λ κ a. tt);
+      is-listed = (λ M. records.is_listed.Met.met, λ κ a. tt);
+      record-sound = (λ M. records.record_sound.Met.met, λ κ a. tt);
+      byte-at = (λ M. records.byte_at.Met.met, λ κ a. tt);
+      reply-of = (λ M. reads.reply_of.Met.met, λ κ a. tt);
+      write = (λ M. writes.write.Met.met, λ κ a. tt);
       act = (λ M. monitor.act.Met.met, λ κ a. tt);
-      sound = (λ M. chain.sound.Met.met, λ κ a. tt);
-      sound-count = (λ M. chain.sound_count.Met.met, λ κ a. tt);
-      command-in = (λ M. chain.command_in.Met.met, λ κ a. tt);
-      reply-size = (λ M. chain.reply_size.Met.met, λ κ a. tt);
+      sound = (λ M. judging.sound.Met.met, λ κ a. tt);
+      sound-count = (λ M. judging.sound_count.Met.met, λ κ a. tt);
+      whole-table = (λ M. judging.whole_table.Met.met, λ κ a. tt);
+      command-in = (λ M. judging.command_in.Met.met, λ κ a. tt);
       numbers-of = (λ M. chain.numbers_of.Met.met, λ κ a. tt);
-      serve-at = (λ M. chain.serve_at.Met.met, λ κ a. tt);
-      reply-all = (λ M. chain.reply_all.Met.met, λ κ a. tt);
-      judge-head = (λ M. chain.judge_head.Met.met, λ κ a. tt);
+      serve = (λ M. serving.serve.Met.met, λ κ a. tt);
+      serve-at = (λ M. serving.serve_at.Met.met, λ κ a. tt);
+      replies-of = (λ M. replying.replies_of.Met.met, λ κ a. tt);
+      reply-all = (λ M. replying.reply_all.Met.met, λ κ a. tt);
+      judge-head = (λ M. judging.judge_head.Met.met, λ κ a. tt);
       handle = (λ M. chain.handle.Met.met, λ κ a. tt);
-      codes-of = (λ M. loads.codes_of.Met.met, λ κ a. tt);
-      over-threshold = (λ M. loads.over_threshold.Met.met, λ κ a. tt);
-      under-threshold = (λ M. loads.under_threshold.Met.met, λ κ a. tt);
+      codes-of = (λ M. thresholds.codes_of.Met.met, λ κ a. tt);
+      over-threshold = (λ M. thresholds.over_threshold.Met.met, λ κ a. tt);
+      under-threshold = (λ M. thresholds.under_threshold.Met.met, λ κ a. tt);
       load-number = (λ M. loads.load_number.Met.met, λ κ a. tt);
-      store = (λ M. loads.store.Met.met, λ κ a. tt);
-      compare = (λ M. loads.compare.Met.met, λ κ a. tt);
-      load-one = (λ M. loads.load_one.Met.met, λ κ a. tt);
+      store = (λ M. cells.store.Met.met, λ κ a. tt);
+      compare = (λ M. cells.compare.Met.met, λ κ a. tt);
+      load-one = (λ M. cells.load_one.Met.met, λ κ a. tt);
       load = (λ M. loads.load.Met.met, λ κ a. tt);
-      start = (λ M. clocked.start.Met.met, λ κ a. tt);
-      clock = (λ M. clocked.clock.Met.met, λ κ a. tt);
-      release = (λ M. clocked.release.Met.met, λ κ a. tt);
-      look = (λ M. clocked.look.Met.met, λ κ a. tt);
+      start = (λ M. clock_state.start.Met.met, λ κ a. tt);
+      seen-in = (λ M. clock_state.seen_in.Met.met, λ κ a. tt);
+      kind-in = (λ M. clock_state.kind_in.Met.met, λ κ a. tt);
+      chained-in = (λ M. clock_state.chained_in.Met.met, λ κ a. tt);
+      clock = (λ M. clocking.clock.Met.met, λ κ a. tt);
+      judge-release = (λ M. releasing.judge.Met.met, λ κ a. tt);
+      release = (λ M. releasing.release.Met.met, λ κ a. tt);
+      look = (λ M. releasing.look.Met.met, λ κ a. tt);
       handle-clocked = (λ M. clocked.handle.Met.met, λ κ a. tt);
-      check = (λ M. host.check.Met.met, λ κ a. tt);
-      port-of = (λ M. host.port_of.Met.met, λ κ a. tt);
-      part-of = (λ M. host.part_of.Met.met, λ κ a. tt);
+      check = (λ M. ports.check.Met.met, λ κ a. tt);
+      port-of = (λ M. ports.port_of.Met.met, λ κ a. tt);
+      part-of = (λ M. ports.part_of.Met.met, λ κ a. tt);
       build = (λ M. host.build.Met.met, λ κ a. tt);
       microvolts-of = (λ M. readings.microvolts_of.Met.met, λ κ a. tt);
       reading-of = (λ M. readings.reading_of.Met.met, λ κ a. tt);

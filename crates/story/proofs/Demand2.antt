@@ -17,28 +17,32 @@ use Rattle.refusals.specs.declared.Refusal.{Refusal}
 use Rattle.refusals.specs.declared.Refusal.the-variants.{TableNotSound, FrameShort, CommandWrong, CodeNotListed, LengthWrong, NoRoom}
 use Rattle.refusals.specs.Order.{_gives_}
 use Rattle.refusals.proofs.Deciding.{Passed}
-use Rattle.monitor.specs.declared.commands.Bare.{Bare}
-use Rattle.monitor.specs.declared.commands.Command.the-variants.{Reads, Writes, Bares}
-use Rattle.monitor.specs.declared.commands.Write.{Write}
-use Rattle.monitor.specs.declared.commands.Write.the-variants.{Wrcfgb}
-use Rattle.monitor.specs.declared.record.Part.{Part}
-use Rattle.monitor.specs.Record.{recordSize, counter, unlocked, byteOf}
-use Rattle.monitor.specs.Commands.{commands, commandOf, isListed, rdcfgb, mostMonitors, payloadSize, frameLength}
-use Rattle.monitor.specs.Effects.{locked, counted, written, done, keeps}
-use Rattle.monitor.specs.Reply.{register, reply}
+use Rattle.records.specs.declared.commands.Bare.{Bare}
+use Rattle.records.specs.declared.commands.Command.the-variants.{Reads, Writes, Bares}
+use Rattle.records.specs.declared.commands.Write.{Write}
+use Rattle.records.specs.declared.commands.Write.the-variants.{Wrcfgb}
+use Rattle.records.specs.declared.record.Part.{Part}
+use Rattle.records.specs.Record.{recordSize, counter, unlocked, byteOf}
+use Rattle.records.specs.Commands.{commands, commandOf, isListed, rdcfgb, mostMonitors, payloadSize, frameLength, replyLength}
+use Rattle.writes.specs.Writes.{written}
+use Rattle.monitor.specs.Effects.{locked, counted, done, keeps}
+use Rattle.reads.specs.Reply.{register, reply}
 use Rattle.monitor.proofs.Keeping.{keeps-right, keeps-wrong}
 use Rattle.chain.specs.declared.frames.Answer.the-variants.{Refused, Accepted}
-use Rattle.chain.specs.Table.{monitors, sound}
-use Rattle.chain.specs.Frame.{commandIn, payloadsIn, replyLength, frameRefusals, answer, tableAfter, replyAfter}
-use Rattle.chain.proofs.Keeps.{Keeps, frame-keeps}
+use Rattle.judging.specs.Table.{monitors, sound}
+use Rattle.judging.specs.Refusals.{commandIn}
+use Rattle.serving.specs.Served.{payloadsIn}
+use Rattle.chain.specs.Frame.{frameRefusals, answer, tableAfter, replyAfter}
+use Rattle.judging.proofs.Keeps.{Keeps}
+use Rattle.chain.proofs.FrameKeeps.{frame-keeps}
 use Rattle.loads.specs.declared.loads.Loaded.the-variants.{Done}
-use Rattle.loads.specs.Cells.{load}
+use Rattle.cells.specs.Cells.{load}
 use Rattle.loads.specs.Load.{loadRefusals, loaded, tableAfterLoad}
 use Rattle.loads.proofs.Keeps.{load-keeps}
 use Rattle.host.specs.declared.frames.Built.the-variants.{Length}
 use Rattle.host.specs.Frames.{dataSize, sealed, frameFor, buildRefusals, built, bufferAfter}
-use Rattle.host.specs.Ports.{partA}
-use Rattle.host.specs.Parts.{bytesOf}
+use Rattle.ports.specs.Ports.{partA}
+use Rattle.ports.specs.Parts.{bytesOf}
 use Rattle.story.specs.Numbers.{First}
 use Rattle.story.proofs.Accepted.{frame-refused, write-answer, read-answer, bare-answer, record-after, reply-own, reply-past, write-no-reply, bare-no-reply, load-done, load-own, load-others, host-writes}
 use Rattle.story.proofs.OurHost.{own-six, write-taken-by-all, bare-taken-by-all, each-keeps-its-own, reply-right, read-taken-by-all, each-reply-its-own, each-reply-right}

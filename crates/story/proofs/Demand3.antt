@@ -13,25 +13,28 @@ use lib.ListN.{length, drop}
 use Rattle.laws.specs.Rows.{rows}
 use Rattle.wire.specs.Order.{replyData}
 use Rattle.refusals.specs.declared.Refusal.the-variants.{TableNotSound}
-use Rattle.monitor.specs.declared.commands.Command.the-variants.{Reads}
-use Rattle.monitor.specs.declared.record.Part.{Part}
-use Rattle.monitor.specs.Record.{recordSize}
-use Rattle.monitor.specs.Commands.{mostMonitors, payloadSize}
-use Rattle.monitor.specs.Reply.{reply}
+use Rattle.records.specs.declared.commands.Command.the-variants.{Reads}
+use Rattle.records.specs.declared.record.Part.{Part}
+use Rattle.records.specs.Record.{recordSize}
+use Rattle.records.specs.Commands.{mostMonitors, payloadSize}
+use Rattle.reads.specs.Reply.{reply}
 use Rattle.chain.specs.declared.frames.Answer.the-variants.{Refused, Accepted}
-use Rattle.chain.specs.Table.{monitors, sound}
-use Rattle.chain.specs.Frame.{commandIn, tableAfter, replyAfter}
-use Rattle.chain.proofs.Judging.{stop-unsound}
-use Rattle.chain.proofs.Keeps.{Keeps, frame-keeps, monitors-after-frame}
+use Rattle.judging.specs.Table.{monitors, sound}
+use Rattle.judging.specs.Refusals.{commandIn}
+use Rattle.chain.specs.Frame.{tableAfter, replyAfter}
+use Rattle.chain.proofs.Room.{stop-unsound}
+use Rattle.judging.proofs.Keeps.{Keeps}
+use Rattle.chain.proofs.FrameKeeps.{frame-keeps, monitors-after-frame}
 use Rattle.chain.proofs.Outcome.{the-table}
-use Rattle.chain.proofs.Soundness.{is-sound}
+use Rattle.judging.proofs.Soundness.{is-sound}
 use Rattle.loads.specs.Load.{tableAfterLoad}
 use Rattle.loads.proofs.Keeps.{load-keeps, monitors-after-load}
 use Rattle.loads.proofs.LoadJudging.{stop-1 as load-stop-1, the-table as load-table}
-use Rattle.clocked.specs.Clock.{Clock, chainedBy, clocked}
-use Rattle.clocked.specs.Release.{released}
-use Rattle.clocked.specs.State.{stateSize, clockOf, idle, stateAfter}
-use Rattle.clocked.proofs.View.{view}
+use Rattle.clocking.specs.Clock.{Clock, chainedBy, clocked}
+use Rattle.releasing.specs.Release.{released}
+use Rattle.clock_state.specs.State.{stateSize, idle}
+use Rattle.clocking.specs.Bytes.{clockOf, stateAfter}
+use Rattle.clocking.proofs.View.{view}
 use Rattle.clocked.proofs.Whole.{released-read}
 use Rattle.story.specs.Runs.{Event, Frame, Load, Left, saw, Step, ruled, byRules, byFrames, stateAfterAll, cameBack, byBytes}
 use Rattle.story.proofs.ByteFour.{only-byte-four, at-byte-four, noted-stays, another-n}

@@ -14,19 +14,21 @@ use Rattle.refusals.specs.declared.Refusal.the-variants.{TableNotSound, Command
 use Rattle.refusals.specs.Order.{_gives_, decide}
 use Rattle.pec.specs.Remainder.{once, step, remainder}
 use Rattle.pec.specs.Words.{twoBytes, wordAt, pec15, commandCheck, commandRight, polynomial10, pec10, dataPec, seal}
-use Rattle.monitor.specs.declared.commands.Command.the-variants.{Bares, Writes}
-use Rattle.monitor.specs.declared.commands.Bare.the-variants.{Mute}
-use Rattle.monitor.specs.declared.commands.Write.the-variants.{Wrcfga}
-use Rattle.monitor.specs.declared.record.Part.{Part}
-use Rattle.monitor.specs.Commands.{commands, commandOf, frameLength}
-use Rattle.monitor.specs.Record.{configurationA, configurationB, counter, recordSize, bytesOf, byteOf, anew, onBytes}
+use Rattle.records.specs.declared.commands.Command.the-variants.{Bares, Writes}
+use Rattle.records.specs.declared.commands.Bare.the-variants.{Mute}
+use Rattle.records.specs.declared.commands.Write.the-variants.{Wrcfga}
+use Rattle.records.specs.declared.record.Part.{Part}
+use Rattle.records.specs.Commands.{commands, commandOf, frameLength}
+use Rattle.records.specs.Record.{configurationA, configurationB, counter, recordSize, bytesOf, byteOf, anew, onBytes}
 use Rattle.monitor.specs.Effects.{locked, nextCount, counted, done, keeps}
-use Rattle.monitor.specs.Reply.{register, reply}
+use Rattle.reads.specs.Reply.{register, reply}
 use Rattle.chain.specs.declared.frames.Answer.the-variants.{Refused, Accepted}
-use Rattle.chain.specs.Table.{monitors, sound}
-use Rattle.chain.specs.Frame.{commandIn, frameRefusals, takenBy, answer}
-use Rattle.loads.specs.Thresholds.{signed, byteB, vuv, vov, codesOf}
-use Rattle.loads.specs.Cells.{flagsFor}
+use Rattle.judging.specs.Table.{monitors, sound}
+use Rattle.judging.specs.Refusals.{commandIn}
+use Rattle.serving.specs.Served.{takenBy}
+use Rattle.chain.specs.Frame.{frameRefusals, answer}
+use Rattle.thresholds.specs.Thresholds.{signed, byteB, vuv, vov, codesOf}
+use Rattle.cells.specs.Cells.{flagsFor}
 use Rattle.readings.specs.Readings.{microvolts}
 
 -- a record of zeros but for some bytes at the start of a part

@@ -21,15 +21,16 @@ use Rattle.chain.specs.Numbers.{numbersOf}
 use Rattle.loads.specs.declared.loads.Loaded.the-variants.{Unloaded, Done}
 use Rattle.loads.specs.Load.{loadRefusals, loaded}
 use Rattle.loads.specs.Numbers.{loadNumber}
-use Rattle.clocked.specs.declared.looks.Looked.the-variants.{Refused as Unseen}
-use Rattle.clocked.specs.Clock.{Clock}
-use Rattle.clocked.specs.Release.{releaseRefusals, released}
-use Rattle.clocked.specs.Look.{lookRefusals, looked}
+use Rattle.releasing.specs.declared.looks.Looked.the-variants.{Refused as Unseen}
+use Rattle.clocking.specs.Clock.{Clock}
+use Rattle.releasing.specs.Release.{releaseRefusals, released}
+use Rattle.releasing.specs.Look.{lookRefusals, looked}
 use Rattle.host.specs.declared.frames.Built.the-variants.{Unbuilt}
-use Rattle.host.specs.declared.frames.Checked.the-variants.{Unchecked, Right, Wrong}
-use Rattle.host.specs.declared.ports.Port.the-variants.{Refused, A, B}
-use Rattle.host.specs.Frames.{buildRefusals, built, checkRefusals, checked}
-use Rattle.host.specs.Ports.{partA, portRefusals, portOf}
+use Rattle.ports.specs.declared.checks.Checked.the-variants.{Unchecked, Right, Wrong}
+use Rattle.ports.specs.declared.ports.Port.the-variants.{Refused, A, B}
+use Rattle.host.specs.Frames.{buildRefusals, built}
+use Rattle.ports.specs.Check.{checkRefusals, checked}
+use Rattle.ports.specs.Ports.{partA, portRefusals, portOf}
 use Rattle.readings.specs.declared.pack_summary.Pack.the-variants.{Refused as Unsummed}
 use Rattle.readings.specs.Readings.{measured, wholeOf, summaryOf}
 use Rattle.story.specs.Numbers.{builtNumbers, checkedNumbers, portNumber, lookedNumbers, packNumbers, summaryRefusals, firstNumber, First}

@@ -10,36 +10,61 @@ use Prim.Native.Nat.{ℕ}
 use denote.Ref.{now}
 use lib.Dec.{eqb, leb}
 use lib.ListN.{length, getD}
+use Rattle.laws.specs.Counts.{count}
+use Rattle.laws.specs.Rows.{rows, joined, along}
 use Rattle.bytes.specs.Placed.{placed, fits}
 use Rattle.bytes.proofs as bytes
 use Rattle.refusals.specs.Numbers.{numberOf}
 use Rattle.refusals.proofs as refusals
-use Rattle.pec.specs.Words.{pec15, pec10, commandCheck, commandRight, dataPec, seal, payloadRight, numberIn, numberRight}
+use Rattle.laws.specs.Bits.{bitsOf}
+use Rattle.pec.specs.Remainder.{remainder}
+use Rattle.pec.specs.Words.{twoBytes, polynomial15, polynomial10, pec15, pec10, commandCheck, commandRight, dataPec, seal, payloadRight, numberIn, numberRight}
 use Rattle.pec.proofs as pec
-use Rattle.monitor.specs.Commands.{commands, commandOf, isListed, frameLength, mostMonitors}
-use Rattle.monitor.specs.Record.{cellCount, isRecord, recordSound}
-use Rattle.monitor.specs.Reply.{reply}
-use Rattle.loads.specs.Thresholds.{vuv, vov, codesOf}
+use Rattle.check_words.proofs as check_words
+use Rattle.remainders.proofs as remainders
+use Rattle.wire.specs.Order.{writePayloads}
+use Rattle.records.specs.Commands.{commands, commandOf, isListed, frameLength, mostMonitors, replyLength, payloadSize}
+use Rattle.records.specs.Record.{cellCount, isRecord, recordSound, recordSize}
+use Rattle.reads.specs.Reply.{reply}
+use Rattle.writes.specs.Writes.{written}
+use Rattle.thresholds.specs.Thresholds.{vuv, vov, codesOf}
 use Rattle.monitor.specs.Effects.{takes, keeps}
-use Rattle.loads.specs.Cells.{store, compare, load}
+use Rattle.cells.specs.Cells.{store, compare, load}
+use Rattle.records.proofs as records
+use Rattle.writes.proofs as writes
+use Rattle.reads.proofs as reads
 use Rattle.monitor.proofs as monitor
-use Rattle.chain.specs.Table.{monitors, sound}
-use Rattle.chain.specs.Frame.{commandIn, replyLength, replied, answer, tableAfter, replyAfter}
-use Rattle.chain.specs.Alone.{hasRecord, servedAt, repliesInto}
-use Rattle.chain.specs.Judged.{headJudged}
+use Rattle.judging.specs.Table.{monitors, wholeTable, sound}
+use Rattle.judging.specs.Refusals.{commandIn}
+use Rattle.replying.specs.Replied.{replied, repliesFit, repliesInto}
+use Rattle.chain.specs.Frame.{answer, tableAfter, replyAfter}
+use Rattle.serving.specs.Served.{hasRecord, servedAt}
+use Rattle.judging.specs.Heads.{headJudged}
 use Rattle.loads.specs.Load.{loaded, tableAfterLoad}
 use Rattle.chain.specs.Numbers.{numbersOf}
 use Rattle.loads.specs.Numbers.{loadNumber}
+use Rattle.thresholds.proofs as thresholds
+use Rattle.cells.proofs as cells
 use Rattle.loads.proofs as loads
+use Rattle.judging.proofs as judging
+use Rattle.serving.proofs as serving
+use Rattle.replying.proofs as replying
 use Rattle.chain.proofs as chain
-use Rattle.clocked.specs.Clock.{answered}
-use Rattle.clocked.specs.Release.{released, tableReleased}
-use Rattle.clocked.specs.Look.{looked, outAfter}
-use Rattle.clocked.specs.State.{clockOf, idle, stateAfter}
+use Rattle.clocking.specs.Clock.{answered}
+use Rattle.releasing.specs.Release.{released, tableReleased}
+use Rattle.releasing.specs.Judged.{judged}
+use Rattle.releasing.specs.Look.{looked, outAfter}
+use Rattle.clock_state.specs.State.{idle, seenIn, kindIn, chainedIn}
+use Rattle.clocking.specs.Bytes.{clockOf, stateAfter}
+use Rattle.clock_state.proofs as clock_state
+use Rattle.clocking.proofs as clocking
+use Rattle.releasing.proofs as releasing
 use Rattle.clocked.proofs as clocked
-use Rattle.host.specs.Frames.{built, bufferAfter, checked}
-use Rattle.host.specs.Ports.{portOf}
-use Rattle.host.specs.Parts.{lying, partOf}
+use Rattle.host.specs.Frames.{built, bufferAfter}
+use Rattle.ports.specs.Check.{checked}
+use Rattle.ports.specs.Ports.{portOf}
+use Rattle.ports.specs.Parts.{lying, partOf}
+use Rattle.ports.proofs as ports
 use Rattle.host.proofs as host
 use Rattle.readings.specs.Readings.{microvolts, readingOf, summaryOf}
 use Rattle.readings.proofs as readings
@@ -82,70 +107,85 @@ pub record OneOutcome : Type 0 where
       (λ κ a. leaves tt (cond (fits (a .1 .0) (now (a .1 .1 .0)) (now (a .0))) (placed (a .1 .0) (now (a .1 .1 .0)) (now (a .0))) (now (a .0)) ∷ []))
   -- refusals
   number-of : Settles refusals.number_of.Reads.Post (λ κ z e. leaves z []) (λ κ a. leaves (numberOf (a .0)) [])
+  nothing-left : Settles pec.nothing_left.Reads.Post (λ κ z e. leaves z []) (λ κ a. leaves (numberRight (a .0)) [])
+  of-command : Settles pec.of_command.Reads.Post (λ κ z e. leaves z []) (λ κ a. leaves (remainder 15 polynomial15 16 (bitsOf 16 (a .0))) [])
+  of-message : Settles pec.of_message.Reads.Post (λ κ z e. leaves z []) (λ κ a. leaves (remainder 10 polynomial10 16 (bitsOf 54 (a .0))) [])
+  two-bytes : Settles check_words.two_bytes.Reads.Post (λ κ z e. leaves z []) (λ κ a. leaves (twoBytes (a .0)) [])
   -- pec
-  command-check : Settles pec.command_check.Reads.Post (λ κ z e. leaves z []) (λ κ a. leaves (commandCheck (a .0)) [])
-  command-right : Settles pec.command_right.Reads.Post (λ κ z e. leaves z []) (λ κ a. leaves (commandRight (now (a .0))) [])
-  data-pec : Settles pec.data_pec.Reads.Post (λ κ z e. leaves z []) (λ κ a. leaves (dataPec (now (a .0)) (a .1 .0)) [])
-  number-in : Settles pec.number_in.Reads.Post (λ κ z e. leaves z []) (λ κ a. leaves (numberIn (now (a .0))) [])
-  number-right : Settles pec.number_right.Reads.Post (λ κ z e. leaves z []) (λ κ a. leaves (numberRight (a .0)) [])
-  payload-right : Settles pec.payload_right.Reads.Post (λ κ z e. leaves z []) (λ κ a. leaves (payloadRight (now (a .0))) [])
-  pec10-bitwise : Settles pec.pec10_bitwise.Reads.Post (λ κ z e. leaves z []) (λ κ a. leaves (pec10 (now (a .0))) [])
-  pec10-by-table : Settles pec.pec10_by_table.Reads.Post (λ κ z e. leaves z []) (λ κ a. leaves (pec10 (now (a .0))) [])
-  pec15-bitwise : Settles pec.pec15_bitwise.Reads.Post (λ κ z e. leaves z []) (λ κ a. leaves (pec15 (now (a .0))) [])
-  pec15-by-table : Settles pec.pec15_by_table.Reads.Post (λ κ z e. leaves z []) (λ κ a. leaves (pec15 (now (a .0))) [])
-  sealed : Settles pec.sealed.Reads.Post (λ κ z e. leaves z []) (λ κ a. leaves (now (a .0) ++ seal (now (a .0)) (a .1 .0)) [])
-  seal : Settles pec.seal.Reads.Post (λ κ z e. leaves z []) (λ κ a. leaves (seal (now (a .0)) (a .1 .0)) [])
+  command-check : Settles check_words.command_check.Reads.Post (λ κ z e. leaves z []) (λ κ a. leaves (commandCheck (a .0)) [])
+  command-right : Settles check_words.command_right.Reads.Post (λ κ z e. leaves z []) (λ κ a. leaves (commandRight (now (a .0))) [])
+  data-pec : Settles remainders.data_pec.Reads.Post (λ κ z e. leaves z []) (λ κ a. leaves (dataPec (now (a .0)) (a .1 .0)) [])
+  number-in : Settles check_words.number_in.Reads.Post (λ κ z e. leaves z []) (λ κ a. leaves (numberIn (now (a .0))) [])
+  number-right : Settles check_words.number_right.Reads.Post (λ κ z e. leaves z []) (λ κ a. leaves (numberRight (a .0)) [])
+  payload-right : Settles check_words.payload_right.Reads.Post (λ κ z e. leaves z []) (λ κ a. leaves (payloadRight (now (a .0))) [])
+  pec10-bitwise : Settles remainders.pec10_bitwise.Reads.Post (λ κ z e. leaves z []) (λ κ a. leaves (pec10 (now (a .0))) [])
+  pec10-by-table : Settles remainders.pec10_by_table.Reads.Post (λ κ z e. leaves z []) (λ κ a. leaves (pec10 (now (a .0))) [])
+  pec15-bitwise : Settles remainders.pec15_bitwise.Reads.Post (λ κ z e. leaves z []) (λ κ a. leaves (pec15 (now (a .0))) [])
+  pec15-by-table : Settles remainders.pec15_by_table.Reads.Post (λ κ z e. leaves z []) (λ κ a. leaves (pec15 (now (a .0))) [])
+  sealed : Settles check_words.sealed.Reads.Post (λ κ z e. leaves z []) (λ κ a. leaves (now (a .0) ++ seal (now (a .0)) (a .1 .0)) [])
+  seal : Settles remainders.seal.Reads.Post (λ κ z e. leaves z []) (λ κ a. leaves (seal (now (a .0)) (a .1 .0)) [])
   -- monitor
-  command-of : Settles monitor.command_of.Reads.Post (λ κ z e. leaves z []) (λ κ a. leaves (commandOf (a .0) commands) [])
-  frame-length : Settles monitor.frame_length.Reads.Post (λ κ z e. leaves z [])
+  command-of : Settles records.command_of.Reads.Post (λ κ z e. leaves z []) (λ κ a. leaves (commandOf (a .0) commands) [])
+  frame-length : Settles records.frame_length.Reads.Post (λ κ z e. leaves z [])
       (λ κ a. leaves (cond (leb (a .1 .0) mostMonitors) (frameLength (a .0) (a .1 .0)) 0) [])
-  is-listed : Settles monitor.is_listed.Reads.Post (λ κ z e. leaves z []) (λ κ a. leaves (isListed (a .0)) [])
-  record-sound : Settles monitor.record_sound.Reads.Post (λ κ z e. leaves z []) (λ κ a. leaves (isRecord (now (a .0)) && recordSound (now (a .0))) [])
-  byte-at : Settles monitor.byte_at.Reads.Post (λ κ z e. leaves z []) (λ κ a. leaves (getD (now (a .0)) (a .1 .0) 0) [])
-  reply-of : Settles monitor.reply_of.Reads.Post (λ κ z e. leaves z []) (λ κ a. leaves (reply (a .0) (now (a .1 .0))) [])
+  reply-size : Settles records.reply_size.Reads.Post (λ κ z e. leaves z [])
+      (λ κ a. leaves (cond (leb (a .1 .0) mostMonitors) (replyLength (a .0) (a .1 .0)) 0) [])
+  is-listed : Settles records.is_listed.Reads.Post (λ κ z e. leaves z []) (λ κ a. leaves (isListed (a .0)) [])
+  record-sound : Settles records.record_sound.Reads.Post (λ κ z e. leaves z []) (λ κ a. leaves (isRecord (now (a .0)) && recordSound (now (a .0))) [])
+  byte-at : Settles records.byte_at.Reads.Post (λ κ z e. leaves z []) (λ κ a. leaves (getD (now (a .0)) (a .1 .0) 0) [])
+  reply-of : Settles reads.reply_of.Reads.Post (λ κ z e. leaves z []) (λ κ a. leaves (reply (a .0) (now (a .1 .0))) [])
+  write : Settles writes.write.Reads.Post (λ κ z e. leaves z (now (e .1 .1 .0) ∷ []))
+      (λ κ a. leaves tt (cond (isRecord (now (a .1 .1 .0)) && leb 6 (length (now (a .1 .1 .1 .0)))) (written (a .0) (a .1 .0) (now (a .1 .1 .1 .0)) (now (a .1 .1 .0))) (now (a .1 .1 .0)) ∷ []))
   act : Settles monitor.act.Reads.Post (λ κ z e. leaves z (now (e .1 .0) ∷ []))
       (λ κ a. leaves (isRecord (now (a .1 .0)) && takes (a .0) (now (a .1 .1 .0))) (cond (isRecord (now (a .1 .0))) (keeps (a .0) (now (a .1 .1 .0)) (now (a .1 .0))) (now (a .1 .0)) ∷ []))
   -- chain
-  sound-table : Settles chain.sound.Reads.Post (λ κ z e. leaves z []) (λ κ a. leaves (sound (now (a .0))) [])
-  sound-count : Settles chain.sound_count.Reads.Post (λ κ z e. leaves z []) (λ κ a. leaves (cond (sound (now (a .0))) (monitors (now (a .0))) 0) [])
-  command-in : Settles chain.command_in.Reads.Post (λ κ z e. leaves z []) (λ κ a. leaves (commandIn (now (a .0))) [])
-  reply-size : Settles chain.reply_size.Reads.Post (λ κ z e. leaves z [])
-      (λ κ a. leaves (cond (leb (a .1 .0) mostMonitors) (replyLength (a .0) (a .1 .0)) 0) [])
-  judge-head : Settles chain.judge_head.Reads.Post (λ κ z e. leaves z []) (λ κ a. leaves (headJudged (now (a .0)) (a .1 .0) (a .1 .1 .0)) [])
+  sound-table : Settles judging.sound.Reads.Post (λ κ z e. leaves z []) (λ κ a. leaves (sound (now (a .0))) [])
+  sound-count : Settles judging.sound_count.Reads.Post (λ κ z e. leaves z []) (λ κ a. leaves (cond (sound (now (a .0))) (monitors (now (a .0))) 0) [])
+  whole-table : Settles judging.whole_table.Reads.Post (λ κ z e. leaves z []) (λ κ a. leaves (wholeTable (a .1 .0) (now (a .0))) [])
+  command-in : Settles judging.command_in.Reads.Post (λ κ z e. leaves z []) (λ κ a. leaves (commandIn (now (a .0))) [])
+  judge-head : Settles judging.judge_head.Reads.Post (λ κ z e. leaves z []) (λ κ a. leaves (headJudged (now (a .0)) (a .1 .0) (a .1 .1 .0)) [])
   numbers-of : Settles chain.numbers_of.Reads.Post (λ κ z e. leaves z []) (λ κ a. leaves (numbersOf (a .0)) [])
-  serve-at : Settles chain.serve_at.Reads.Post (λ κ z e. leaves z (now (e .0) ∷ []))
+  serve : Settles serving.serve.Reads.Post (λ κ z e. leaves z (now (e .0) ∷ []))
+      (λ κ a. leaves (cond (wholeTable (a .1 .1 .0) (now (a .0))) (count (takes (a .1 .0)) (writePayloads payloadSize (a .1 .1 .0) (now (a .1 .1 .1 .0)))) 0) (cond (wholeTable (a .1 .1 .0) (now (a .0))) (joined (along (λ r eight. keeps (a .1 .0) eight r) (rows recordSize (a .1 .1 .0) (now (a .0))) (writePayloads payloadSize (a .1 .1 .0) (now (a .1 .1 .1 .0))))) (now (a .0)) ∷ []))
+  serve-at : Settles serving.serve_at.Reads.Post (λ κ z e. leaves z (now (e .0) ∷ []))
       (λ κ a. leaves (hasRecord (a .1 .1 .0) (now (a .0)) && takes (a .1 .0) (now (a .1 .1 .1 .0))) (cond (hasRecord (a .1 .1 .0) (now (a .0))) (servedAt (a .1 .1 .0) (a .1 .0) (now (a .1 .1 .1 .0)) (now (a .0))) (now (a .0)) ∷ []))
-  reply-all : Settles chain.reply_all.Reads.Post (λ κ z e. leaves z (now (e .1 .1 .0) ∷ []))
+  replies-of : Settles replying.replies_of.Reads.Post (λ κ z e. leaves z (now (e .1 .1 .1 .0) ∷ []))
+      (λ κ a. leaves (cond (repliesFit (a .1 .0) (a .1 .1 .0) (now (a .0)) (length (now (a .1 .1 .1 .0)))) (replyLength (a .1 .0) (a .1 .1 .0)) 0) (cond (repliesFit (a .1 .0) (a .1 .1 .0) (now (a .0)) (length (now (a .1 .1 .1 .0)))) (replied (a .1 .0) (a .1 .1 .0) (now (a .0)) (now (a .1 .1 .1 .0))) (now (a .1 .1 .1 .0)) ∷ []))
+  reply-all : Settles replying.reply_all.Reads.Post (λ κ z e. leaves z (now (e .1 .1 .0) ∷ []))
       (λ κ a. leaves (cond (repliesInto (a .1 .0) (now (a .0)) (length (now (a .1 .1 .0)))) (replyLength (a .1 .0) (monitors (now (a .0)))) 0) (cond (repliesInto (a .1 .0) (now (a .0)) (length (now (a .1 .1 .0)))) (replied (a .1 .0) (monitors (now (a .0))) (now (a .0)) (now (a .1 .1 .0))) (now (a .1 .1 .0)) ∷ []))
   handle : Settles chain.handle.Reads.Post (λ κ z e. leaves z (now (e .0) ∷ now (e .1 .1 .0) ∷ []))
       (λ κ a. leaves (answer (now (a .0)) (now (a .1 .0)) (length (now (a .1 .1 .0)))) (tableAfter (now (a .0)) (now (a .1 .0)) (length (now (a .1 .1 .0))) ∷ replyAfter (now (a .0)) (now (a .1 .0)) (now (a .1 .1 .0)) ∷ []))
   -- loads
-  codes-of : Settles loads.codes_of.Reads.Post (λ κ z e. leaves z []) (λ κ a. leaves (codesOf (a .0)) [])
-  over-threshold : Settles loads.over_threshold.Reads.Post (λ κ z e. leaves z []) (λ κ a. leaves (vov (now (a .0))) [])
-  under-threshold : Settles loads.under_threshold.Reads.Post (λ κ z e. leaves z []) (λ κ a. leaves (vuv (now (a .0))) [])
+  codes-of : Settles thresholds.codes_of.Reads.Post (λ κ z e. leaves z []) (λ κ a. leaves (codesOf (a .0)) [])
+  over-threshold : Settles thresholds.over_threshold.Reads.Post (λ κ z e. leaves z []) (λ κ a. leaves (vov (now (a .0))) [])
+  under-threshold : Settles thresholds.under_threshold.Reads.Post (λ κ z e. leaves z []) (λ κ a. leaves (vuv (now (a .0))) [])
   load-number : Settles loads.load_number.Reads.Post (λ κ z e. leaves z []) (λ κ a. leaves (loadNumber (a .0)) [])
-  store : Settles loads.store.Reads.Post (λ κ z e. leaves z (now (e .0) ∷ []))
+  store : Settles cells.store.Reads.Post (λ κ z e. leaves z (now (e .0) ∷ []))
       (λ κ a. leaves (isRecord (now (a .0)) && eqb (length (now (a .1 .0))) cellCount) (cond (isRecord (now (a .0)) && eqb (length (now (a .1 .0))) cellCount) (store (now (a .1 .0)) (now (a .0))) (now (a .0)) ∷ []))
-  compare : Settles loads.compare.Reads.Post (λ κ z e. leaves z (now (e .0) ∷ []))
+  compare : Settles cells.compare.Reads.Post (λ κ z e. leaves z (now (e .0) ∷ []))
       (λ κ a. leaves (isRecord (now (a .0))) (cond (isRecord (now (a .0))) (compare (now (a .0))) (now (a .0)) ∷ []))
-  load-one : Settles loads.load_one.Reads.Post (λ κ z e. leaves z (now (e .0) ∷ []))
+  load-one : Settles cells.load_one.Reads.Post (λ κ z e. leaves z (now (e .0) ∷ []))
       (λ κ a. leaves (isRecord (now (a .0)) && eqb (length (now (a .1 .0))) cellCount) (cond (isRecord (now (a .0)) && eqb (length (now (a .1 .0))) cellCount) (load (now (a .1 .0)) (now (a .0))) (now (a .0)) ∷ []))
   load : Settles loads.load.Reads.Post (λ κ z e. leaves z (now (e .0) ∷ []))
       (λ κ a. leaves (loaded (now (a .0)) (a .1 .0) (now (a .1 .1 .0))) (tableAfterLoad (now (a .0)) (a .1 .0) (now (a .1 .1 .0)) ∷ []))
   -- clocked
-  start : Settles clocked.start.Reads.Post (λ κ z e. leaves z (now (e .0) ∷ [])) (λ κ a. leaves tt (idle ∷ []))
-  clock : Settles clocked.clock.Reads.Post (λ κ z e. leaves z (now (e .0) ∷ []))
+  start : Settles clock_state.start.Reads.Post (λ κ z e. leaves z (now (e .0) ∷ [])) (λ κ a. leaves tt (idle ∷ []))
+  seen-in : Settles clock_state.seen_in.Reads.Post (λ κ z e. leaves z []) (λ κ a. leaves (seenIn (now (a .0))) [])
+  kind-in : Settles clock_state.kind_in.Reads.Post (λ κ z e. leaves z []) (λ κ a. leaves (kindIn (now (a .0))) [])
+  chained-in : Settles clock_state.chained_in.Reads.Post (λ κ z e. leaves z []) (λ κ a. leaves (chainedIn (now (a .0))) [])
+  clock : Settles clocking.clock.Reads.Post (λ κ z e. leaves z (now (e .0) ∷ []))
       (λ κ a. leaves (answered (clockOf (now (a .0)))) (stateAfter (now (a .1 .0)) (a .1 .1 .0) (now (a .0)) ∷ []))
-  release : Settles clocked.release.Reads.Post (λ κ z e. leaves z (now (e .0) ∷ now (e .1 .0) ∷ []))
+  judge-release : Settles releasing.judge.Reads.Post (λ κ z e. leaves z []) (λ κ a. leaves (judged (clockOf (now (a .0))) (now (a .1 .0))) [])
+  release : Settles releasing.release.Reads.Post (λ κ z e. leaves z (now (e .0) ∷ now (e .1 .0) ∷ []))
       (λ κ a. leaves (released (clockOf (now (a .0))) (now (a .1 .0))) (idle ∷ tableReleased (clockOf (now (a .0))) (now (a .1 .0)) ∷ []))
-  look : Settles clocked.look.Reads.Post (λ κ z e. leaves z (now (e .1 .1 .0) ∷ []))
+  look : Settles releasing.look.Reads.Post (λ κ z e. leaves z (now (e .1 .1 .0) ∷ []))
       (λ κ a. leaves (looked (clockOf (now (a .0))) (a .1 .0) (length (now (a .1 .1 .0)))) (outAfter (clockOf (now (a .0))) (a .1 .0) (now (a .1 .1 .0)) ∷ []))
   handle-clocked : Settles clocked.handle.Reads.Post (λ κ z e. leaves z (now (e .0) ∷ now (e .1 .1 .0) ∷ []))
       (λ κ a. leaves (answer (now (a .0)) (now (a .1 .0)) (length (now (a .1 .1 .0)))) (tableAfter (now (a .0)) (now (a .1 .0)) (length (now (a .1 .1 .0))) ∷ replyAfter (now (a .0)) (now (a .1 .0)) (now (a .1 .1 .0)) ∷ []))
   -- host
-  check : Settles host.check.Reads.Post (λ κ z e. leaves z []) (λ κ a. leaves (checked (now (a .0))) [])
-  port-of : Settles host.port_of.Reads.Post (λ κ z e. leaves z []) (λ κ a. leaves (portOf (now (a .0)) (now (a .1 .0)) (a .1 .1 .0) (a .1 .1 .1 .0)) [])
-  part-of : Settles host.part_of.Reads.Post (λ κ z e. leaves (lying z) []) (λ κ a. leaves (partOf (a .0) (a .1 .0) (a .1 .1 .0) (a .1 .1 .1 .0)) [])
+  check : Settles ports.check.Reads.Post (λ κ z e. leaves z []) (λ κ a. leaves (checked (now (a .0))) [])
+  port-of : Settles ports.port_of.Reads.Post (λ κ z e. leaves z []) (λ κ a. leaves (portOf (now (a .0)) (now (a .1 .0)) (a .1 .1 .0) (a .1 .1 .1 .0)) [])
+  part-of : Settles ports.part_of.Reads.Post (λ κ z e. leaves (lying z) []) (λ κ a. leaves (partOf (a .0) (a .1 .0) (a .1 .1 .0) (a .1 .1 .1 .0)) [])
   build : Settles host.build.Reads.Post (λ κ z e. leaves z (now (e .1 .1 .1 .0) ∷ []))
       (λ κ a. leaves (built (a .0) (a .1 .0) (now (a .1 .1 .0)) (length (now (a .1 .1 .1 .0)))) (bufferAfter (a .0) (a .1 .0) (now (a .1 .1 .0)) (now (a .1 .1 .1 .0)) ∷ []))
   -- readings
@@ -158,6 +198,10 @@ one-outcomes =
     record {
       put = settles (λ κ a z e p i. leaves z (p i ∷ []));
       number-of = settles (λ κ a z e p i. leaves (p i) []);
+      nothing-left = settles (λ κ a z e p i. leaves (p i) []);
+      of-command = settles (λ κ a z e p i. leaves (p i) []);
+      of-message = settles (λ κ a z e p i. leaves (p i) []);
+      two-bytes = settles (λ κ a z e p i. leaves (p i) []);
       command-check = settles (λ κ a z e p i. leaves (p i) []);
       command-right = settles (λ κ a z e p i. leaves (p i) []);
       data-pec = settles (λ κ a z e p i. leaves (p i) []);
@@ -172,18 +216,22 @@ one-outcomes =
       sealed = settles (λ κ a z e p i. leaves (p i) []);
       command-of = settles (λ κ a z e p i. leaves (p i) []);
       frame-length = settles (λ κ a z e p i. leaves (p i) []);
+      reply-size = settles (λ κ a z e p i. leaves (p i) []);
       is-listed = settles (λ κ a z e p i. leaves (p i) []);
       record-sound = settles (λ κ a z e p i. leaves (p i) []);
       byte-at = settles (λ κ a z e p i. leaves (p i) []);
       reply-of = settles (λ κ a z e p i. leaves (p i) []);
+      write = settles (λ κ a z e p i. leaves z (p i ∷ []));
       act = settles (λ κ a z e p i. leaves (p .0 i) (p .1 i ∷ []));
       sound-table = settles (λ κ a z e p i. leaves (p i) []);
       sound-count = settles (λ κ a z e p i. leaves (p i) []);
+      whole-table = settles (λ κ a z e p i. leaves (p i) []);
       command-in = settles (λ κ a z e p i. leaves (p i) []);
-      reply-size = settles (λ κ a z e p i. leaves (p i) []);
       judge-head = settles (λ κ a z e p i. leaves (p i) []);
       numbers-of = settles (λ κ a z e p i. leaves (p i) []);
+      serve = settles (λ κ a z e p i. leaves (p .0 i) (p .1 i ∷ []));
       serve-at = settles (λ κ a z e p i. leaves (p .0 i) (p .1 i ∷ []));
+      replies-of = settles (λ κ a z e p i. leaves (p .0 i) (p .1 i ∷ []));
       reply-all = settles (λ κ a z e p i. leaves (p .0 i) (p .1 i ∷ []));
       handle = settles (λ κ a z e p i. leaves (p .0 i) (p .1 .0 i ∷ p .1 .1 i ∷ []));
       codes-of = settles (λ κ a z e p i. leaves (p i) []);
@@ -195,7 +243,11 @@ one-outcomes =
       load-one = settles (λ κ a z e p i. leaves (p .0 i) (p .1 i ∷ []));
       load = settles (λ κ a z e p i. leaves (p .0 i) (p .1 i ∷ []));
       start = settles (λ κ a z e p i. leaves z (p i ∷ []));
+      seen-in = settles (λ κ a z e p i. leaves (p .0 i) []);
+      kind-in = settles (λ κ a z e p i. leaves (p i) []);
+      chained-in = settles (λ κ a z e p i. leaves (p .0 i) []);
       clock = settles (λ κ a z e p i. leaves (p .0 i) (p .1 .1 i ∷ []));
+      judge-release = settles (λ κ a z e p i. leaves (p i) []);
       release = settles (λ κ a z e p i. leaves (p .0 i) (p .1 .0 i ∷ p .1 .1 i ∷ []));
       look = settles (λ κ a z e p i. leaves (p .0 i) (p .1 i ∷ []));
       handle-clocked = settles (λ κ a z e p i. leaves (p .0 i) (p .1 .0 i ∷ p .1 .1 i ∷ []));

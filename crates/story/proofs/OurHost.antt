@@ -19,24 +19,28 @@ use Rattle.pec.specs.Words.{payloadRight}
 use Rattle.pec.proofs.CheckWords.{seal-right}
 use Rattle.wire.proofs.Order.{write-at}
 use Rattle.refusals.proofs.Deciding.{passes}
-use Rattle.monitor.specs.declared.commands.Command.{Command}
-use Rattle.monitor.specs.declared.commands.Command.the-variants.{Reads, Writes, Bares}
-use Rattle.monitor.specs.declared.commands.Write.{Write}
-use Rattle.monitor.specs.declared.commands.Bare.{Bare}
-use Rattle.monitor.specs.declared.record.Part.{Part}
-use Rattle.monitor.specs.Record.{recordSize, counter, byteOf}
-use Rattle.monitor.specs.Commands.{commands, commandOf, isListed, payloadSize, frameLength}
+use Rattle.records.specs.declared.commands.Command.{Command}
+use Rattle.records.specs.declared.commands.Command.the-variants.{Reads, Writes, Bares}
+use Rattle.records.specs.declared.commands.Write.{Write}
+use Rattle.records.specs.declared.commands.Bare.{Bare}
+use Rattle.records.specs.declared.record.Part.{Part}
+use Rattle.records.specs.Record.{recordSize, counter, byteOf}
+use Rattle.records.specs.Commands.{commands, commandOf, isListed, payloadSize, frameLength, replyLength}
 use Rattle.monitor.specs.Effects.{keeps}
-use Rattle.monitor.specs.Reply.{register, reply}
+use Rattle.reads.specs.Reply.{register, reply}
 use Rattle.chain.specs.declared.frames.Answer.the-variants.{Accepted}
-use Rattle.chain.specs.declared.frames.Judged.the-variants.{Bad, Good}
-use Rattle.chain.specs.Table.{monitors, sound}
-use Rattle.chain.specs.Frame.{commandIn, payloadsIn, replyLength, takenBy, kept, replied, frameRefusals, answer, tableAfter, replyAfter}
+use Rattle.judging.specs.declared.heads.Judged.the-variants.{Bad, Good}
+use Rattle.judging.specs.Table.{monitors, sound}
+use Rattle.judging.specs.Refusals.{commandIn}
+use Rattle.serving.specs.Served.{payloadsIn, takenBy, kept}
+use Rattle.replying.specs.Replied.{replied}
+use Rattle.chain.specs.Frame.{frameRefusals, answer, tableAfter, replyAfter}
 use Rattle.chain.specs.Judged.{judged}
-use Rattle.chain.proofs.Soundness.{is-sound}
+use Rattle.judging.proofs.Soundness.{is-sound}
 use Rattle.chain.proofs.Outcome.{head, the-answer, the-table, the-buffer}
-use Rattle.chain.proofs.OwnBytes.{own-record, own-reply}
-use Rattle.chain.proofs.Taken.{taken-read, taken-bare}
+use Rattle.serving.proofs.OwnRecord.{own-record}
+use Rattle.replying.proofs.OwnReply.{own-reply}
+use Rattle.serving.proofs.Taken.{taken-read, taken-bare}
 use Rattle.host.specs.Frames.{dataSize, sealed, valueCount, frameFor}
 use Rattle.host.proofs.FrameFor.{length-frame, frame-right, frame-code, write-payloads}
 use Rattle.host.proofs.Payloads.{sealed-right}

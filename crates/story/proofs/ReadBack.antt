@@ -13,21 +13,22 @@ use lib.Seq.{ext-getD, take-at}
 use Rattle.laws.specs.Rows.{rowAt}
 use Rattle.laws.proofs.Rows.{length-row-at, row-element}
 use Rattle.laws.proofs.Tables.{at-each}
-use Rattle.monitor.specs.declared.commands.Command.the-variants.{Reads, Writes}
-use Rattle.monitor.specs.declared.commands.Write.the-variants.{Wrcfgb}
-use Rattle.monitor.specs.Record.{recordSize}
-use Rattle.monitor.specs.Commands.{commands, commandOf, rdcfgb, payloadSize}
-use Rattle.monitor.specs.Effects.{locked, counted, rulesOf, changed, byRules, opens, written, keeps}
-use Rattle.monitor.specs.Reply.{register, reply}
-use Rattle.monitor.proofs.Anew.{length-anew, anew-inside}
+use Rattle.records.specs.declared.commands.Command.the-variants.{Reads, Writes}
+use Rattle.records.specs.declared.commands.Write.the-variants.{Wrcfgb}
+use Rattle.records.specs.Record.{recordSize}
+use Rattle.records.specs.Commands.{commands, commandOf, rdcfgb, payloadSize}
+use Rattle.writes.specs.Writes.{rulesOf, changed, byRules, opens, written}
+use Rattle.monitor.specs.Effects.{locked, counted, keeps}
+use Rattle.reads.specs.Reply.{register, reply}
+use Rattle.records.proofs.Anew.{length-anew, anew-inside}
 use Rattle.monitor.proofs.Keeping.{keeps-right}
-use Rattle.monitor.proofs.Showing.{shows}
+use Rattle.reads.proofs.Showing.{shows}
 use Rattle.monitor.proofs.Sound.{length-keeps}
-use Rattle.chain.specs.Table.{monitors, sound}
+use Rattle.judging.specs.Table.{monitors, sound}
 use Rattle.chain.specs.Frame.{tableAfter, replyAfter}
-use Rattle.chain.proofs.Keeps.{sound-after-frame, monitors-after-frame}
-use Rattle.chain.proofs.Serving.{lent-length}
-use Rattle.chain.proofs.Soundness.{is-sound}
+use Rattle.chain.proofs.FrameKeeps.{sound-after-frame, monitors-after-frame}
+use Rattle.judging.proofs.Lent.{lent-length}
+use Rattle.judging.proofs.Soundness.{is-sound}
 use Rattle.host.specs.Frames.{dataSize, sealed, frameFor}
 use Rattle.host.proofs.Payloads.{sealed-right}
 use Rattle.story.proofs.OurHost.{each-keeps-its-own, each-reply-its-own, length-register}

@@ -19,30 +19,34 @@ use Rattle.wire.specs.Order.{replyData}
 use Rattle.refusals.specs.declared.Refusal.{Refusal}
 use Rattle.refusals.specs.Order.{Row, decide}
 use Rattle.refusals.proofs.Deciding.{decide-append, passes}
-use Rattle.monitor.specs.declared.commands.Command.{Command}
-use Rattle.monitor.specs.declared.commands.Command.the-variants.{Reads, Writes, Bares, Unlisted}
-use Rattle.monitor.specs.declared.record.Part.{Part}
-use Rattle.monitor.specs.Record.{recordSize}
-use Rattle.monitor.specs.Commands.{payloadSize}
+use Rattle.records.specs.declared.commands.Command.{Command}
+use Rattle.records.specs.declared.commands.Command.the-variants.{Reads, Writes, Bares, Unlisted}
+use Rattle.records.specs.declared.record.Part.{Part}
+use Rattle.records.specs.Record.{recordSize}
+use Rattle.records.specs.Commands.{payloadSize, replyLength}
 use Rattle.monitor.specs.Effects.{takes}
-use Rattle.monitor.specs.Reply.{reply}
-use Rattle.monitor.proofs.Sound.{length-reply}
+use Rattle.reads.specs.Reply.{reply}
+use Rattle.reads.proofs.Showing.{length-reply}
 use Rattle.chain.specs.declared.frames.Answer.{Answer}
 use Rattle.chain.specs.declared.frames.Answer.the-variants.{Refused, Accepted}
-use Rattle.chain.specs.Table.{monitors}
-use Rattle.chain.specs.Frame.{commandIn, payloadsIn, replyLength, roomRow, frameRefusals, takenBy, kept, replied, answer, tableAfter, replyAfter}
-use Rattle.chain.proofs.OwnBytes.{length-replied}
-use Rattle.chain.proofs.Refused.{either-way}
-use Rattle.chain.proofs.Taken.{taken-read, taken-bare}
+use Rattle.judging.specs.Table.{monitors}
+use Rattle.judging.specs.Refusals.{commandIn, roomRow}
+use Rattle.serving.specs.Served.{payloadsIn, takenBy, kept}
+use Rattle.replying.specs.Replied.{replied}
+use Rattle.chain.specs.Frame.{frameRefusals, answer, tableAfter, replyAfter}
+use Rattle.replying.proofs.OwnReply.{length-replied}
+use Rattle.judging.proofs.Decided.{either-way}
+use Rattle.serving.proofs.Taken.{taken-read, taken-bare}
 use Rattle.loads.specs.declared.loads.Loaded.the-variants.{Unloaded}
 use Rattle.loads.specs.Load.{loadRefusals, loaded, tableAfterLoad}
-use Rattle.clocked.specs.Clock.{Clock, start, answered}
-use Rattle.clocked.specs.Release.{released, tableReleased}
+use Rattle.clocking.specs.Clock.{Clock, start, answered}
+use Rattle.releasing.specs.Release.{released, tableReleased}
 use Rattle.clocked.specs.Frames.{clockedAll, answeredAll}
-use Rattle.clocked.specs.State.{stateSize, clockOf, idle, stateAfter}
-use Rattle.clocked.proofs.Known.{reply-short}
-use Rattle.clocked.proofs.Lengths.{length-stateAfter}
-use Rattle.clocked.proofs.View.{view, view-idle}
+use Rattle.clock_state.specs.State.{stateSize, idle}
+use Rattle.clocking.specs.Bytes.{clockOf, stateAfter}
+use Rattle.clocking.proofs.Known.{reply-short}
+use Rattle.clocking.proofs.Lengths.{length-stateAfter}
+use Rattle.clocking.proofs.View.{view, view-idle}
 use Rattle.clocked.proofs.Whole.{released-whole, table-released-whole, reply-whole}
 use Rattle.story.specs.Runs.{Frame, Load, Seen, Answered, LoadAnswered, Step, replyBytes, ruleRefusals, takers, replies, obeyed, ruled, stateAfterAll, cameBack}
 

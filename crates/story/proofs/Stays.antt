@@ -8,17 +8,18 @@ use native.Mathlib.Omega.{arith}
 use lib.ListN.{length}
 use Rattle.refusals.specs.declared.Refusal.{Refusal}
 use Rattle.chain.specs.declared.frames.Answer.the-variants.{Refused, Accepted}
-use Rattle.chain.proofs.Refused.{accepted-apart, stays-so}
-use Rattle.clocked.specs.declared.looks.Looked.the-variants.{Refused as Unseen, Holds}
-use Rattle.clocked.specs.Clock.{Clock}
-use Rattle.clocked.specs.Release.{releaseRefusals, released, tableReleased}
-use Rattle.clocked.specs.Look.{lookRefusals, looked, outAfter}
+use Rattle.chain.proofs.Refused.{accepted-apart}
+use Rattle.judging.proofs.Decided.{stays-so}
+use Rattle.releasing.specs.declared.looks.Looked.the-variants.{Refused as Unseen, Holds}
+use Rattle.clocking.specs.Clock.{Clock}
+use Rattle.releasing.specs.Release.{releaseRefusals, released, tableReleased}
+use Rattle.releasing.specs.Look.{lookRefusals, looked, outAfter}
 use Rattle.host.specs.declared.frames.Built.the-variants.{Unbuilt, Length}
-use Rattle.host.specs.declared.ports.Port.the-variants.{Refused as Unported}
+use Rattle.ports.specs.declared.ports.Port.the-variants.{Refused as Unported}
 use Rattle.host.specs.Frames.{buildRefusals, built, bufferAfter}
-use Rattle.host.specs.Ports.{partA, partB, portOf}
-use Rattle.host.specs.Parts.{bytesOf}
-use Rattle.host.proofs.TwoPorts.{byPort, bytes-by-port}
+use Rattle.ports.specs.Ports.{partA, partB, portOf}
+use Rattle.ports.specs.Parts.{bytesOf}
+use Rattle.ports.proofs.TwoPorts.{byPort, bytes-by-port}
 
 -- a release
 pub refused-release : (c : Clock) (table : List ℕ) (r : Refusal) → released c table ≡ Refused r → tableReleased c table ≡ table

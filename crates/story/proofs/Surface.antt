@@ -14,14 +14,16 @@ use Rattle.refusals.specs.declared.Refusal.{Refusal}
 use Rattle.loads.specs.declared.loads.Loaded.{Loaded}
 use Rattle.chain.specs.Frame.{frameRefusals, answer, tableAfter, replyAfter}
 use Rattle.loads.specs.Load.{loadRefusals, loaded, tableAfterLoad}
-use Rattle.clocked.specs.Clock.{Clock, answered}
-use Rattle.clocked.specs.Release.{releaseRefusals, released, tableReleased}
-use Rattle.clocked.specs.Look.{lookRefusals, looked, outAfter}
-use Rattle.clocked.specs.State.{stateSize, clockOf, idle, stateAfter}
-use Rattle.host.specs.declared.frames.Checked.{Checked}
-use Rattle.host.specs.Frames.{buildRefusals, built, bufferAfter, checkRefusals, checked}
-use Rattle.host.specs.Ports.{portRefusals, portOf}
-use Rattle.host.specs.Parts.{bytesOf}
+use Rattle.clocking.specs.Clock.{Clock, answered}
+use Rattle.releasing.specs.Release.{releaseRefusals, released, tableReleased}
+use Rattle.releasing.specs.Look.{lookRefusals, looked, outAfter}
+use Rattle.clock_state.specs.State.{stateSize, idle}
+use Rattle.clocking.specs.Bytes.{clockOf, stateAfter}
+use Rattle.ports.specs.declared.checks.Checked.{Checked}
+use Rattle.host.specs.Frames.{buildRefusals, built, bufferAfter}
+use Rattle.ports.specs.Check.{checkRefusals, checked}
+use Rattle.ports.specs.Ports.{portRefusals, portOf}
+use Rattle.ports.specs.Parts.{bytesOf}
 use Rattle.readings.specs.declared.pack_summary.Pack.the-variants.{Nothing}
 use Rattle.readings.specs.Readings.{microvolts, readingOf, summaryOf}
 use Rattle.story.specs.Numbers.{firstNumber, summaryRefusals}

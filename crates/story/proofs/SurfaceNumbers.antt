@@ -20,15 +20,16 @@ use Rattle.chain.specs.declared.frames.Answer.the-variants.{Refused}
 use Rattle.loads.specs.declared.loads.Loaded.the-variants.{Unloaded, Done}
 use Rattle.chain.specs.Frame.{frameRefusals, answer}
 use Rattle.loads.specs.Load.{loadRefusals, loaded}
-use Rattle.clocked.specs.declared.looks.Looked.the-variants.{Refused as Unseen}
-use Rattle.clocked.specs.Clock.{Clock}
-use Rattle.clocked.specs.Release.{releaseRefusals, released}
-use Rattle.clocked.specs.Look.{lookRefusals, looked}
+use Rattle.releasing.specs.declared.looks.Looked.the-variants.{Refused as Unseen}
+use Rattle.clocking.specs.Clock.{Clock}
+use Rattle.releasing.specs.Release.{releaseRefusals, released}
+use Rattle.releasing.specs.Look.{lookRefusals, looked}
 use Rattle.host.specs.declared.frames.Built.the-variants.{Unbuilt}
-use Rattle.host.specs.declared.frames.Checked.the-variants.{Unchecked, Right, Wrong}
-use Rattle.host.specs.declared.ports.Port.the-variants.{Refused as Unported, A, B}
-use Rattle.host.specs.Frames.{buildRefusals, built, checkRefusals, checked}
-use Rattle.host.specs.Ports.{partA, portRefusals, portOf}
+use Rattle.ports.specs.declared.checks.Checked.the-variants.{Unchecked, Right, Wrong}
+use Rattle.ports.specs.declared.ports.Port.the-variants.{Refused as Unported, A, B}
+use Rattle.host.specs.Frames.{buildRefusals, built}
+use Rattle.ports.specs.Check.{checkRefusals, checked}
+use Rattle.ports.specs.Ports.{partA, portRefusals, portOf}
 use Rattle.readings.specs.declared.pack_summary.Pack.{Pack}
 use Rattle.readings.specs.declared.pack_summary.Pack.the-variants.{Refused as Unsummed, Nothing, Whole}
 use Rattle.readings.specs.Readings.{measured, wholeOf, summaryOf}

@@ -14,14 +14,14 @@ use Rattle.refusals.specs.declared.Refusal.{Refusal}
 use Rattle.refusals.specs.declared.Refusal.the-variants.{CountWrong}
 use Rattle.refusals.specs.Numbers.{numberOf}
 use Rattle.refusals.specs.Order.{Row, _gives_, decide}
-use Rattle.clocked.specs.declared.looks.Looked.{Looked}
-use Rattle.clocked.specs.declared.looks.Looked.the-variants.{Refused as Unseen, Holds}
+use Rattle.releasing.specs.declared.looks.Looked.{Looked}
+use Rattle.releasing.specs.declared.looks.Looked.the-variants.{Refused as Unseen, Holds}
 use Rattle.host.specs.declared.frames.Built.{Built}
 use Rattle.host.specs.declared.frames.Built.the-variants.{Unbuilt, Length}
-use Rattle.host.specs.declared.frames.Checked.{Checked}
-use Rattle.host.specs.declared.frames.Checked.the-variants.{Unchecked, Right, Wrong}
-use Rattle.host.specs.declared.ports.Port.{Port}
-use Rattle.host.specs.declared.ports.Port.the-variants.{Refused, A, B}
+use Rattle.ports.specs.declared.checks.Checked.{Checked}
+use Rattle.ports.specs.declared.checks.Checked.the-variants.{Unchecked, Right, Wrong}
+use Rattle.ports.specs.declared.ports.Port.{Port}
+use Rattle.ports.specs.declared.ports.Port.the-variants.{Refused, A, B}
 use Rattle.readings.specs.declared.pack_summary.Pack.{Pack}
 use Rattle.readings.specs.declared.pack_summary.Pack.the-variants.{Refused as Unsummed, Nothing, Whole}
 use Rattle.readings.specs.declared.pack_summary.Summary.{Summary}

@@ -11,22 +11,26 @@ use Rattle.laws.specs.Rows.{rows, joined, along}
 use Rattle.pec.specs.Words.{payloadRight}
 use Rattle.wire.specs.Order.{replyData}
 use Rattle.refusals.specs.Order.{Row, decide}
-use Rattle.monitor.specs.declared.commands.Command.{Command}
-use Rattle.monitor.specs.declared.commands.Command.the-variants.{Reads, Writes, Bares, Unlisted}
-use Rattle.monitor.specs.Record.{recordSize}
+use Rattle.records.specs.declared.commands.Command.{Command}
+use Rattle.records.specs.declared.commands.Command.the-variants.{Reads, Writes, Bares, Unlisted}
+use Rattle.records.specs.Record.{recordSize}
 use Rattle.monitor.specs.Effects.{keeps}
-use Rattle.monitor.specs.Reply.{reply}
+use Rattle.reads.specs.Reply.{reply}
+use Rattle.records.specs.Commands.{replyLength}
 use Rattle.chain.specs.declared.frames.Answer.{Answer}
 use Rattle.chain.specs.declared.frames.Answer.the-variants.{Refused, Accepted}
-use Rattle.chain.specs.Table.{monitors}
-use Rattle.chain.specs.Frame.{commandIn, payloadsIn, replyLength, tableRow, shortRow, commandRow, listedRow, lengthRow, answer, tableAfter, replyAfter}
+use Rattle.judging.specs.Table.{monitors}
+use Rattle.judging.specs.Refusals.{commandIn, tableRow, shortRow, commandRow, listedRow, lengthRow}
+use Rattle.serving.specs.Served.{payloadsIn}
+use Rattle.chain.specs.Frame.{answer, tableAfter, replyAfter}
 use Rattle.chain.specs.Numbers.{numbersOf}
 use Rattle.loads.specs.declared.loads.Loaded.{Loaded}
 use Rattle.loads.specs.declared.loads.Loaded.the-variants.{Unloaded, Done}
 use Rattle.loads.specs.Load.{loadRefusals, loadedAt, loaded, tableAfterLoad}
-use Rattle.clocked.specs.Clock.{answered}
-use Rattle.clocked.specs.Release.{released, tableReleased}
-use Rattle.clocked.specs.State.{clockOf, idle, stateAfter}
+use Rattle.clocking.specs.Clock.{answered}
+use Rattle.releasing.specs.Release.{released, tableReleased}
+use Rattle.clock_state.specs.State.{idle}
+use Rattle.clocking.specs.Bytes.{clockOf, stateAfter}
 
 -- ---- what happens to a chain, and what is seen of it
 

@@ -16,8 +16,8 @@ use crate::luck::draw;
 use crate::luck::fill;
 use crate::tables::Table;
 use chain::Numbers;
-use clocked::Looked;
-use clocked::STATE_SIZE;
+use clock_state::STATE_SIZE;
+use releasing::Looked;
 
 // How many bytes of the table are lent: with byte four, with the other bytes, and at the release. Is that as for a whole frame?
 struct Lent {
@@ -95,7 +95,7 @@ fn numbers_of(came: Looked) -> [u8; 2] {
 fn looked(state: &[u8; STATE_SIZE], position: usize, out: &mut [u8], room: usize) -> [u8; 2]
     requires { ⌜ room ≤ length (now out) ⌝ }
 {
-    numbers_of(clocked::look(state, position, &mut out[0..room]))
+    numbers_of(releasing::look(state, position, &mut out[0..room]))
 }
 
 // A look at a window, at times of no monitor or with too little room.
@@ -125,10 +125,10 @@ fn clock_one(state: &mut [u8; STATE_SIZE], table: &[u8], l: Lent, i: usize, byte
 {
     if i == 3 {
         let four = l.four;
-        return clocked::clock(state, &table[0..four], byte);
+        return clocking::clock(state, &table[0..four], byte);
     }
     let others = l.others;
-    clocked::clock(state, &table[0..others], byte)
+    clocking::clock(state, &table[0..others], byte)
 }
 
 // What is answered after the fourth byte goes to the start of a buffer, as far as it has room.
@@ -165,7 +165,7 @@ fn clock_all(
 fn release(state: &mut [u8; STATE_SIZE], table: &mut [u8], size: usize) -> Numbers
     requires { ⌜ size ≤ length (now table) ⌝ }
 {
-    chain::numbers_of(clocked::release(state, &mut table[0..size]))
+    chain::numbers_of(releasing::release(state, &mut table[0..size]))
 }
 
 // What was answered is a reply only where a read is accepted.
@@ -193,7 +193,7 @@ fn by_hand(
 fn give_up(state: &mut [u8; STATE_SIZE], book: &mut Book) {
     if draw(book, 4) == 0 {
         fill(state, book);
-        clocked::start(state);
+        clock_state::start(state);
     }
 }
 

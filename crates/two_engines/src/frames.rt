@@ -112,7 +112,7 @@ fn head_bit(book: &mut Book) -> usize {
 // The code and its check.
 fn put_head(frame: &mut [u8], code: u16, book: &mut Book) {
     bytes::put(frame, 0, &[(code / 256) as u8, (code % 256) as u8]);
-    bytes::put(frame, 2, &pec::command_check(code));
+    bytes::put(frame, 2, &check_words::command_check(code));
     flip(frame, head_bit(book));
 }
 
@@ -133,7 +133,7 @@ fn put_check(frame: &mut [u8], at: usize, some: bool, book: &mut Book)
     requires { ⌜ (at < 260) × (length (now frame) ≡ 600) ⌝ }
 {
     let end = at + 6;
-    let check = pec::seal(&frame[at..end], frame[end] / 4);
+    let check = remainders::seal(&frame[at..end], frame[end] / 4);
     bytes::put(frame, end, &check);
     flip(frame, payload_bit(some, at, book));
 }

@@ -17,7 +17,7 @@ use crate::frames::LONGEST;
 use crate::luck::SEED;
 use crate::luck::draw;
 use crate::tables::Table;
-use clocked::STATE_SIZE;
+use clock_state::STATE_SIZE;
 
 // The frames for each N.
 const TURNS: usize = 800;
@@ -53,7 +53,7 @@ fn run(n: usize, before: Book) -> Book
     let mut book = book::turned(before, n);
     let mut table = tables::new(&mut book);
     let mut state = [0; STATE_SIZE];
-    clocked::start(&mut state);
+    clock_state::start(&mut state);
     let mut i = 0;
     while i < TURNS {
         turn(&mut table, n, &mut state, &mut book);

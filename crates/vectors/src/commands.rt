@@ -35,7 +35,7 @@ fn low_byte(code: u16) -> u8
 
 fn right(code: u16, first: u8, second: u8) -> bool {
     let four = [high_byte(code), low_byte(code), first, second];
-    pec::command_right(&four)
+    check_words::command_right(&four)
 }
 
 // A check's last bit is always 0, so one with a 1 there is to be refused.
@@ -43,7 +43,7 @@ fn compared(c: Commands, code: u16) -> Commands
     requires { ⌜ c .digest < 4294967291 ⌝ }
     ensures { λ r. ⌜ r .digest < 4294967291 ⌝ }
 {
-    let check = pec::command_check(code);
+    let check = check_words::command_check(code);
     let first = check[0];
     let second = check[1];
     Commands {

@@ -60,7 +60,7 @@ fn with_each_bit_wrong(eight: [u8; 8], before: Wrong) -> Wrong {
     while bit < 64 {
         let wrong = with_bit_wrong(eight, bit);
         tried = count(tried, true);
-        taken = count(taken, pec::payload_right(&wrong));
+        taken = count(taken, check_words::payload_right(&wrong));
         bit += 1;
     }
     Wrong { tried, taken }
@@ -90,10 +90,10 @@ fn compared(p: Payloads, six: &[u8], counter: u8, seven: u8, eight: u8, next: us
         seen: count(p.seen, true),
         check_word: count(
             p.check_word,
-            pec::data_pec(six, counter) == u16_of(seven, eight) % 1024,
+            remainders::data_pec(six, counter) == u16_of(seven, eight) % 1024,
         ),
-        sealed: count(p.sealed, same(pec::seal(six, counter), seven, eight)),
-        taken: count(p.taken, pec::payload_right(&whole)),
+        sealed: count(p.sealed, same(remainders::seal(six, counter), seven, eight)),
+        taken: count(p.taken, check_words::payload_right(&whole)),
         wrong,
     }
 }

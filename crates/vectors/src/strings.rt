@@ -39,10 +39,16 @@ fn compared(s: Strings, string: &[u8], fifteen: u16, ten: u16, next: usize) -> S
         at: next,
         short: s.short,
         seen: count(s.seen, true),
-        fifteen_bitwise: count(s.fifteen_bitwise, pec::pec15_bitwise(string) == fifteen),
-        fifteen_by_table: count(s.fifteen_by_table, pec::pec15_by_table(string) == fifteen),
-        ten_bitwise: count(s.ten_bitwise, pec::pec10_bitwise(string) == ten),
-        ten_by_table: count(s.ten_by_table, pec::pec10_by_table(string) == ten),
+        fifteen_bitwise: count(
+            s.fifteen_bitwise,
+            remainders::pec15_bitwise(string) == fifteen,
+        ),
+        fifteen_by_table: count(
+            s.fifteen_by_table,
+            remainders::pec15_by_table(string) == fifteen,
+        ),
+        ten_bitwise: count(s.ten_bitwise, remainders::pec10_bitwise(string) == ten),
+        ten_by_table: count(s.ten_by_table, remainders::pec10_by_table(string) == ten),
     }
 }
 

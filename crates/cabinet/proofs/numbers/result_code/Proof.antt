@@ -1,7 +1,7 @@
 -- `cabinet::numbers::result_code` is safe: a number of 16 bits fits 32. Assumes nothing.
 use borrow.Author.Needs.{needs}
 use mir.Syntax.{w32}
-use Rattle.loads.proofs.TwosComplement.{widens}
+use Rattle.thresholds.proofs.TwosComplement.{widens}
 use Rattle.cabinet.proofs.numbers.result_code.Statement.{statement}
 use Rattle.cabinet.proofs.numbers.result_code.Tie as tie
 

@@ -5,7 +5,7 @@ use native.Mathlib.Omega.{arith}
 use mir.Syntax.{w16, w32}
 use mir.Val.{SFits}
 use mir.Facts.{toZ-ofZ}
-use Rattle.loads.proofs.TwosComplement.{taken-away}
+use Rattle.thresholds.proofs.TwosComplement.{taken-away}
 use Rattle.cabinet.proofs.numbers.signed.Statement.{statement}
 use Rattle.cabinet.proofs.numbers.signed.Tie as tie
 

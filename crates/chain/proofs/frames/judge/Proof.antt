@@ -4,8 +4,9 @@ use mathlib.Core.Path.{_≡_, sym, ap, _∙_, subst}
 use Prim.Native.Nat.{ℕ, _*_, _≤_, _<_}
 use native.Mathlib.Omega.{arith}
 use lib.ListN.{length}
-use Rattle.monitor.specs.Record.{recordSize}
-use Rattle.chain.proofs.Judging.{counts-whole, head-good, stop-head, stop-room, pass-room}
+use Rattle.records.specs.Record.{recordSize}
+use Rattle.judging.proofs.Judging.{counts-whole, head-good, within-most}
+use Rattle.chain.proofs.Room.{stop-head, stop-room, pass-room}
 use borrow.Author.Needs.{needs}
 use Rattle.chain.proofs.frames.judge.Statement.{statement}
 use Rattle.chain.proofs.frames.judge.Tie as tie
@@ -22,15 +23,8 @@ enum-known-refusal c = search needs
 enum-known-command : tie.Need-enum-known-command
 enum-known-command c = search needs
 
-reply-length-requires : tie.Need-reply-length-requires
-reply-length-requires c κs =
-    let a = c .before .before .before .before .before .before .before .args in
-    let t = a .table .now in
-    let f = a .frame .now in
-    let counted = c .before .before .before .before .sound-count .ensures in
-    let e = sym (c .before .before .before .judge-head .ensures) ∙ c .before .command .given .1 in
-    let head = head-good f (length f) (c .before .before .before .before .sound-count .result) e in
-    head .few
+reply-size-requires : tie.Need-reply-size-requires
+reply-size-requires c κs = search needs
 
 returns : tie.Need-returns
 returns c =
@@ -40,7 +34,8 @@ returns c =
     let counted = c .before .before .before .before .before .before .sound-count .ensures in
     let e = sym (c .before .before .before .before .before .judge-head .ensures) ∙ c .before .before .before .command .given .1 in
     let head = head-good f (length f) (c .before .before .before .before .before .before .sound-count .result) e in
-    (sym (stop-room t f (a .room) counted e (subst (λ (x : ℕ). a .room < x) (c .before .reply-length .ensures) (c .if1 .taken))), tt)
+    let size = within-most _ _ (head .few) (c .before .reply-size .ensures) in
+    (sym (stop-room t f (a .room) counted e (subst (λ (x : ℕ). a .room < x) size (c .if1 .taken))), tt)
 
 returns-2 : tie.Need-returns-2
 returns-2 c =
@@ -57,7 +52,8 @@ returns-3 c =
     let counted = c .before .before .before .before .before .before .sound-count .ensures in
     let e = sym (c .before .before .before .before .before .judge-head .ensures) ∙ c .before .before .before .command .given .1 in
     let head = head-good f (length f) (c .before .before .before .before .before .before .sound-count .result) e in
-    let enough = subst (λ (x : ℕ). x ≤ a .room) (c .before .reply-length .ensures) (c .if1 .left) in
+    let size = within-most _ _ (head .few) (c .before .reply-size .ensures) in
+    let enough = subst (λ (x : ℕ). x ≤ a .room) size (c .if1 .left) in
     let not-none : c .before .before .before .before .before .before .sound-count .result ≡ 0 → ⊥ = λ z. omega (arith, head .some, head .same, z) in (
       sym (pass-room t f (a .room) counted e enough),
       record {
@@ -77,7 +73,7 @@ judge-spec =
     judge-head-requires
     enum-known-refusal
     enum-known-command
-    reply-length-requires
+    reply-size-requires
     returns
     returns-2
     returns-3)

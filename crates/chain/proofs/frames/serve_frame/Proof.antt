@@ -1,15 +1,16 @@
--- `chain::frames::serve_frame` meets its contract: the payloads are what follows the first four bytes.
+-- `chain::frames::serve_frame` meets its contract: the table holds n whole records, and the payloads are what follows the first four bytes.
 -- Assumes nothing.
-use mathlib.Core.Path.{_≡_, ap, _∙_}
+use mathlib.Core.Path.{sym, ap, _∙_}
 use mathlib.Core.List.{List}
 use Prim.Native.Nat.{ℕ}
 use Rattle.laws.specs.Counts.{count}
 use Rattle.laws.specs.Rows.{rows, joined, along}
 use Rattle.wire.specs.Order.{writePayloads}
-use Rattle.monitor.specs.Record.{recordSize}
-use Rattle.monitor.specs.Commands.{payloadSize}
+use Rattle.records.specs.Record.{recordSize}
+use Rattle.records.specs.Commands.{payloadSize}
 use Rattle.monitor.specs.Effects.{takes, keeps}
-use Rattle.chain.specs.Frame.{payloadsIn, takenBy, kept}
+use Rattle.serving.specs.Served.{payloadsIn, takenBy, kept}
+use Rattle.judging.proofs.Whole.{whole-records, where-so}
 use borrow.Author.Needs.{needs}
 use Rattle.chain.proofs.frames.serve_frame.Statement.{statement}
 use Rattle.chain.proofs.frames.serve_frame.Tie as tie
@@ -28,9 +29,12 @@ unfolding takenBy kept payloadsIn
 returns c =
     let a = c .before .before .before .before .before .before .before .args in
     let served = c .before .before .serve .ensures in
-    let after = c .before .before .before .payloads-of .ensures in (
-      served .0 ∙ ap (λ (ps : List ℕ). count (takes (a .command)) (writePayloads payloadSize (a .n) ps)) after,
+    let after = c .before .before .before .payloads-of .ensures in
+    let pre = c .before .before .before .before .before .before .before .pre in
+    let so = whole-records (a .n) (a .table .now) (pre .1) (pre .0) in (
+      served .0 ∙ sym (where-so _ _ _ so) ∙ ap (λ (ps : List ℕ). count (takes (a .command)) (writePayloads payloadSize (a .n) ps)) after,
       served .1
+          ∙ sym (where-so _ _ _ so)
           ∙ ap (λ (ps : List ℕ). joined (along (λ r eight. keeps (a .command) eight r) (rows recordSize (a .n) (a .table .now)) (writePayloads payloadSize (a .n) ps))) after,
     )
 

@@ -3,7 +3,6 @@
 use mathlib.Core.Path.{sym, ap, ap₂}
 use mathlib.Core.Bool.{Bool, cond, _&&_}
 use Prim.Native.Nat.{_-_}
-use native.Mathlib.Omega.{arith}
 use lib.Dec.{ltb}
 use lib.ListN.{length, set}
 use borrow.Author.Tests.{lt-ltb, le-ltb, le-leb, lt-leb}

@@ -4,7 +4,7 @@ use mathlib.Core.Path.{sym, ap}
 use mathlib.Core.Bool.{Bool, _&&_}
 use lib.Dec.{leb}
 use borrow.Author.Tests.{le-leb, lt-leb}
-use Rattle.monitor.specs.Commands.{mostMonitors}
+use Rattle.records.specs.Commands.{mostMonitors}
 use Rattle.host.proofs.chain.is_chain.Statement.{statement}
 use Rattle.host.proofs.chain.is_chain.Tie as tie
 

@@ -4,8 +4,8 @@ use mathlib.Core.Path.{sym, ap, _∙_}
 use native.Mathlib.Omega.{arith}
 use Rattle.bytes.specs.Placed.{placed}
 use Rattle.bytes.proofs.Placed.{placed-none}
-use Rattle.monitor.specs.declared.commands.Command.{Command}
-use Rattle.monitor.specs.Commands.{frameLength}
+use Rattle.records.specs.declared.commands.Command.{Command}
+use Rattle.records.specs.Commands.{frameLength}
 use Rattle.host.specs.Frames.{headSize, body, valueCount}
 use borrow.Author.Needs.{needs}
 use Rattle.host.proofs.frames.put_body.Statement.{statement}

@@ -1,19 +1,14 @@
 -- `host::frames::put_head` meets its contract: the code's two bytes, and its check behind them.
 -- Assumes nothing.
-use mathlib.Core.Path.{refl, ap₂, _∙_}
-use mathlib.Core.List.{[], _∷_}
-use Prim.Native.Nat.{_/_, _%_}
+use mathlib.Core.Path.{refl, ap, ap₂, _∙_}
 use Rattle.bytes.proofs.Placed.{tried, laid-behind}
 use Rattle.pec.specs.Words.{twoBytes, commandCheck}
 use borrow.Author.Needs.{needs}
 use Rattle.host.proofs.frames.put_head.Statement.{statement}
 use Rattle.host.proofs.frames.put_head.Tie as tie
 
-cast-t6 : tie.Need-cast-t6
-cast-t6 c = search needs
-
-cast-t8 : tie.Need-cast-t8
-cast-t8 c = search needs
+two-bytes-requires : tie.Need-two-bytes-requires
+two-bytes-requires c κs = search needs
 
 slice-aggregate-put : tie.Need-slice-aggregate-put
 slice-aggregate-put c = search needs
@@ -37,18 +32,19 @@ returns : tie.Need-returns
 unfolding twoBytes commandCheck
 returns c =
     let first = c .before .before .before .before .before .before .before .before in
-    let start = first .before .before .before .before in
-    let q = start .args in
+    let start = first .before .before .before .before .before in
+    let code = start .args .code in
+    let buffer = start .args .buffer .now in
     c .before .before .put2 .ensures
-    ∙ ap₂ (tried 2) (c .before .before .before .before .before .command-check .ensures) (first .put .ensures)
-    ∙ laid-behind 0 2 (q .code / 256 ∷ q .code % 256 ∷ []) (commandCheck (q .code)) (q .buffer .now) refl (start .pre)
+    ∙ ap₂ (tried 2) (c .before .before .before .before .before .command-check .ensures)
+    (first .put .ensures ∙ ap (λ l. tried 0 l buffer) (first .before .before .before .two-bytes .ensures))
+    ∙ laid-behind 0 2 (twoBytes code) (commandCheck code) buffer refl (start .pre)
 
 pub put-head-spec : {M : Type 1} → statement M
 put-head-spec =
     tie.close
     (tie.spec
-    cast-t6
-    cast-t8
+    two-bytes-requires
     slice-aggregate-put
     put-requires
     command-check-requires

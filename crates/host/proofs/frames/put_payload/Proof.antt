@@ -1,50 +1,60 @@
--- `host::frames::put_payload` meets its contract: the six bytes are a table of their own, and go sealed into the buffer.
+-- `host::frames::put_payload` meets its contract: the six bytes of the monitor whose place it is go sealed into the buffer.
 -- Assumes nothing.
-use mathlib.Core.Path.{_≡_, refl, ap, _∙_}
+use mathlib.Core.Path.{_≡_, ap, _∙_}
 use mathlib.Core.List.{List, _++_}
-use Prim.Native.Nat.{ℕ, _+_, _≤_}
+use Prim.Native.Nat.{ℕ, _+_, _-_, _*_, _≤_}
 use native.Mathlib.Omega.{arith}
-use lib.ListN.{length, length-append, getD}
-use Rattle.laws.specs.Tables.{tabulate}
-use Rattle.laws.proofs.Tables.{rebuilt}
-use Rattle.bytes.specs.Placed.{placed}
+use lib.ListN.{length, take, drop}
+use Rattle.laws.specs.Rows.{rowAt}
+use Rattle.laws.proofs.Rows.{length-row-at}
 use Rattle.bytes.proofs.Placed.{tried, laid}
-use Rattle.pec.specs.Words.{twoBytes, seal}
-use Rattle.host.specs.Frames.{sealed}
+use Rattle.pec.specs.Words.{seal}
+use Rattle.records.specs.Commands.{payloadSize}
+use Rattle.host.specs.Frames.{headSize, dataSize, sealed}
+use Rattle.host.proofs.Payloads.{length-sealed}
 use borrow.Author.Needs.{needs}
 use Rattle.host.proofs.frames.put_payload.Statement.{statement}
 use Rattle.host.proofs.frames.put_payload.Tie as tie
 
-module _ (six : List ℕ) (e : length six ≡ 6) where
-  -- the six bytes one by one
-  same : tabulate (λ i. getD six i 0) 0 6 ++ seal (tabulate (λ i. getD six i 0) 0 6) 0 ≡ sealed six
-  unfolding sealed
-  same = ap (λ (l : List ℕ). l ++ seal l 0) (rebuilt six 6 e)
+-- what is lent are the six bytes of a monitor
+six-bytes : (m : ℕ) (values : List ℕ) → take (m * 6 + 6 - m * 6) (drop (m * 6) values) ≡ rowAt dataSize m values
+unfolding rowAt
+six-bytes m values =
+    let six : m * 6 + 6 - m * 6 ≡ 6 = omega arith in
+    ap (λ (size : ℕ). take size (drop (m * 6) values)) six
 
-  eight : length (sealed six) ≡ 8
-  unfolding sealed seal twoBytes
-  eight = length-append six (seal six 0) ∙ omega arith
+add-from : tie.Need-add-from
+add-from c = omega arith
 
-shared-slice-read-t7 : tie.Need-shared-slice-read-t7
-shared-slice-read-t7 c = search needs
+sub-from : tie.Need-sub-from
+sub-from c = omega arith
 
-shared-slice-read-t9 : tie.Need-shared-slice-read-t9
-shared-slice-read-t9 c = search needs
+mul-from : tie.Need-mul-from
+mul-from c = omega arith
 
-shared-slice-read-t11 : tie.Need-shared-slice-read-t11
-shared-slice-read-t11 c = search needs
+add-to : tie.Need-add-to
+add-to c = omega arith
 
-shared-slice-read-t13 : tie.Need-shared-slice-read-t13
-shared-slice-read-t13 c = search needs
+sub-six-of : tie.Need-sub-six-of
+sub-six-of c = omega arith
 
-shared-slice-read-t15 : tie.Need-shared-slice-read-t15
-shared-slice-read-t15 c = search needs
+part-six-of-start : tie.Need-part-six-of-start
+part-six-of-start c = omega arith
 
-shared-slice-read-t17 : tie.Need-shared-slice-read-t17
-shared-slice-read-t17 c = search needs
+part-six-of-end : tie.Need-part-six-of-end
+part-six-of-end c = omega arith
+
+six-of-requires : tie.Need-six-of-requires
+six-of-requires c κs = search needs
 
 sealed-requires : tie.Need-sealed-requires
 sealed-requires c κs = search needs
+
+mul-put : tie.Need-mul-put
+mul-put c = omega arith
+
+add-put : tie.Need-add-put
+add-put c = omega arith
 
 slice-aggregate-put : tie.Need-slice-aggregate-put
 slice-aggregate-put c = search needs
@@ -56,28 +66,38 @@ same-length : tie.Need-same-length
 same-length c = search needs
 
 returns : tie.Need-returns
-unfolding tabulate
+unfolding sealed
 returns c =
-    let s = c .before .before .before .before .before .before .before .before .before .before .before .before .before .before .before in
-    let six = s .args .six .now in
-    let at = s .args .at in
-    let buffer = s .args .buffer .now in
-    let fits : at + length (sealed six) ≤ length buffer = omega (arith, s .pre .0, eight six (s .pre .1)) in
+    let call = c .before .before .before .before .before in
+    let start = call .before .before .before .before .before .before in
+    let q = start .args in
+    let values = q .values .now in
+    let buffer = q .buffer .now in
+    let at = headSize + q .i * payloadSize in
+    let monitor = q .n - (q .i + 1) in
+    let row = rowAt dataSize monitor values in
+    let whole : length row ≡ dataSize = length-row-at dataSize (q .n) values monitor (omega (arith, start .pre .0)) (omega (arith, start .pre .2)) in
+    let fits : at + length (sealed row) ≤ length buffer = omega (arith, start .pre .0, start .pre .3, length-sealed row whole) in
     c .before .before .put .ensures
-    ∙ ap (λ (l : List ℕ). tried at l buffer) (c .before .before .before .before .before .sealed .ensures ∙ same six (s .pre .1))
-    ∙ laid at (sealed six) buffer fits
+    ∙ ap (λ (l : List ℕ). tried at l buffer)
+    (call .sealed .ensures ∙ ap (λ (l : List ℕ). l ++ seal l 0) (call .before .before .six-of .ensures ∙ six-bytes monitor values))
+    ∙ laid at (sealed row) buffer fits
 
 pub put-payload-spec : {M : Type 1} → statement M
 put-payload-spec =
     tie.close
     (tie.spec
-    shared-slice-read-t7
-    shared-slice-read-t9
-    shared-slice-read-t11
-    shared-slice-read-t13
-    shared-slice-read-t15
-    shared-slice-read-t17
+    add-from
+    sub-from
+    mul-from
+    add-to
+    sub-six-of
+    part-six-of-start
+    part-six-of-end
+    six-of-requires
     sealed-requires
+    mul-put
+    add-put
     slice-aggregate-put
     put-requires
     same-length

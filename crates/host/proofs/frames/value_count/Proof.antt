@@ -1,7 +1,7 @@
 -- `host::frames::value_count` meets its contract, kind by kind.
 -- Assumes nothing.
 use mathlib.Core.Path.{sym, ap}
-use Rattle.monitor.specs.declared.commands.Command.{Command}
+use Rattle.records.specs.declared.commands.Command.{Command}
 use Rattle.host.specs.Frames.{valueCount}
 use borrow.Author.Needs.{needs}
 use Rattle.host.proofs.frames.value_count.Statement.{statement}

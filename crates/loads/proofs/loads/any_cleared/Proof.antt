@@ -9,7 +9,7 @@ use lib.ListN.{length, getD}
 use mir.Syntax.{w16}
 use mir.Val.{SFits}
 use Rattle.laws.specs.Counts.{all}
-use Rattle.loads.proofs.Codes.{cleared, not-cleared, none-cleared, one-more, one-cleared, each-looked-at}
+use Rattle.cells.proofs.Codes.{cleared, not-cleared, none-cleared, one-more, one-cleared, each-looked-at}
 use Rattle.loads.proofs.loads.any_cleared.Statement.{statement}
 use Rattle.loads.proofs.loads.any_cleared.Tie as tie
 

@@ -4,10 +4,10 @@ use mathlib.Core.Path.{_≡_, sym, _∙_, subst, subst⁻¹}
 use mathlib.Core.Bool.{true}
 use Prim.Native.Nat.{ℕ, _*_, _≤_, _<_}
 use native.Mathlib.Nat.{le-trans, mul-le-mul-right}
-use Rattle.monitor.specs.Record.{recordSize}
-use Rattle.chain.specs.Table.{monitors, sound}
-use Rattle.chain.proofs.Soundness.{is-sound}
-use Rattle.chain.proofs.Judging.{not-none, none, count-is}
+use Rattle.records.specs.Record.{recordSize}
+use Rattle.judging.specs.Table.{monitors, sound}
+use Rattle.judging.proofs.Soundness.{is-sound}
+use Rattle.judging.proofs.Judging.{not-none, none, count-is}
 use Rattle.loads.specs.Load.{loaded}
 use Rattle.loads.proofs.LoadJudging.{from, stop-1, pass-1, stop-2-low, stop-2-high, pass-2, stop-3, pass-3, stop-4, pass-4}
 use borrow.Author.Needs.{needs}

@@ -1,11 +1,8 @@
 -- `monitor::effects::act` meets its contract, kind by kind.
 -- Assumes nothing.
-use mathlib.Core.Path.{_≡_, sym, ap, _∙_}
-use mathlib.Core.Bool.{Bool}
-use mathlib.Core.List.{List}
-use Prim.Native.Nat.{ℕ}
-use Rattle.monitor.specs.declared.commands.Command.{Command}
-use Rattle.monitor.specs.Effects.{locked, counted, done, takes, keeps}
+use mathlib.Core.Path.{sym, ap, _∙_}
+use Rattle.records.specs.declared.commands.Command.{Command}
+use Rattle.monitor.specs.Effects.{takes, keeps}
 use Rattle.monitor.proofs.Keeping.{acted, not-acted}
 use borrow.Author.Needs.{needs}
 use Rattle.monitor.proofs.effects.act.Statement.{statement}
@@ -29,12 +26,6 @@ act-write-requires c κs = search needs
 
 enum-known-command-2 : tie.Need-enum-known-command-2
 enum-known-command-2 c = search needs
-
-lock-requires-2 : tie.Need-lock-requires-2
-lock-requires-2 c κs = search needs
-
-count-requires : tie.Need-count-requires
-count-requires c κs = search needs
 
 act-bare-requires : tie.Need-act-bare-requires
 act-bare-requires c κs = search needs
@@ -70,10 +61,10 @@ same-length-3 c = search needs
 returns-4 : tie.Need-returns-4
 unfolding keeps
 returns-4 c =
-    let a = c .before .before .before .before .before .before .before .before .before .before .before .before .before .before .before .before .before .before .args in
-    let e = sym (c .before .before .before .before .before .before .before .before .before .before .before .before .before .command2 .given .1) in
-    acted (a .command) (a .eight .now) (a .rec .now) (c .before .before .before .before .before .before .before .before .before .before .before .before .before .before .before .if1 .left) (ap (λ (k : Command). takes k (a .eight .now)) e)
-    (c .before .before .act-bare .ensures ∙ ap (done _) (c .before .before .before .before .before .before .count .ensures ∙ ap counted (c .before .before .before .before .before .before .before .before .before .before .lock2 .ensures)) ∙ ap (λ (k : Command). keeps k (a .eight .now) (a .rec .now)) e)
+    let a = c .before .before .before .before .before .before .before .before .before .before .args in
+    let e = sym (c .before .before .before .before .before .command2 .given .1) in
+    acted (a .command) (a .eight .now) (a .rec .now) (c .before .before .before .before .before .before .before .if1 .left) (ap (λ (k : Command). takes k (a .eight .now)) e)
+    (c .before .before .act-bare .ensures ∙ ap (λ (k : Command). keeps k (a .eight .now) (a .rec .now)) e)
 
 returns-5 : tie.Need-returns-5
 unfolding keeps
@@ -92,8 +83,6 @@ act-spec =
     enum-known-command
     act-write-requires
     enum-known-command-2
-    lock-requires-2
-    count-requires
     act-bare-requires
     enum-told-2
     same-length

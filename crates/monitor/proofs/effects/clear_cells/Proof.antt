@@ -6,9 +6,9 @@ use mathlib.Core.Logic.{⊎-elim}
 use Prim.Native.Nat.{ℕ, _-_, _%_}
 use native.Mathlib.Omega.{arith}
 use borrow.Author.Tests.{eq-eqb, ne-eqb}
-use Rattle.monitor.specs.Record.{cells, onBytes}
+use Rattle.records.specs.Record.{cells, onBytes}
 use Rattle.monitor.specs.Effects.{clearedByte, done}
-use Rattle.monitor.proofs.Making.{Making, making-start, making-more, making-end}
+use Rattle.records.proofs.Making.{Making, making-start, making-more, making-end}
 use Rattle.monitor.proofs.effects.clear_cells.Statement.{statement}
 use Rattle.monitor.proofs.effects.clear_cells.Tie as tie
 

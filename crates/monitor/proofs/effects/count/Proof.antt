@@ -1,13 +1,15 @@
--- `monitor::effects::count` meets its contract: one store.
+-- `monitor::effects::count` meets its contract: locked, and one store.
 -- Assumes nothing.
-use mathlib.Core.Path.{ap}
-use Prim.Native.Nat.{ℕ}
+use mathlib.Core.Path.{ap, _∙_}
 use lib.ListN.{set}
-use Rattle.monitor.specs.Record.{counter, anew, onBytes}
+use Rattle.records.specs.Record.{counter, anew, onBytes}
 use Rattle.monitor.specs.Effects.{counted}
 use borrow.Author.Needs.{needs}
 use Rattle.monitor.proofs.effects.count.Statement.{statement}
 use Rattle.monitor.proofs.effects.count.Tie as tie
+
+lock-requires : tie.Need-lock-requires
+lock-requires c κs = search needs
 
 slice-read-next-count : tie.Need-slice-read-next-count
 slice-read-next-count c = search needs
@@ -23,9 +25,15 @@ same-length c = search needs
 
 returns : tie.Need-returns
 unfolding counted onBytes anew
-returns c = ap (λ (n : ℕ). set (c .before .before .before .args .rec .now) (counter .at) n) (c .next-count .ensures)
+returns c = ap (set (c .before .before .before .before .lock .last .0) (counter .at)) (c .next-count .ensures) ∙ ap counted (c .before .before .before .before .lock .ensures)
 
 pub count-spec : {M : Type 1} → statement M
 count-spec =
     tie.close
-    (tie.spec slice-read-next-count next-count-requires slice-write-rec same-length returns)
+    (tie.spec
+    lock-requires
+    slice-read-next-count
+    next-count-requires
+    slice-write-rec
+    same-length
+    returns)

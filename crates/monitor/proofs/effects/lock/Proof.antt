@@ -1,7 +1,7 @@
 -- `monitor::effects::lock` meets its contract: one store.
 -- Assumes nothing.
 use mathlib.Core.Path.{refl}
-use Rattle.monitor.specs.Record.{anew, onBytes}
+use Rattle.records.specs.Record.{anew, onBytes}
 use Rattle.monitor.specs.Effects.{locked}
 use borrow.Author.Needs.{needs}
 use Rattle.monitor.proofs.effects.lock.Statement.{statement}

@@ -3,7 +3,7 @@
 use mathlib.Core.Path.{sym, ap, _∙_, subst}
 use native.Mathlib.Omega.{arith}
 use lib.ListN.{length}
-use Rattle.clocked.specs.declared.looks.Looked.{Looked}
+use Rattle.releasing.specs.declared.looks.Looked.{Looked}
 use Rattle.oskorbine.specs.Packed.{packed, lookedParts, Fit}
 use Rattle.oskorbine.proofs.Fits.{look-fits}
 use borrow.Author.Needs.{needs}

@@ -1,7 +1,7 @@
 -- `oskorbine::hosts::osk_check` meets its contract, answer by answer.
 -- Assumes nothing.
 use mathlib.Core.Path.{sym, ap, _∙_}
-use Rattle.host.specs.declared.frames.Checked.{Checked}
+use Rattle.ports.specs.declared.checks.Checked.{Checked}
 use Rattle.oskorbine.specs.Packed.{packed, checkedParts}
 use borrow.Author.Needs.{needs}
 use Rattle.oskorbine.proofs.hosts.osk_check.Statement.{statement}

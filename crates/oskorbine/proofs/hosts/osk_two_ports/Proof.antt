@@ -3,9 +3,9 @@
 -- Assumes nothing.
 use mathlib.Core.Path.{sym, ap, _∙_}
 use native.Mathlib.Omega.{arith}
-use Rattle.host.specs.declared.ports.Port.{Port}
-use Rattle.host.specs.Ports.{placeA, placeB}
-use Rattle.host.proofs.TwoPorts.{Asked, only-a, only-b}
+use Rattle.ports.specs.declared.ports.Port.{Port}
+use Rattle.ports.specs.Ports.{placeA, placeB}
+use Rattle.ports.proofs.TwoPorts.{Asked, only-a, only-b}
 use Rattle.oskorbine.specs.Packed.{packed, portParts}
 use borrow.Author.Needs.{needs}
 use Rattle.oskorbine.proofs.hosts.osk_two_ports.Statement.{statement}

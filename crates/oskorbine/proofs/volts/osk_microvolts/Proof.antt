@@ -7,7 +7,7 @@ use lib.IntN.{ℤ}
 use mir.Syntax.{w16, w32, w64}
 use mir.Val.{SFits, toZ, ofZ}
 use mir.Facts.{toZ-ofZ}
-use Rattle.loads.proofs.TwosComplement.{widens, widened}
+use Rattle.thresholds.proofs.TwosComplement.{widens, widened}
 use Rattle.readings.specs.Readings.{microvolts}
 use Rattle.readings.proofs.Magnitudes.{fits-by-size}
 use Rattle.readings.proofs.Sizes.{code-size}

@@ -6,7 +6,7 @@ use lib.Ieee.{ofBits, div}
 use lib.IntN.{ℤ}
 use mir.Syntax.{w16, w32}
 use mir.Val.{SFits}
-use Rattle.loads.proofs.TwosComplement.{widens, widened}
+use Rattle.thresholds.proofs.TwosComplement.{widens, widened}
 use Rattle.readings.specs.Readings.{readingOf}
 use Rattle.oskorbine.specs.Volts.{voltsOrNan}
 use borrow.Author.Needs.{needs}

@@ -6,13 +6,13 @@ use Prim.Native.Nat.{ℕ, _*_, _/_, _%_, _^_, _<_}
 use native.Mathlib.Omega.{arith}
 use lib.Bits.{bitXor}
 use borrow.Author.Needs.{needs}
-use Rattle.laws.specs.Bits.{_⊕_, odd, bitsOf}
+use Rattle.laws.specs.Bits.{_⊕_, odd}
 use Rattle.laws.specs.Tables.{tabulate}
 use Rattle.laws.proofs.Xor.{xor-below}
-use Rattle.pec.specs.Remainder.{once, step, remainder}
+use Rattle.pec.specs.Remainder.{once, step}
 use Rattle.pec.specs.ByShifts.{withMoved, timesOne}
 use Rattle.pec.specs.Words.{polynomial10}
-use Rattle.pec.proofs.ByShifts.{Linear, then-linear, same, sum, down, up, low, times-linear, formula, rule, by-shifts}
+use Rattle.pec.proofs.ByShifts.{Linear, then-linear, same, sum, down, up, low, times-linear, powers, formula, rule, by-shifts}
 use Rattle.pec.proofs.by_shifts.remainder_10.Statement.{statement}
 use Rattle.pec.proofs.by_shifts.remainder_10.Tie as tie
 
@@ -34,7 +34,7 @@ left-linear =
     (then-linear (then-linear (then-linear (sum same (down 48)) (low 10)) (sum (then-linear (sum same (up 1)) (sum same (up 2))) (up 7))) (low 10))
 
 tested : formula 10 polynomial10 64 left ≡ rule 10 polynomial10 64 left
-unfolding formula rule left tail lower timesOne withMoved tabulate remainder step once bitsOf odd _⊕_ xor
+unfolding formula rule left tail lower timesOne withMoved tabulate powers step once odd _⊕_ xor
 tested = refl
 
 -- q and twice q

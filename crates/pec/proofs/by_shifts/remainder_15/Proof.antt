@@ -5,11 +5,11 @@ use mathlib.Core.Bool.{xor}
 use mathlib.Core.List.{List, [], _∷_}
 use Prim.Native.Nat.{ℕ, _*_, _/_, _%_, _^_}
 use borrow.Author.Needs.{needs}
-use Rattle.laws.specs.Bits.{_⊕_, odd, bitsOf}
+use Rattle.laws.specs.Bits.{_⊕_, odd}
 use Rattle.laws.specs.Tables.{tabulate}
-use Rattle.pec.specs.Remainder.{once, step, remainder}
+use Rattle.pec.specs.Remainder.{once, step}
 use Rattle.pec.specs.Words.{polynomial15}
-use Rattle.pec.proofs.ByShifts.{Linear, then-linear, down, up, low, sums, moved-sum, formula, rule, by-shifts}
+use Rattle.pec.proofs.ByShifts.{Linear, then-linear, down, up, low, sums, moved-sum, powers, formula, rule, by-shifts}
 use Rattle.pec.proofs.by_shifts.remainder_15.Statement.{statement}
 use Rattle.pec.proofs.by_shifts.remainder_15.Tie as tie
 
@@ -57,7 +57,7 @@ left-linear =
     (then-linear (then-linear (low 15) (moved-sum _ up (3 ∷ 4 ∷ 7 ∷ 8 ∷ 10 ∷ 14 ∷ []))) (low 15))
 
 tested : formula 15 polynomial15 16 left ≡ rule 15 polynomial15 16 left
-unfolding formula rule left quotient downs ups sums tabulate remainder step once bitsOf odd _⊕_ xor
+unfolding formula rule left quotient downs ups sums tabulate powers step once odd _⊕_ xor
 tested = refl
 
 returns : tie.Need-returns

@@ -5,7 +5,7 @@ use lib.IntN.{ℤ, pos, _+ℤ_, _*ℤ_}
 use mir.Syntax.{w32, w64}
 use mir.Val.{SFits, toZ, ofZ}
 use mir.Facts.{toZ-ofZ}
-use Rattle.loads.proofs.TwosComplement.{widens, widened}
+use Rattle.thresholds.proofs.TwosComplement.{widens, widened}
 use Rattle.readings.specs.Readings.{microvolts}
 use Rattle.readings.proofs.Codes.{steps-fit, microvolts-fit}
 use Rattle.readings.proofs.cell.microvolts_of.Statement.{statement}

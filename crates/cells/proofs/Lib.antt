@@ -1,0 +1,5 @@
+pub mod CodeBits
+pub mod Flags
+pub mod Loaded
+pub mod Examples
+pub mod Codes

@@ -1,0 +1,6 @@
+// Sixteen codes stored in one record, and compared with its thresholds.
+mod cells;
+
+pub use cells::compare;
+pub use cells::load_one;
+pub use cells::store;

@@ -1,0 +1,10 @@
+// The check words of document 01 as they are sent: of a command and of a payload, and is it right.
+mod words;
+
+pub use words::command_check;
+pub use words::command_right;
+pub use words::number_in;
+pub use words::number_right;
+pub use words::payload_right;
+pub use words::sealed;
+pub use words::two_bytes;

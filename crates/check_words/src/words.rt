@@ -1,0 +1,135 @@
+// What is sent of the two check words of document 01, and is it right: a command's check, a payload's seal.
+ghost use mathlib.Core.Path.{_≡_};
+ghost use mathlib.Core.List.{_++_};
+ghost use Prim.Native.Nat.{_+_, _*_, _^_, _≤_, _<_};
+ghost use lib.ListN.{length};
+ghost use Rattle.laws.specs.Bits.{bitsOf, numberOf};
+ghost use Rattle.pec.specs.Remainder.{remainder};
+ghost use Rattle.pec.specs.Words.{
+  twoBytes,
+  commandCheck,
+  commandRight,
+  polynomial10,
+  seal,
+  payloadRight,
+  numberIn,
+  numberRight,
+};
+use pec::nothing_left;
+use pec::of_command;
+use pec::remainder_10;
+
+// A 16-bit number as it is sent, the high byte first.
+pub fn two_bytes(n: u16) -> [u8; 2]
+    ensures { λ r. ⌜ r ≡ twoBytes n ⌝ }
+{
+    [(n / 256) as u8, (n % 256) as u8]
+}
+
+// A byte string as one number, the first byte highest.
+fn number_of(bytes: &[u8]) -> u64
+    requires { ⌜ length (now bytes) ≤ 8 ⌝ }
+    ensures { λ r. ⌜ r ≡ numberOf (now (bytes .entry)) ⌝ }
+    ensures { λ r. ⌜ r < 2 ^ (8 * length (now (bytes .entry))) ⌝ }
+{
+    let mut n: u64 = 0;
+    let mut i = 0;
+    while i < bytes.len() {
+        n = n * 256 + (bytes[i] as u64);
+        i += 1;
+    }
+    n
+}
+
+// The same in two parts, the first four bytes long, for eight bytes or six: such loads the compiler can join.
+fn number_by_parts(bytes: &[u8], rest: u64) -> u64
+    requires { ⌜ (length (now bytes) ≡ 4 + rest) × (rest ≤ 4) ⌝ }
+    ensures { λ r. ⌜ r ≡ numberOf (now (bytes .entry)) ⌝ }
+    ensures { λ r. ⌜ r < 2 ^ (8 * (4 + rest)) ⌝ }
+{
+    (number_of(&bytes[..4]) << (8 * rest)) + number_of(&bytes[4..])
+}
+
+// The two bytes sent after a command code.
+pub fn command_check(code: u16) -> [u8; 2]
+    ensures { λ r. ⌜ r ≡ commandCheck code ⌝ }
+{
+    let check = of_command(code);
+    two_bytes(check * 2)
+}
+
+// Are four bytes a command and its check?
+pub fn command_right(four: &[u8]) -> bool
+    ensures { λ r. ⌜ r ≡ commandRight (now (four .entry)) ⌝ }
+{
+    if four.len() != 4 {
+        return false;
+    }
+    let sent = number_of(four);
+    let check = of_command((sent / 65536) as u16);
+    sent % 65536 == (check as u64) * 2
+}
+
+// What the start value leaves of 54 zero bits. The remainder is linear: from the start value it is that from 0, and this added.
+const OF_54_ZEROS: u16 = 0x3e3;
+
+// The 10-bit remainder of a payload's message: 54 bits, those of six bytes and the six of a counter.
+fn of_message(message: u64) -> u16
+    requires { ⌜ message < 2 ^ 54 ⌝ }
+    ensures { λ r. ⌜ r ≡ remainder 10 polynomial10 16 (bitsOf 54 message) ⌝ }
+{
+    remainder_10(message) ^ OF_54_ZEROS
+}
+
+// The two bytes that seal six.
+fn seal_six(six: &[u8], counter: u8) -> [u8; 2]
+    requires { ⌜ length (now six) ≡ 6 ⌝ }
+    ensures { λ r. ⌜ r ≡ seal (now (six .entry)) counter ⌝ }
+{
+    let six_bits = counter % 64;
+    let check = of_message(number_by_parts(six, 2) * 64 + (six_bits as u64));
+    two_bytes((six_bits as u16) * 1024 + check)
+}
+
+// A payload: six bytes, and the two that seal them.
+pub fn sealed(six: &[u8; 6], counter: u8) -> [u8; 8]
+    ensures { λ r. ⌜ r ≡ now (six .entry) ++ seal (now (six .entry)) counter ⌝ }
+{
+    let end = seal_six(six, counter);
+    [
+        six[0],
+        six[1],
+        six[2],
+        six[3],
+        six[4],
+        six[5],
+        end[0],
+        end[1],
+    ]
+}
+
+// Eight bytes as one number, and 0 for another length. This and the next are the two halves of `payload_right`, each small enough for
+// the compiler to keep it in a caller's loop.
+pub fn number_in(eight: &[u8]) -> u64
+    ensures { λ r. ⌜ r ≡ numberIn (now (eight .entry)) ⌝ }
+    ensures { λ r. ⌜ numberRight r ≡ payloadRight (now (eight .entry)) ⌝ }
+{
+    if eight.len() != 8 {
+        return 0;
+    }
+    number_by_parts(eight, 4)
+}
+
+// Is a payload right that is one number?
+pub fn number_right(payload: u64) -> bool
+    ensures { λ r. ⌜ r ≡ numberRight payload ⌝ }
+{
+    nothing_left(payload)
+}
+
+// Are eight bytes a payload and its check, over the six counter bits as they stand?
+pub fn payload_right(eight: &[u8]) -> bool
+    ensures { λ r. ⌜ r ≡ payloadRight (now (eight .entry)) ⌝ }
+{
+    number_right(number_in(eight))
+}

@@ -1,0 +1,25 @@
+-- Document 01, "The table": records of monitors end to end, nearest monitor first.
+-- Assumes nothing.
+use mathlib.Core.Bool.{Bool, _&&_}
+use mathlib.Core.List.{List}
+use Prim.Native.Nat.{ℕ, _*_, _/_}
+use lib.Dec.{eqb, leb}
+use lib.ListN.{length}
+use Rattle.laws.specs.Counts.{all}
+use Rattle.laws.specs.Rows.{rows}
+use Rattle.records.specs.Record.{recordSize, recordSound}
+use Rattle.records.specs.Commands.{mostMonitors}
+
+-- how many records a table holds
+unfoldable pub monitors : List ℕ → ℕ
+monitors table = length table / recordSize
+
+-- n whole records, and no more than a chain has
+unfoldable pub wholeTable : ℕ → List ℕ → Bool
+wholeTable n table = leb n mostMonitors && eqb (length table) (n * recordSize)
+
+-- whole records, 1 to 32 of them, each of them sound
+unfoldable pub sound : List ℕ → Bool
+sound table =
+    eqb (length table) (monitors table * recordSize) && leb 1 (monitors table) && leb (monitors table) mostMonitors
+    && all recordSound (rows recordSize (monitors table) table)

@@ -1,0 +1,4 @@
+pub mod Tests
+pub mod TwoPorts
+pub mod BothEnds
+pub mod Handed

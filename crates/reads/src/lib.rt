@@ -1,0 +1,4 @@
+// What one monitor replies to a read.
+mod replies;
+
+pub use replies::reply_of;

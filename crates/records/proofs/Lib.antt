@@ -1,0 +1,5 @@
+pub mod Anew
+pub mod Making
+pub mod Answers
+pub mod CommandList
+pub mod Parts

@@ -1,0 +1,49 @@
+-- What a part of a record holds: its byte i is the record's at the part's beginning and i. Bytes made anew beside a part leave
+-- what it holds, and before the counter they leave a record as sound as it was.
+-- Assumes nothing.
+use mathlib.Core.Path.{_≡_, refl, sym, ap, ap₂, _∙_}
+use mathlib.Core.Bool.{_&&_}
+use mathlib.Core.List.{List}
+use Prim.Native.Nat.{ℕ, zero, suc, _+_, _-_, _≤_, _<_}
+use native.Mathlib.Omega.{arith}
+use lib.Dec.{leb}
+use lib.ListN.{take, drop, getD, set}
+use lib.Seq.{getD-take, getD-drop, take-set-le, drop-set-lt, drop-set-add}
+use Rattle.records.specs.declared.record.Part.{Part}
+use Rattle.records.specs.Record.{counter, unlocked, bytesOf, byteOf, anew, recordSound}
+use Rattle.records.proofs.Anew.{anew-above}
+
+pub byte-of-part : (p : Part) (r : List ℕ) {i : ℕ} → i < p .size → getD (bytesOf p r) i 0 ≡ getD r (p .at + i) 0
+unfolding bytesOf
+byte-of-part p r {i} h = getD-take (p .size) (drop (p .at) r) i 0 h ∙ getD-drop (p .at) r i 0
+
+-- ---- bytes made anew beside a part
+
+before-set : (p : Part) (r : List ℕ) (i v : ℕ) → p .at + p .size ≤ i → bytesOf p (set r i v) ≡ bytesOf p r
+unfolding bytesOf
+before-set p r i v h =
+    let place : p .at + (i - p .at) ≡ i = omega arith in
+    ap (λ (k : ℕ). take (p .size) (drop (p .at) (set r k v))) (sym place)
+    ∙ ap (take (p .size)) (drop-set-add (p .at) r (i - p .at) v)
+    ∙ take-set-le (p .size) (drop (p .at) r) (i - p .at) v (omega arith)
+
+after-set : (p : Part) (r : List ℕ) (i v : ℕ) → i < p .at → bytesOf p (set r i v) ≡ bytesOf p r
+unfolding bytesOf
+after-set p r i v h = ap (take (p .size)) (drop-set-lt (p .at) r i v h)
+
+module _ (p : Part) (f : ℕ → ℕ → ℕ) (at : ℕ) where
+  pub before-anew : (n : ℕ) (r : List ℕ) → p .at + p .size ≤ at → bytesOf p (anew f at n r) ≡ bytesOf p r
+  unfolding anew
+  before-anew zero r h = refl
+  before-anew (suc n) r h = before-set p (anew f at n r) (at + n) (f n (getD r (at + n) 0)) (omega arith) ∙ before-anew n r h
+
+  pub after-anew : (n : ℕ) (r : List ℕ) → at + n ≤ p .at → bytesOf p (anew f at n r) ≡ bytesOf p r
+  unfolding anew
+  after-anew zero r h = refl
+  after-anew (suc n) r h = after-set p (anew f at n r) (at + n) (f n (getD r (at + n) 0)) (omega arith) ∙ after-anew n r (omega arith)
+
+-- a change of bytes before the counter leaves a record as sound as it was
+pub sound-elsewhere : (f : ℕ → ℕ → ℕ) (at n : ℕ) (r : List ℕ) → at + n ≤ counter .at → recordSound (anew f at n r) ≡ recordSound r
+unfolding recordSound byteOf
+sound-elsewhere f at n r h =
+    ap₂ (λ (x y : ℕ). leb x 63 && leb y 1) (anew-above f at n r {j = counter .at} h) (anew-above f at n r {j = unlocked .at} (omega arith))

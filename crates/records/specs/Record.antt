@@ -1,0 +1,92 @@
+-- Document 01, "The table": one monitor's record, its parts by name. Sizes and offsets stand here and nowhere else.
+-- Assumes nothing.
+use mathlib.Core.Bool.{Bool, _&&_}
+use mathlib.Core.List.{List}
+use Prim.Native.Nat.{ℕ, zero, suc, _+_, _*_}
+use lib.Dec.{eqb, leb}
+use lib.ListN.{length, take, drop, getD, set}
+use Rattle.records.specs.declared.record.Part.{Part}
+
+-- a part is the code's struct: where it begins, and how many bytes it has
+abbrev part : ℕ → ℕ → Part
+part a n = record { at = a; size = n }
+
+abbrev pub configurationA : Part
+configurationA = part 0 6
+
+abbrev pub configurationB : Part
+configurationB = part 6 6
+
+-- the cells of a monitor
+abbrev pub cellCount : ℕ
+cellCount = 16
+
+-- cells 1 to 16, two bytes each, low byte first
+abbrev pub cells : Part
+cells = part 12 32
+
+abbrev pub statusC : Part
+statusC = part 44 6
+
+abbrev pub statusD : Part
+statusD = part 50 6
+
+abbrev pub retention : Part
+retention = part 56 6
+
+abbrev pub serialId : Part
+serialId = part 62 6
+
+abbrev pub counter : Part
+counter = part 68 1
+
+abbrev pub unlocked : Part
+unlocked = part 69 1
+
+abbrev pub recordSize : ℕ
+recordSize = 70
+
+-- ---- parts of parts
+
+-- byte 5 of configuration A, with SNAP_ST at bit 5 and MUTE_ST at bit 4
+abbrev pub statusBits : Part
+statusBits = part (configurationA .at + 5) 1
+
+-- the bytes of status D that hold the cells' flags
+abbrev pub flags : Part
+flags = part (statusD .at) 4
+
+-- three cells, as the sheet's registers A to E hold them; g counts from 0
+abbrev pub threeCells : ℕ → Part
+threeCells g = part (cells .at + 6 * g) 6
+
+-- cell 16 alone, of register F
+abbrev pub cell16 : Part
+cell16 = part (cells .at + 30) 2
+
+-- ---- what a part holds, and changing it
+
+unfoldable pub bytesOf : Part → List ℕ → List ℕ
+bytesOf p r = take (p .size) (drop (p .at) r)
+
+-- the byte of a part that has one
+unfoldable pub byteOf : Part → List ℕ → ℕ
+byteOf p r = getD r (p .at) 0
+
+-- n bytes from a place on, each anew: from its place among them, and what it was
+unfoldable pub anew : (ℕ → ℕ → ℕ) → ℕ → ℕ → List ℕ → List ℕ
+anew f at zero r = r
+anew f at (suc n) r = set (anew f at n r) (at + n) (f n (getD r (at + n) 0))
+
+-- the bytes of a part, each anew
+unfoldable pub onBytes : Part → (ℕ → ℕ → ℕ) → List ℕ → List ℕ
+onBytes p f r = anew f (p .at) (p .size) r
+
+-- ---- a record that is one
+
+unfoldable pub isRecord : List ℕ → Bool
+isRecord r = eqb (length r) recordSize
+
+-- the counter is 0 to 63, and the retention byte 0 or 1; other bytes are free
+unfoldable pub recordSound : List ℕ → Bool
+recordSound r = leb (byteOf counter r) 63 && leb (byteOf unlocked r) 1

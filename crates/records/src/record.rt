@@ -1,0 +1,122 @@
+// One monitor's record: the code's names for what specs/Record.antt lays out. Sizes and offsets stand here and nowhere else.
+ghost use mathlib.Core.Path.{_≡_};
+ghost use mathlib.Core.Bool.{_&&_};
+ghost use lib.ListN.{getD};
+ghost use Rattle.records.specs.Record.{isRecord, recordSound};
+
+pub const RECORD_SIZE: usize = 70;
+
+pub const CONFIGURATION_A: usize = 0;
+// Byte 5 of configuration A, with SNAP_ST at bit 5 and MUTE_ST at bit 4.
+pub const STATUS_BITS: usize = CONFIGURATION_A + 5;
+
+pub const CONFIGURATION_B: usize = 6;
+// Cells 1 to 16, two bytes each, low byte first.
+pub const CELLS: usize = 12;
+
+pub const CELL_COUNT: usize = 16;
+
+pub const CELLS_SIZE: usize = 32;
+
+pub const STATUS_C: usize = 44;
+
+pub const STATUS_D: usize = 50;
+
+// The bytes of status D, from its first on, that hold the cells' flags.
+pub const FLAG_BYTES: usize = 4;
+
+pub const RETENTION: usize = 56;
+
+pub(crate) const SERIAL_ID: usize = 62;
+
+pub const COUNTER: usize = 68;
+
+pub const UNLOCKED: usize = 69;
+
+// Where a part of the record begins, and how many bytes it has. In bytes, so that a command is three of them: the compiler copies a
+// larger one in pieces that wait for each other.
+pub struct Part {
+    pub at: u8,
+    pub size: u8,
+}
+
+// What each read shows. The cells' registers A to E have three cells each, and F has cell 16.
+pub(crate) const RDCFGA: Part = Part {
+    at: CONFIGURATION_A as u8,
+    size: 6,
+};
+
+pub(crate) const RDCFGB: Part = Part {
+    at: CONFIGURATION_B as u8,
+    size: 6,
+};
+
+pub(crate) const RDCVA: Part = Part {
+    at: CELLS as u8,
+    size: 6,
+};
+
+pub(crate) const RDCVB: Part = Part {
+    at: (CELLS + 6) as u8,
+    size: 6,
+};
+
+pub(crate) const RDCVC: Part = Part {
+    at: (CELLS + 12) as u8,
+    size: 6,
+};
+
+pub(crate) const RDCVD: Part = Part {
+    at: (CELLS + 18) as u8,
+    size: 6,
+};
+
+pub(crate) const RDCVE: Part = Part {
+    at: (CELLS + 24) as u8,
+    size: 6,
+};
+
+pub(crate) const RDCVF: Part = Part {
+    at: (CELLS + 30) as u8,
+    size: 2,
+};
+
+pub(crate) const RDSTATC: Part = Part {
+    at: STATUS_C as u8,
+    size: 6,
+};
+
+pub(crate) const RDSTATD: Part = Part {
+    at: STATUS_D as u8,
+    size: 6,
+};
+
+pub(crate) const RDSID: Part = Part {
+    at: SERIAL_ID as u8,
+    size: 6,
+};
+
+pub(crate) const RDRR: Part = Part {
+    at: RETENTION as u8,
+    size: 6,
+};
+
+// A byte of a slice, and 0 past its end.
+pub fn byte_at(bytes: &[u8], i: usize) -> u8
+    ensures { λ b. ⌜ b ≡ getD (now (bytes .entry)) i 0 ⌝ }
+{
+    if i < bytes.len() { bytes[i] } else { 0 }
+}
+
+// Is it a record, with a counter of 0 to 63 and a retention byte of 0 or 1?
+pub fn record_sound(rec: &[u8]) -> bool
+    ensures { λ r. ⌜ r ≡ (isRecord (now (rec .entry)) && recordSound (now (rec .entry))) ⌝ }
+{
+    if rec.len() != RECORD_SIZE {
+        return false;
+    }
+    if rec[COUNTER] > 63 {
+        return false;
+    }
+    rec[UNLOCKED] <= 1
+}

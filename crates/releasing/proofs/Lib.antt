@@ -1,0 +1,3 @@
+pub mod ReleaseJudging
+pub mod ReleaseOutcome
+pub mod LookJudging

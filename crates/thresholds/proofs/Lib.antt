@@ -1,0 +1,2 @@
+pub mod ConfigurationB
+pub mod TwosComplement

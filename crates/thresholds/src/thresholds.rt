@@ -1,0 +1,49 @@
+// The two thresholds of a record, and the two kinds of count.
+ghost use mathlib.Core.Path.{_≡_};
+ghost use Prim.Native.Nat.{_<_};
+ghost use Rattle.thresholds.specs.Thresholds.{signed, vuv, vov, codesOf};
+use records::CONFIGURATION_B;
+use records::byte_at;
+
+// A count of codes of 150 microvolts.
+pub struct ResultCode(pub i32);
+
+// A count of threshold steps, each of 16 codes.
+pub struct ThresholdStep(pub i16);
+
+// A count of steps as a count of codes: the one conversion between the two.
+pub fn codes_of(step: ThresholdStep) -> ResultCode
+    ensures { λ r. ⌜ r ≡ codesOf step ⌝ }
+{
+    ResultCode((step.0 as i32) * 16)
+}
+
+// A number of 12 bits read as two's complement.
+fn signed12(n: u16) -> i16
+    requires { ⌜ n < 4096 ⌝ }
+    ensures { λ r. ⌜ r ≡ signed 12 n ⌝ }
+{
+    if n < 2048 {
+        n as i16
+    } else {
+        (n as i16) - 4096
+    }
+}
+
+// VUV, the lower threshold.
+pub fn under_threshold(rec: &[u8]) -> ThresholdStep
+    ensures { λ r. ⌜ r ≡ vuv (now (rec .entry)) ⌝ }
+{
+    let low = byte_at(rec, CONFIGURATION_B) as u16;
+    let high = byte_at(rec, CONFIGURATION_B + 1) as u16;
+    ThresholdStep(signed12(low + high % 16 * 256))
+}
+
+// VOV, the upper threshold.
+pub fn over_threshold(rec: &[u8]) -> ThresholdStep
+    ensures { λ r. ⌜ r ≡ vov (now (rec .entry)) ⌝ }
+{
+    let low = byte_at(rec, CONFIGURATION_B + 1) as u16;
+    let high = byte_at(rec, CONFIGURATION_B + 2) as u16;
+    ThresholdStep(signed12(low / 16 + high * 16))
+}

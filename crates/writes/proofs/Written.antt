@@ -1,0 +1,48 @@
+-- What a taken write needs: its rules fit a record, and the retention byte before the command says whether it changes something.
+-- And where the promise of `write` comes to what is written, and where to the slice as it was, by the two lengths that it tests.
+-- Assumes nothing.
+use mathlib.Core.Path.{_≡_, ap, ap₂}
+use mathlib.Core.Bool.{Bool, true, false, cond, not, _&&_, _||_}
+use mathlib.Core.List.{List}
+use Prim.Native.Nat.{ℕ, _+_, _≤_, _<_}
+use lib.Dec.{eqb, leb, lit≤}
+use lib.ListN.{length}
+use borrow.Author.Tests.{le-leb, lt-leb}
+use Rattle.records.specs.declared.commands.Write.{Write}
+use Rattle.records.specs.declared.commands.Write.the-variants.{Wrcfga, Wrcfgb, Wrrr, Clrflag, Clovuv}
+use Rattle.writes.specs.declared.writes.Rules.{Rules}
+use Rattle.records.specs.Record.{recordSize, isRecord}
+use Rattle.writes.specs.Writes.{rulesOf, opens, written}
+use Rattle.records.proofs.Answers.{is-record, no-record}
+
+pub rules-fit : (w : Write) → rulesOf w .at + 6 ≤ recordSize
+rules-fit Wrcfga = lit≤ tt
+rules-fit Wrcfgb = lit≤ tt
+rules-fit Wrrr = lit≤ tt
+rules-fit Clrflag = lit≤ tt
+rules-fit Clovuv = lit≤ tt
+
+module _ (rules : Rules) (was : ℕ) where
+  pub opens-unlocked : rules .«only_unlocked» ≡ true → opens rules was ≡ eqb was 1
+  unfolding opens
+  opens-unlocked e = ap (λ (b : Bool). not b || eqb was 1) e
+
+  pub opens-always : rules .«only_unlocked» ≡ false → opens rules was ≡ true
+  unfolding opens
+  opens-always e = ap (λ (b : Bool). not b || eqb was 1) e
+
+-- ---- a record and six bytes, and what is none or fewer
+
+module _ (what : Write) (was : ℕ) (sent r : List ℕ) where
+  -- what `write` leaves
+  abbrev left : Bool → List ℕ
+  left b = cond b (written what was sent r) r
+
+  pub six-for-record : length r ≡ recordSize → 6 ≤ length sent → left (isRecord r && leb 6 (length sent)) ≡ written what was sent r
+  six-for-record h k = ap left (ap₂ _&&_ (is-record r h) (le-leb 6 (length sent) k))
+
+  pub fewer-for-record : length r ≡ recordSize → length sent < 6 → left (isRecord r && leb 6 (length sent)) ≡ r
+  fewer-for-record h k = ap left (ap₂ _&&_ (is-record r h) (lt-leb 6 (length sent) k))
+
+  pub for-no-record : (length r ≡ recordSize → ⊥) → left (isRecord r && leb 6 (length sent)) ≡ r
+  for-no-record h = ap (λ (b : Bool). left (b && leb 6 (length sent))) (no-record r h)

@@ -1,0 +1,62 @@
+-- `writes::writes::change` meets its contract: a loop that makes six bytes anew.
+-- Assumes nothing.
+use Prim.Native.Nat.{_-_}
+use native.Mathlib.Omega.{arith}
+use Rattle.writes.specs.Writes.{changed, byRules}
+use Rattle.records.proofs.Making.{Making, making-start, making-more, making-end}
+use Rattle.writes.proofs.writes.change.Statement.{statement}
+use Rattle.writes.proofs.writes.change.Tie as tie
+
+abbrev Inv-loop : tie.InvT-loop
+Inv-loop rec₀ rules sent at i₀ rec i = Making (changed (rules .stored) (rules .kept) (rules .clearable) sent) at 6 rec₀ rec i
+
+abbrev μ-loop : tie.MeasureT-loop
+μ-loop rec₀ rules sent at i₀ rec i = 6 - i
+
+loop-holds : tie.Need-loop-holds Inv-loop μ-loop
+loop-holds c = making-start _ _ _ _
+
+add-place : tie.Need-add-place Inv-loop μ-loop
+add-place c = omega arith
+
+slice-read-changed-byte : tie.Need-slice-read-changed-byte Inv-loop μ-loop
+slice-read-changed-byte c = omega arith
+
+changed-byte-requires : tie.Need-changed-byte-requires Inv-loop μ-loop
+changed-byte-requires c κs = (omega arith, omega arith)
+
+slice-write-rec : tie.Need-slice-write-rec Inv-loop μ-loop
+slice-write-rec c = omega arith
+
+add-i : tie.Need-add-i Inv-loop μ-loop
+add-i c = omega arith
+
+loop-less : tie.Need-loop-less Inv-loop μ-loop
+loop-less c = omega arith
+
+loop-again : tie.Need-loop-again Inv-loop μ-loop
+loop-again c = making-more _ _ _ _ (c .before .before .before .loop .inv) (c .before .before .loop-test .taken) (c .changed-byte .ensures)
+
+same-length : tie.Need-same-length Inv-loop μ-loop
+same-length c = c .before .loop .inv .size
+
+returns : tie.Need-returns Inv-loop μ-loop
+unfolding byRules
+returns c = making-end _ _ _ _ (c .before .loop .inv) (c .loop-test .left)
+
+pub change-spec : {M : Type 1} → statement M
+change-spec =
+    tie.close
+    (tie.spec
+    Inv-loop
+    μ-loop
+    loop-holds
+    add-place
+    slice-read-changed-byte
+    changed-byte-requires
+    slice-write-rec
+    add-i
+    loop-less
+    loop-again
+    same-length
+    returns)

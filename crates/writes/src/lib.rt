@@ -1,0 +1,4 @@
+// What a taken write does to its six bytes of a record.
+mod writes;
+
+pub use writes::write;

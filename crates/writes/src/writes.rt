@@ -1,0 +1,149 @@
+// What a taken write does to its six bytes.
+ghost use mathlib.Core.Path.{_≡_};
+ghost use mathlib.Core.Bool.{cond, _&&_};
+ghost use Prim.Native.Nat.{_+_, _%_, _<_, _≤_};
+ghost use lib.Dec.{leb};
+ghost use lib.ListN.{length, getD};
+ghost use Rattle.records.specs.Record.{isRecord, anew};
+ghost use Rattle.writes.specs.Writes.{rulesOf, storesWhole, changed, byRules, opens, written};
+use records::CONFIGURATION_A;
+use records::CONFIGURATION_B;
+use records::RECORD_SIZE;
+use records::RETENTION;
+use records::STATUS_C;
+use records::STATUS_D;
+use records::Write;
+
+// Where a write's six bytes go, and what it does to each bit there: stored bits become as sent, kept bits stay as they were,
+// but for those that are clearable and sent as 1; every other bit becomes 0. Only WRRR asks that the
+// retention was unlocked.
+pub struct Rules {
+    pub only_unlocked: bool,
+    pub at: usize,
+    pub stored: [u8; 6],
+    pub kept: [u8; 6],
+    pub clearable: [u8; 6],
+}
+
+const ALL: [u8; 6] = [0xff; 6];
+
+const NONE: [u8; 6] = [0; 6];
+
+fn rules_of(what: Write) -> Rules
+    ensures { λ r. ⌜ r ≡ rulesOf what ⌝ }
+{
+    match what {
+        Write::Wrcfga => Rules {
+            only_unlocked: false,
+            at: CONFIGURATION_A,
+            stored: [0x87, 0xff, 0xf8, 0xff, 0x03, 0x0f],
+            kept: [0, 0, 0, 0, 0, 0x30],
+            clearable: NONE,
+        },
+        Write::Wrcfgb => Rules {
+            only_unlocked: false,
+            at: CONFIGURATION_B,
+            stored: ALL,
+            kept: NONE,
+            clearable: NONE,
+        },
+        Write::Wrrr => Rules {
+            only_unlocked: true,
+            at: RETENTION,
+            stored: ALL,
+            kept: NONE,
+            clearable: NONE,
+        },
+        Write::Clrflag => Rules {
+            only_unlocked: false,
+            at: STATUS_C,
+            stored: NONE,
+            kept: ALL,
+            clearable: [0xff, 0xff, 0, 0, 0xff, 0xdf],
+        },
+        Write::Clovuv => Rules {
+            only_unlocked: false,
+            at: STATUS_D,
+            stored: NONE,
+            kept: ALL,
+            clearable: [0xff, 0xff, 0xff, 0xff, 0, 0],
+        },
+    }
+}
+
+// One of the six bytes by a write's rules, from what was sent and what it was.
+fn changed_byte(rules: Rules, sent: &[u8], i: usize, old: u8) -> u8
+    requires { ⌜ (i < 6) × (6 ≤ length (now sent)) ⌝ }
+    ensures { λ r. ⌜ r ≡ changed (rules .stored) (rules .kept) (rules .clearable) (now (sent .entry)) i old ⌝ }
+{
+    let byte = sent[i];
+    (byte & rules.stored[i]) | (old & (rules.kept[i] & !(byte & rules.clearable[i])))
+}
+
+// The six bytes that a write changes, by its rules.
+fn change(rec: &mut [u8], rules: Rules, sent: &[u8])
+    requires { ⌜ (rules .at + 6 ≤ length (now rec)) × (6 ≤ length (now sent)) ⌝ }
+    ensures { λ _. ⌜ now (rec .exit) ≡ byRules rules (now (sent .entry)) (now (rec .entry)) ⌝ }
+{
+    let at = rules.at;
+    let mut i = 0;
+    while i < 6 {
+        let place = at + i;
+        rec[place] = changed_byte(rules, sent, i, rec[place]);
+        i += 1;
+    }
+}
+
+// The same where all six become as sent: they are copied.
+fn store(rec: &mut [u8], at: usize, sent: &[u8])
+    requires { ⌜ (at + 6 ≤ length (now rec)) × (6 ≤ length (now sent)) ⌝ }
+    ensures { λ _. ⌜ now (rec .exit) ≡ anew (λ i old. getD (now (sent .entry)) i 0 % 256) at 6 (now (rec .entry)) ⌝ }
+{
+    let mut i = 0;
+    while i < 6 {
+        rec[at + i] = sent[i];
+        i += 1;
+    }
+}
+
+// Does a write store all six as they are sent?
+fn stores_whole(what: Write) -> bool
+    ensures { λ r. ⌜ r ≡ storesWhole what ⌝ }
+{
+    match what {
+        Write::Wrcfga => false,
+        Write::Wrcfgb => true,
+        Write::Wrrr => true,
+        Write::Clrflag => false,
+        Write::Clovuv => false,
+    }
+}
+
+// Does a write change something, by the retention byte before the command?
+fn opens_by(rules: Rules, was: u8) -> bool
+    ensures { λ r. ⌜ r ≡ opens rules was ⌝ }
+{
+    let only = rules.only_unlocked;
+    if only { was == 1 } else { true }
+}
+
+// A taken write of the six bytes that were sent first. A slice that is no record stays as it is, and so does a record where fewer
+// than six were sent.
+pub fn write(what: Write, was: u8, rec: &mut [u8], sent: &[u8])
+    ensures { λ _. ⌜ now (rec .exit) ≡ cond (isRecord (now (rec .entry)) && leb 6 (length (now (sent .entry)))) (written what was (now (sent .entry)) (now (rec .entry))) (now (rec .entry)) ⌝ }
+{
+    if rec.len() != RECORD_SIZE {
+        return;
+    }
+    if sent.len() < 6 {
+        return;
+    }
+    let rules = rules_of(what);
+    if opens_by(rules, was) {
+        if stores_whole(what) {
+            store(rec, rules.at, sent);
+        } else {
+            change(rec, rules, sent);
+        }
+    }
+}
