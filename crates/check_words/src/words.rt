@@ -81,21 +81,21 @@ fn of_message(message: u64) -> u16
     remainder_10(message) ^ OF_54_ZEROS
 }
 
-// The two bytes that seal six.
-fn seal_six(six: &[u8], counter: u8) -> [u8; 2]
+// The 16 bits that seal six bytes: the counter's six, and the check.
+fn seal_six(six: &[u8], counter: u8) -> u16
     requires { ⌜ length (now six) ≡ 6 ⌝ }
-    ensures { λ r. ⌜ r ≡ seal (now (six .entry)) counter ⌝ }
+    ensures { λ r. ⌜ twoBytes r ≡ seal (now (six .entry)) counter ⌝ }
 {
     let six_bits = counter % 64;
     let check = of_message(number_by_parts(six, 2) * 64 + (six_bits as u64));
-    two_bytes((six_bits as u16) * 1024 + check)
+    (six_bits as u16) * 1024 + check
 }
 
 // A payload: six bytes, and the two that seal them.
 pub fn sealed(six: &[u8; 6], counter: u8) -> [u8; 8]
     ensures { λ r. ⌜ r ≡ now (six .entry) ++ seal (now (six .entry)) counter ⌝ }
 {
-    let end = seal_six(six, counter);
+    let end = two_bytes(seal_six(six, counter));
     [
         six[0],
         six[1],

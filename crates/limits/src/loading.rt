@@ -1,200 +1,173 @@
 // Loads: the refusals in their order, and the flags at the thresholds.
-ghost use Prim.Native.Nat.{_≤_};
-use crate::bench::after;
-use crate::bench::both;
+use crate::bench::Bytes;
+use crate::bench::handled;
+use crate::bench::lay;
 use crate::bench::same;
 use crate::bench::two;
-use crate::bench::with;
-use crate::commands::write;
-use crate::frames;
+use crate::frames::frame;
 use crate::say;
-use crate::tally;
-use crate::tally::Tally;
+use crate::say::text;
+use crate::say::words;
+use crate::words::AND;
+use crate::words::FLAGS;
+use crate::words::LOADED;
+use crate::words::LOADINGS;
+use crate::words::REFUSED;
+use crate::words::TABLE_STAYS;
 
-// The first `size` of the codes are loaded.
-fn load(
-    t: Tally,
-    words: &[u8],
-    before: [u8; 140],
-    position: usize,
-    codes: [i16; 17],
-    size: usize,
-    number: u8,
-    expected: [u8; 140],
-) -> Tally
-    requires { ⌜ size ≤ 17 ⌝ }
-{
-    let mut table = before;
-    let came = loads::load_number(loads::load(&mut table, position, &codes[0..size]));
-    say::text(words);
-    if came == 0 {
-        say::text(b": loaded");
-        say::changes(before, table);
-        say::flags(table);
-    } else {
-        say::number(b": refused ", came as u64);
-    }
-    let table_right = same(&table, &expected);
-    if came != 0 && table_right {
-        say::text(b", table as before");
-    }
-    tally::ended(t, table_right && came == number)
+// The codes that are loaded, by their number.
+const CODES: [i16; 7] = [0, -32768, 1600, 1601, -16, -17, 800];
+
+// Byte 69 of the first record; position; how many codes; which code cell 6 has, the others 0; the refusal's number.
+const REFUSALS: [u64; 9] = [
+    2_1_16_0_1,
+    2_0_16_0_1,
+    0_0_16_0_7,
+    0_3_16_0_7,
+    0_3_15_0_7,
+    0_1_15_0_8,
+    0_1_17_0_8,
+    0_1_15_1_8,
+    0_1_16_1_9,
+];
+
+// The thresholds of two monitors of 0, as they are written to configuration B. Then 1 where 1601 was loaded before; position; which
+// code; where cells change, and how many bytes; where the flags are. Then what stands there: cells, and flags.
+const LOADS: [u64; 24] = [
+    0x0040_0600_0000,
+    0_2_2_092_02_120,
+    0x4006,
+    0x0000_0000,
+    0x0040_0600_0000,
+    0_2_3_092_02_120,
+    0x4106,
+    0x0008_0000,
+    0xff0f_0000_0000,
+    0_2_4_092_02_120,
+    0xf0ff,
+    0x0000_0000,
+    0xff0f_0000_0000,
+    0_2_5_092_02_120,
+    0xefff,
+    0x0004_0000,
+    // above the one threshold and below the other
+    0x6400_0000_0000,
+    0_1_6_012_32_050,
+    0x2003_2003_2003_2003,
+    0xffff_ffff,
+    // a cell that has recovered keeps its flag
+    0x0040_0600_0000,
+    1_2_2_092_02_120,
+    0x4006,
+    0x0008_0000,
+];
+
+struct After {
+    table: Bytes,
+    number: u64,
 }
 
-// A load that is refused changes nothing.
-fn refusal(
-    t: Tally,
-    words: &[u8],
-    before: [u8; 140],
-    position: usize,
-    codes: [i16; 17],
-    size: usize,
-    number: u8,
-) -> Tally
-    requires { ⌜ size ≤ 17 ⌝ }
-{
-    load(t, words, before, position, codes, size, number, before)
-}
-
-// Seventeen codes, one more than a load has: cell 6 has one of its own.
-fn codes_of(code: i16) -> [i16; 17] {
+// Seventeen codes, one more than a load has: cell 6 has one of its own, but all have the last.
+fn codes_of(which: usize) -> [i16; 17] {
+    let code = CODES[which % 7];
     let mut codes = [0i16; 17];
     codes[5] = code;
+    if which == 6 {
+        return [code; 17];
+    }
     codes
 }
 
-fn unsound() -> [u8; 140] {
-    with(two(), 69, b"\x02")
+fn loaded(table: Bytes, position: usize, which: usize, size: usize) -> After {
+    let mut after = table;
+    let codes = codes_of(which);
+    let size = size % 18;
+    let number = loads::load_number(loads::load(&mut after[0..140], position, &codes[0..size]));
+    After {
+        table: after,
+        number: number as u64,
+    }
 }
 
-fn positions(t: Tally) -> Tally {
-    let codes = codes_of(0);
-    let t = refusal(t, b"unsound table", unsound(), 1, codes, 16, 1);
-    let t = refusal(t, b"unsound table, position 0", unsound(), 0, codes, 16, 1);
-    let t = refusal(t, b"position 0", two(), 0, codes, 16, 7);
-    let t = refusal(t, b"position 3 of 2", two(), 3, codes, 16, 7);
-    refusal(t, b"position 3 of 2, 15 codes", two(), 3, codes, 15, 7)
+fn said(number: u64) {
+    if number == 0 {
+        text(LOADED);
+    } else {
+        words(REFUSED, number, 0, 0, 0);
+    }
 }
 
-fn counts(t: Tally) -> Tally {
-    let codes = codes_of(0);
-    let cleared = codes_of(-32768);
-    let t = refusal(t, b"15 codes", two(), 1, codes, 15, 8);
-    let t = refusal(t, b"17 codes", two(), 1, codes, 17, 8);
-    let t = refusal(t, b"15 codes, one of them -32768", two(), 1, cleared, 15, 8);
-    refusal(t, b"a code -32768", two(), 1, cleared, 16, 9)
+pub(crate) fn refusal(i: usize) -> bool {
+    let row = REFUSALS[i % 9];
+    let before = lay(two(), 69, 1, row / 100_000);
+    let came = loaded(
+        before,
+        (row / 10_000 % 10) as usize,
+        (row / 10 % 10) as usize,
+        (row / 100 % 100) as usize,
+    );
+    text(LOADINGS + i % 9);
+    said(came.number);
+    let right = (came.number == row % 10) & same(before, came.table, 0, 2310);
+    if right {
+        text(TABLE_STAYS);
+    }
+    right
 }
 
 // Two monitors of 0 with the same thresholds, set by a write.
-fn thresholds(six: [u8; 6]) -> [u8; 140] {
-    let frame = frames::write(frames::WRCFGB, six, six);
-    after([0u8; 140], &frame)
-}
-
-// Cell 6 of the second monitor has its code at 92 of the table, and its flags at bits 2 and 3 of byte 121.
-fn over(t: Tally) -> Tally {
-    let before = thresholds([0x00, 0x40, 0x06, 0, 0, 0]);
-    let at_most = codes_of(1600);
-    let above = codes_of(1601);
-    let t = load(
-        t,
-        b"VUV 0, VOV 100, code 1600",
-        before,
-        2,
-        at_most,
-        16,
+fn thresholds(six: u64) -> Bytes {
+    let came = handled(
+        [0u8; 2310],
+        140,
+        frame(0x0024, six * 65536, six * 65536),
+        20,
         0,
-        with(before, 92, b"\x40\x06"),
     );
-    load(
-        t,
-        b"VUV 0, VOV 100, code 1601",
-        before,
-        2,
-        above,
-        16,
-        0,
-        with(with(before, 92, b"\x41\x06"), 121, b"\x08"),
-    )
+    came.table
 }
 
-fn under(t: Tally) -> Tally {
-    let before = thresholds([0xff, 0x0f, 0x00, 0, 0, 0]);
-    let at_least = codes_of(-16);
-    let below = codes_of(-17);
-    let t = load(
-        t,
-        b"VUV -1, VOV 0, code -16",
-        before,
-        2,
-        at_least,
-        16,
-        0,
-        with(before, 92, b"\xf0\xff"),
+fn earlier(table: Bytes, before: bool) -> Bytes {
+    if before {
+        let came = loaded(table, 2, 3, 16);
+        return came.table;
+    }
+    table
+}
+
+// The last of the loads has it: code 1600 after 1601.
+pub(crate) fn kept() -> Bytes {
+    let came = loaded(earlier(thresholds(0x0040_0600_0000), true), 2, 2, 16);
+    came.table
+}
+
+pub(crate) fn load(i: usize) -> bool {
+    let k = i % 6 * 4;
+    let row = LOADS[k + 1];
+    let before = earlier(
+        thresholds(LOADS[k] % 0x0001_0000_0000_0000),
+        row / 10_000_000_000 == 1,
     );
-    load(
-        t,
-        b"VUV -1, VOV 0, code -17",
+    let came = loaded(
         before,
-        2,
-        below,
+        (row / 1_000_000_000 % 10) as usize,
+        (row / 100_000_000 % 10) as usize,
         16,
-        0,
-        with(with(before, 92, b"\xef\xff"), 121, b"\x04"),
-    )
-}
-
-// Above the one threshold and below the other.
-fn both_flags(t: Tally) -> Tally {
-    let before = thresholds([0x64, 0x00, 0x00, 0, 0, 0]);
-    let codes = [800i16; 17];
-    let cells =
-        b"\x20\x03\x20\x03\x20\x03\x20\x03\x20\x03\x20\x03\x20\x03\x20\x03\x20\x03\x20\x03\x20\x03\x20\x03\x20\x03\x20\x03\x20\x03\x20\x03";
-    load(
-        t,
-        b"VUV 100, VOV 0, sixteen codes 800",
-        before,
-        1,
-        codes,
-        16,
-        0,
-        with(with(before, 12, cells), 50, b"\xff\xff\xff\xff"),
-    )
-}
-
-fn loaded(table: [u8; 140], position: usize, codes: [i16; 17]) -> [u8; 140] {
-    let mut changed = table;
-    loads::load(&mut changed, position, &codes[0..16]);
-    changed
-}
-
-// A cell that has recovered keeps its flag until CLOVUV clears it.
-fn recovered(t: Tally) -> Tally {
-    let above = codes_of(1601);
-    let normal = codes_of(1600);
-    let before = loaded(thresholds([0x00, 0x40, 0x06, 0, 0, 0]), 2, above);
-    let kept = with(before, 92, b"\x40\x06");
-    let t = load(
-        t,
-        b"the same cell, code 1600 after 1601",
-        before,
-        2,
-        normal,
-        16,
-        0,
-        kept,
     );
-    let frame = frames::write(frames::CLOVUV, [0; 6], [0, 0x08, 0, 0, 0, 0]);
-    let expected = both(with(kept, 121, b"\x00"), 68, b"\x02", b"\x02");
-    write(t, b"CLOVUV, then", kept, frame, 2, expected)
-}
-
-pub(crate) fn all(t: Tally) -> Tally {
-    say::text(b"loads\n");
-    let t = positions(t);
-    let t = counts(t);
-    let t = over(t);
-    let t = under(t);
-    let t = both_flags(t);
-    recovered(t)
+    let after = came.table;
+    text(LOADINGS + 9 + i % 6);
+    said(came.number);
+    say::changes(before, after);
+    text(FLAGS);
+    say::bytes(after, 50, 54);
+    text(AND);
+    say::bytes(after, 120, 124);
+    let cells = lay(
+        before,
+        (row / 100_000 % 1000) as usize,
+        (row / 1000 % 100) as usize,
+        LOADS[k + 2],
+    );
+    let wanted = lay(cells, (row % 1000) as usize, 4, LOADS[k + 3]);
+    (came.number == 0) & same(after, wanted, 0, 2310)
 }

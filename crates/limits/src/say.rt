@@ -1,41 +1,64 @@
 // What is written to standard output. A write that fails shows as output that is missing.
-ghost use mathlib.Core.Path.{_≡_};
-ghost use lib.ListN.{length};
+use crate::bench::Bytes;
 use crate::bench::same;
-use chain::Numbers;
+use crate::words::AS_BEFORE;
+use crate::words::AT;
+use crate::words::MONITOR;
+use crate::words::SIZE;
+use crate::words::WORDS;
 use libc::STDOUT_FILENO;
 
-pub(crate) fn text(words: &[u8]) {
-    io::write_all(STDOUT_FILENO, words);
+// A byte of the words. In place of a # stands a number, and of a @ one of 16 hexadecimal digits: then the next one's turn has come.
+fn one(byte: u8, number: u64) -> bool {
+    if byte == b'#' {
+        io::print_decimal(STDOUT_FILENO, number);
+        return true;
+    }
+    if byte == b'@' {
+        io::print_hex(STDOUT_FILENO, number, 16);
+        return true;
+    }
+    io::write_all(STDOUT_FILENO, &[byte]);
+    false
 }
 
-// A number, with the words before it.
-pub(crate) fn number(words: &[u8], n: u64) {
-    io::write_all(STDOUT_FILENO, words);
-    io::print_decimal(STDOUT_FILENO, n);
-}
-
-fn byte(b: u8) {
-    text(b" ");
-    io::print_hex(STDOUT_FILENO, b as u64, 2);
-}
-
-// Each byte in hexadecimal.
-pub(crate) fn bytes(list: &[u8]) {
+// The words of a number, with the numbers in them.
+pub(crate) fn words(k: usize, a: u64, b: u64, c: u64, d: u64) {
+    let text = WORDS;
+    let mut first = a;
+    let mut second = b;
+    let mut third = c;
+    let mut part = 0;
     let mut i = 0;
-    while i < list.len() {
-        byte(list[i]);
+    while i < SIZE {
+        if text[i] == b'|' {
+            part += 1;
+        } else if part == k {
+            if one(text[i], first) {
+                first = second;
+                second = third;
+                third = d;
+            }
+        }
         i += 1;
     }
 }
 
-// A refusal's number, or what came of an accepted frame.
-pub(crate) fn outcome(n: Numbers) {
-    if n.number != 0 {
-        number(b": refused ", n.number as u64);
-    } else {
-        number(b": taken by ", n.taken as u64);
-        number(b", reply ", n.reply as u64);
+pub(crate) fn text(k: usize) {
+    words(k, 0, 0, 0, 0);
+}
+
+fn byte(b: u8) {
+    io::write_all(STDOUT_FILENO, b" ");
+    io::print_hex(STDOUT_FILENO, b as u64, 2);
+}
+
+// The bytes from one place up to another, in hexadecimal.
+pub(crate) fn bytes(list: Bytes, from: usize, to: usize) {
+    let mut i = from;
+    while i < to {
+        byte(list[i % 2310]);
+        i += 1;
     }
 }
 
@@ -45,47 +68,25 @@ fn change(i: usize, before: u8, after: u8, in_run: bool) -> bool {
         return false;
     }
     if !in_run {
-        number(b" at ", i as u64);
-        text(b":");
+        words(AT, i as u64, 0, 0, 0);
     }
     byte(after);
     true
 }
 
-// The bytes of a record that have changed, as they are now.
-fn runs(before: &[u8], after: &[u8])
-    requires { ⌜ length (now before) ≡ length (now after) ⌝ }
-{
+// The bytes of two records that have changed, as they are now.
+pub(crate) fn changes(before: Bytes, after: Bytes) {
     let mut in_run = false;
     let mut i = 0;
-    while i < before.len() {
-        in_run = change(i, before[i], after[i], in_run);
+    while i < 140 {
+        if i % 70 == 0 {
+            in_run = false;
+            words(MONITOR, (i / 70 + 1) as u64, 0, 0, 0);
+            if same(before, after, i, i + 70) {
+                text(AS_BEFORE);
+            }
+        }
+        in_run = change(i % 70, before[i], after[i], in_run);
         i += 1;
     }
-}
-
-fn changes_of(before: &[u8], after: &[u8])
-    requires { ⌜ length (now before) ≡ length (now after) ⌝ }
-{
-    if same(before, after) {
-        text(b" as before");
-    } else {
-        runs(before, after);
-    }
-}
-
-// The changes in a table of two monitors.
-pub(crate) fn changes(before: [u8; 140], after: [u8; 140]) {
-    text(b"; monitor 1");
-    changes_of(&before[0..70], &after[0..70]);
-    text(b"; monitor 2");
-    changes_of(&before[70..140], &after[70..140]);
-}
-
-// The flags of the cells of two monitors: bytes 0 to 3 of status D.
-pub(crate) fn flags(table: [u8; 140]) {
-    text(b"; flags");
-    bytes(&table[50..54]);
-    text(b" and");
-    bytes(&table[120..124]);
 }

@@ -2,15 +2,15 @@
 ghost use mathlib.Core.Path.{_≡_};
 ghost use mathlib.Core.Bool.{true, false};
 ghost use Prim.Native.Nat.{_+_, _<_};
-use crate::say;
+use crate::say::text;
+use crate::say::words;
+use crate::words::END;
+use crate::words::SUMMARY;
+use crate::words::WRONG;
 
 pub(crate) struct Tally {
     pub lines: u64,
     pub right: u64,
-}
-
-pub(crate) fn none() -> Tally {
-    Tally { lines: 0, right: 0 }
 }
 
 // One more where `right`. No count here comes near the largest number: the test only spares each caller a bound.
@@ -30,9 +30,9 @@ pub(crate) fn ended(t: Tally, right: bool) -> Tally
     ensures { λ r. ⌜ (right ≡ false → r .right ≡ t .right) ⌝ }
 {
     if !right {
-        say::text(b": NOT as expected");
+        text(WRONG);
     }
-    say::text(b"\n");
+    text(END);
     Tally {
         lines: count(t.lines, true),
         right: count(t.right, right),
@@ -40,7 +40,5 @@ pub(crate) fn ended(t: Tally, right: bool) -> Tally
 }
 
 pub(crate) fn summary(t: Tally) {
-    say::number(b"lines: ", t.lines);
-    say::number(b", as expected: ", t.right);
-    say::text(b"\n");
+    words(SUMMARY, t.lines, t.right, 0, 0);
 }

@@ -83,7 +83,7 @@ pub record Promises : Type 2 where
   number-of : Promised refusals.number_of.Statement.statement refusals.number_of.Reads.Asked
   nothing-left : Promised pec.nothing_left.Statement.statement pec.nothing_left.Reads.Asked
   of-command : Promised pec.of_command.Statement.statement pec.of_command.Reads.Asked
-  of-message : Promised pec.of_message.Statement.statement pec.of_message.Reads.Asked
+  remainder-10 : Promised pec.remainder_10.Statement.statement pec.remainder_10.Reads.Asked
   two-bytes : Promised check_words.two_bytes.Statement.statement check_words.two_bytes.Reads.Asked
   -- pec
   command-check : Promised check_words.command_check.Statement.statement check_words.command_check.Reads.Asked
@@ -204,7 +204,7 @@ proved =
       number-of = (λ M. refusals.number_of.Met.met, λ κ a. tt);
       nothing-left = (λ M. pec.nothing_left.Met.met, λ κ a. tt);
       of-command = (λ M. pec.of_command.Met.met, λ κ a. tt);
-      of-message = (λ M. pec.of_message.Met.met, λ κ a. tt);
+      remainder-10 = (λ M. pec.remainder_10.Met.met, λ κ a. tt);
       two-bytes = (λ M. check_words.two_bytes.Met.met, λ κ a. tt);
       command-check = (λ M. check_words.command_check.Met.met, λ κ a. tt);
       command-right = (λ M. check_words.command_right.Met.met, λ κ a. tt);

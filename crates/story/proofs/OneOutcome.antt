@@ -109,7 +109,7 @@ pub record OneOutcome : Type 0 where
   number-of : Settles refusals.number_of.Reads.Post (λ κ z e. leaves z []) (λ κ a. leaves (numberOf (a .0)) [])
   nothing-left : Settles pec.nothing_left.Reads.Post (λ κ z e. leaves z []) (λ κ a. leaves (numberRight (a .0)) [])
   of-command : Settles pec.of_command.Reads.Post (λ κ z e. leaves z []) (λ κ a. leaves (remainder 15 polynomial15 16 (bitsOf 16 (a .0))) [])
-  of-message : Settles pec.of_message.Reads.Post (λ κ z e. leaves z []) (λ κ a. leaves (remainder 10 polynomial10 16 (bitsOf 54 (a .0))) [])
+  remainder-10 : Settles pec.remainder_10.Reads.Post (λ κ z e. leaves z []) (λ κ a. leaves (remainder 10 polynomial10 0 (bitsOf 64 (a .0))) [])
   two-bytes : Settles check_words.two_bytes.Reads.Post (λ κ z e. leaves z []) (λ κ a. leaves (twoBytes (a .0)) [])
   -- pec
   command-check : Settles check_words.command_check.Reads.Post (λ κ z e. leaves z []) (λ κ a. leaves (commandCheck (a .0)) [])
@@ -200,7 +200,7 @@ one-outcomes =
       number-of = settles (λ κ a z e p i. leaves (p i) []);
       nothing-left = settles (λ κ a z e p i. leaves (p i) []);
       of-command = settles (λ κ a z e p i. leaves (p i) []);
-      of-message = settles (λ κ a z e p i. leaves (p i) []);
+      remainder-10 = settles (λ κ a z e p i. leaves (p i) []);
       two-bytes = settles (λ κ a z e p i. leaves (p i) []);
       command-check = settles (λ κ a z e p i. leaves (p i) []);
       command-right = settles (λ κ a z e p i. leaves (p i) []);

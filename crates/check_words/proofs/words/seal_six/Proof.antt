@@ -31,30 +31,26 @@ add-of-message c = search needs
 of-message-requires : tie.Need-of-message-requires
 of-message-requires c κs = search needs
 
-cast-two-bytes : tie.Need-cast-two-bytes
-cast-two-bytes c = search needs
+cast-result : tie.Need-cast-result
+cast-result c = search needs
 
-mul-two-bytes : tie.Need-mul-two-bytes
-mul-two-bytes c = search needs
+mul-result : tie.Need-mul-result
+mul-result c = search needs
 
-add-two-bytes : tie.Need-add-two-bytes
-add-two-bytes c =
+add-result : tie.Need-add-result
+add-result c =
     let below : c .of-message .result < 2 ^ 10 = subst⁻¹ (λ (n : ℕ). n < 2 ^ 10) (c .of-message .ensures) (remainder-below 10 (bitsOf 54 _) (lit< tt) (lit< tt)) in
     omega arith
-
-two-bytes-requires : tie.Need-two-bytes-requires
-two-bytes-requires c κs = search needs
 
 returns : tie.Need-returns
 unfolding seal
 returns c =
-    let s = c .before .before .before in
+    let s = c .before .before in
     let six = s .before .args .six .now in
     let counter = s .before .args .counter in
-    c .two-bytes .ensures
-    ∙ ap (λ (n : ℕ). twoBytes (counter % 64 * 1024 + n))
-    (c .before .of-message .ensures
-    ∙ ap (λ (n : ℕ). remainder 10 polynomial10 16 (bitsOf 54 (n * 64 + counter % 64))) (c .before .before .number-by-parts .ensures .0)
+    ap (λ (n : ℕ). twoBytes (counter % 64 * 1024 + n))
+    (c .of-message .ensures
+    ∙ ap (λ (n : ℕ). remainder 10 polynomial10 16 (bitsOf 54 (n * 64 + counter % 64))) (c .before .number-by-parts .ensures .0)
     ∙ data-message six (counter % 64) (λ i. s .shared-slice-known .given i .fits) (s .before .pre) (mod-lt counter (lit< tt))
     ∙ counter-bits six counter)
 
@@ -67,8 +63,7 @@ seal-six-spec =
     cast-of-message
     add-of-message
     of-message-requires
-    cast-two-bytes
-    mul-two-bytes
-    add-two-bytes
-    two-bytes-requires
+    cast-result
+    mul-result
+    add-result
     returns)

@@ -22,48 +22,53 @@ both six counter e = ap (λ (l : List ℕ). l ++ twoBytes (counter % 64 * 1024 +
 seal-six-requires : tie.Need-seal-six-requires
 seal-six-requires c κs = search needs
 
-element-copy-out-t9 : tie.Need-element-copy-out-t9
-element-copy-out-t9 c = search needs
+two-bytes-requires : tie.Need-two-bytes-requires
+two-bytes-requires c κs = search needs
 
-element-copy-out-t12 : tie.Need-element-copy-out-t12
-element-copy-out-t12 c = search needs
+element-copy-out-t10 : tie.Need-element-copy-out-t10
+element-copy-out-t10 c = search needs
 
-element-copy-out-t15 : tie.Need-element-copy-out-t15
-element-copy-out-t15 c = search needs
+element-copy-out-t13 : tie.Need-element-copy-out-t13
+element-copy-out-t13 c = search needs
 
-element-copy-out-t18 : tie.Need-element-copy-out-t18
-element-copy-out-t18 c = search needs
+element-copy-out-t16 : tie.Need-element-copy-out-t16
+element-copy-out-t16 c = search needs
 
-element-copy-out-t21 : tie.Need-element-copy-out-t21
-element-copy-out-t21 c = search needs
+element-copy-out-t19 : tie.Need-element-copy-out-t19
+element-copy-out-t19 c = search needs
 
-element-copy-out-t24 : tie.Need-element-copy-out-t24
-element-copy-out-t24 c = search needs
+element-copy-out-t22 : tie.Need-element-copy-out-t22
+element-copy-out-t22 c = search needs
 
-array-read-t27 : tie.Need-array-read-t27
-array-read-t27 c = search needs
+element-copy-out-t25 : tie.Need-element-copy-out-t25
+element-copy-out-t25 c = search needs
 
-array-read-t30 : tie.Need-array-read-t30
-array-read-t30 c = search needs
+array-read-t28 : tie.Need-array-read-t28
+array-read-t28 c = search needs
+
+array-read-t31 : tie.Need-array-read-t31
+array-read-t31 c = search needs
 
 returns : tie.Need-returns
 returns c =
-    let start = c .before .before .before .before .before .before .before .before in
+    let end = c .before .before .before .before .before .before in
+    let start = end .before .before .before in
     let six = start .args .six .now in
     let whole : length six ≡ 6 = search needs in
-    ap (eight six) (c .before .before .before .before .before .before .seal-six .ensures) ∙ both six (start .args .counter) whole
+    ap (eight six) (end .two-bytes .ensures ∙ end .before .seal-six .ensures) ∙ both six (start .args .counter) whole
 
 pub sealed-spec : {M : Type 1} → statement M
 sealed-spec =
     tie.close
     (tie.spec
     seal-six-requires
-    element-copy-out-t9
-    element-copy-out-t12
-    element-copy-out-t15
-    element-copy-out-t18
-    element-copy-out-t21
-    element-copy-out-t24
-    array-read-t27
-    array-read-t30
+    two-bytes-requires
+    element-copy-out-t10
+    element-copy-out-t13
+    element-copy-out-t16
+    element-copy-out-t19
+    element-copy-out-t22
+    element-copy-out-t25
+    array-read-t28
+    array-read-t31
     returns)
