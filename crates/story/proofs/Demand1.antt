@@ -85,7 +85,7 @@ pub record Promises : Type 2 where
   of-command : Promised pec.of_command.Statement.statement pec.of_command.Reads.Asked
   remainder-10 : Promised pec.remainder_10.Statement.statement pec.remainder_10.Reads.Asked
   two-bytes : Promised check_words.two_bytes.Statement.statement check_words.two_bytes.Reads.Asked
-  -- pec
+  -- the check words
   command-check : Promised check_words.command_check.Statement.statement check_words.command_check.Reads.Asked
   command-right : Promised check_words.command_right.Statement.statement check_words.command_right.Reads.Asked
   data-pec : Promised remainders.data_pec.Statement.statement remainders.data_pec.Reads.Asked
@@ -98,7 +98,7 @@ pub record Promises : Type 2 where
   pec15-by-table : Promised remainders.pec15_by_table.Statement.statement remainders.pec15_by_table.Reads.Asked
   seal : Promised remainders.seal.Statement.statement remainders.seal.Reads.Asked
   sealed : Promised check_words.sealed.Statement.statement check_words.sealed.Reads.Asked
-  -- monitor
+  -- one monitor
   command-of : Promised records.command_of.Statement.statement records.command_of.Reads.Asked
   frame-length : Promised records.frame_length.Statement.statement records.frame_length.Reads.Asked
   reply-size : Promised records.reply_size.Statement.statement records.reply_size.Reads.Asked
@@ -108,7 +108,7 @@ pub record Promises : Type 2 where
   reply-of : Promised reads.reply_of.Statement.statement reads.reply_of.Reads.Asked
   write : Promised writes.write.Statement.statement writes.write.Reads.Asked
   act : Promised monitor.act.Statement.statement monitor.act.Reads.Asked
-  -- chain
+  -- the chain
   sound : Promised judging.sound.Statement.statement judging.sound.Reads.Asked
   sound-count : Promised judging.sound_count.Statement.statement judging.sound_count.Reads.Asked
   whole-table : Promised judging.whole_table.Statement.statement judging.whole_table.Reads.Asked
@@ -120,7 +120,7 @@ pub record Promises : Type 2 where
   reply-all : Promised replying.reply_all.Statement.statement replying.reply_all.Reads.Asked
   judge-head : Promised judging.judge_head.Statement.statement judging.judge_head.Reads.Asked
   handle : Promised chain.handle.Statement.statement chain.handle.Reads.Asked
-  -- loads
+  -- the load
   codes-of : Promised thresholds.codes_of.Statement.statement thresholds.codes_of.Reads.Asked
   over-threshold : Promised thresholds.over_threshold.Statement.statement thresholds.over_threshold.Reads.Asked
   under-threshold : Promised thresholds.under_threshold.Statement.statement thresholds.under_threshold.Reads.Asked
@@ -129,7 +129,7 @@ pub record Promises : Type 2 where
   compare : Promised cells.compare.Statement.statement cells.compare.Reads.Asked
   load-one : Promised cells.load_one.Statement.statement cells.load_one.Reads.Asked
   load : Promised loads.load.Statement.statement loads.load.Reads.Asked
-  -- clocked
+  -- the clocked engine
   start : Promised clock_state.start.Statement.statement clock_state.start.Reads.Asked
   seen-in : Promised clock_state.seen_in.Statement.statement clock_state.seen_in.Reads.Asked
   kind-in : Promised clock_state.kind_in.Statement.statement clock_state.kind_in.Reads.Asked
@@ -139,7 +139,7 @@ pub record Promises : Type 2 where
   release : Promised releasing.release.Statement.statement releasing.release.Reads.Asked
   look : Promised releasing.look.Statement.statement releasing.look.Reads.Asked
   handle-clocked : Promised clocked.handle.Statement.statement clocked.handle.Reads.Asked
-  -- host
+  -- the host
   check : Promised ports.check.Statement.statement ports.check.Reads.Asked
   port-of : Promised ports.port_of.Statement.statement ports.port_of.Reads.Asked
   part-of : Promised ports.part_of.Statement.statement ports.part_of.Reads.Asked

@@ -111,7 +111,7 @@ pub record OneOutcome : Type 0 where
   of-command : Settles pec.of_command.Reads.Post (λ κ z e. leaves z []) (λ κ a. leaves (remainder 15 polynomial15 16 (bitsOf 16 (a .0))) [])
   remainder-10 : Settles pec.remainder_10.Reads.Post (λ κ z e. leaves z []) (λ κ a. leaves (remainder 10 polynomial10 0 (bitsOf 64 (a .0))) [])
   two-bytes : Settles check_words.two_bytes.Reads.Post (λ κ z e. leaves z []) (λ κ a. leaves (twoBytes (a .0)) [])
-  -- pec
+  -- the check words
   command-check : Settles check_words.command_check.Reads.Post (λ κ z e. leaves z []) (λ κ a. leaves (commandCheck (a .0)) [])
   command-right : Settles check_words.command_right.Reads.Post (λ κ z e. leaves z []) (λ κ a. leaves (commandRight (now (a .0))) [])
   data-pec : Settles remainders.data_pec.Reads.Post (λ κ z e. leaves z []) (λ κ a. leaves (dataPec (now (a .0)) (a .1 .0)) [])
@@ -124,7 +124,7 @@ pub record OneOutcome : Type 0 where
   pec15-by-table : Settles remainders.pec15_by_table.Reads.Post (λ κ z e. leaves z []) (λ κ a. leaves (pec15 (now (a .0))) [])
   sealed : Settles check_words.sealed.Reads.Post (λ κ z e. leaves z []) (λ κ a. leaves (now (a .0) ++ seal (now (a .0)) (a .1 .0)) [])
   seal : Settles remainders.seal.Reads.Post (λ κ z e. leaves z []) (λ κ a. leaves (seal (now (a .0)) (a .1 .0)) [])
-  -- monitor
+  -- one monitor
   command-of : Settles records.command_of.Reads.Post (λ κ z e. leaves z []) (λ κ a. leaves (commandOf (a .0) commands) [])
   frame-length : Settles records.frame_length.Reads.Post (λ κ z e. leaves z [])
       (λ κ a. leaves (cond (leb (a .1 .0) mostMonitors) (frameLength (a .0) (a .1 .0)) 0) [])
@@ -138,7 +138,7 @@ pub record OneOutcome : Type 0 where
       (λ κ a. leaves tt (cond (isRecord (now (a .1 .1 .0)) && leb 6 (length (now (a .1 .1 .1 .0)))) (written (a .0) (a .1 .0) (now (a .1 .1 .1 .0)) (now (a .1 .1 .0))) (now (a .1 .1 .0)) ∷ []))
   act : Settles monitor.act.Reads.Post (λ κ z e. leaves z (now (e .1 .0) ∷ []))
       (λ κ a. leaves (isRecord (now (a .1 .0)) && takes (a .0) (now (a .1 .1 .0))) (cond (isRecord (now (a .1 .0))) (keeps (a .0) (now (a .1 .1 .0)) (now (a .1 .0))) (now (a .1 .0)) ∷ []))
-  -- chain
+  -- the chain
   sound-table : Settles judging.sound.Reads.Post (λ κ z e. leaves z []) (λ κ a. leaves (sound (now (a .0))) [])
   sound-count : Settles judging.sound_count.Reads.Post (λ κ z e. leaves z []) (λ κ a. leaves (cond (sound (now (a .0))) (monitors (now (a .0))) 0) [])
   whole-table : Settles judging.whole_table.Reads.Post (λ κ z e. leaves z []) (λ κ a. leaves (wholeTable (a .1 .0) (now (a .0))) [])
@@ -155,7 +155,7 @@ pub record OneOutcome : Type 0 where
       (λ κ a. leaves (cond (repliesInto (a .1 .0) (now (a .0)) (length (now (a .1 .1 .0)))) (replyLength (a .1 .0) (monitors (now (a .0)))) 0) (cond (repliesInto (a .1 .0) (now (a .0)) (length (now (a .1 .1 .0)))) (replied (a .1 .0) (monitors (now (a .0))) (now (a .0)) (now (a .1 .1 .0))) (now (a .1 .1 .0)) ∷ []))
   handle : Settles chain.handle.Reads.Post (λ κ z e. leaves z (now (e .0) ∷ now (e .1 .1 .0) ∷ []))
       (λ κ a. leaves (answer (now (a .0)) (now (a .1 .0)) (length (now (a .1 .1 .0)))) (tableAfter (now (a .0)) (now (a .1 .0)) (length (now (a .1 .1 .0))) ∷ replyAfter (now (a .0)) (now (a .1 .0)) (now (a .1 .1 .0)) ∷ []))
-  -- loads
+  -- the load
   codes-of : Settles thresholds.codes_of.Reads.Post (λ κ z e. leaves z []) (λ κ a. leaves (codesOf (a .0)) [])
   over-threshold : Settles thresholds.over_threshold.Reads.Post (λ κ z e. leaves z []) (λ κ a. leaves (vov (now (a .0))) [])
   under-threshold : Settles thresholds.under_threshold.Reads.Post (λ κ z e. leaves z []) (λ κ a. leaves (vuv (now (a .0))) [])
@@ -168,7 +168,7 @@ pub record OneOutcome : Type 0 where
       (λ κ a. leaves (isRecord (now (a .0)) && eqb (length (now (a .1 .0))) cellCount) (cond (isRecord (now (a .0)) && eqb (length (now (a .1 .0))) cellCount) (load (now (a .1 .0)) (now (a .0))) (now (a .0)) ∷ []))
   load : Settles loads.load.Reads.Post (λ κ z e. leaves z (now (e .0) ∷ []))
       (λ κ a. leaves (loaded (now (a .0)) (a .1 .0) (now (a .1 .1 .0))) (tableAfterLoad (now (a .0)) (a .1 .0) (now (a .1 .1 .0)) ∷ []))
-  -- clocked
+  -- the clocked engine
   start : Settles clock_state.start.Reads.Post (λ κ z e. leaves z (now (e .0) ∷ [])) (λ κ a. leaves tt (idle ∷ []))
   seen-in : Settles clock_state.seen_in.Reads.Post (λ κ z e. leaves z []) (λ κ a. leaves (seenIn (now (a .0))) [])
   kind-in : Settles clock_state.kind_in.Reads.Post (λ κ z e. leaves z []) (λ κ a. leaves (kindIn (now (a .0))) [])
@@ -182,7 +182,7 @@ pub record OneOutcome : Type 0 where
       (λ κ a. leaves (looked (clockOf (now (a .0))) (a .1 .0) (length (now (a .1 .1 .0)))) (outAfter (clockOf (now (a .0))) (a .1 .0) (now (a .1 .1 .0)) ∷ []))
   handle-clocked : Settles clocked.handle.Reads.Post (λ κ z e. leaves z (now (e .0) ∷ now (e .1 .1 .0) ∷ []))
       (λ κ a. leaves (answer (now (a .0)) (now (a .1 .0)) (length (now (a .1 .1 .0)))) (tableAfter (now (a .0)) (now (a .1 .0)) (length (now (a .1 .1 .0))) ∷ replyAfter (now (a .0)) (now (a .1 .0)) (now (a .1 .1 .0)) ∷ []))
-  -- host
+  -- the host
   check : Settles ports.check.Reads.Post (λ κ z e. leaves z []) (λ κ a. leaves (checked (now (a .0))) [])
   port-of : Settles ports.port_of.Reads.Post (λ κ z e. leaves z []) (λ κ a. leaves (portOf (now (a .0)) (now (a .1 .0)) (a .1 .1 .0) (a .1 .1 .1 .0)) [])
   part-of : Settles ports.part_of.Reads.Post (λ κ z e. leaves (lying z) []) (λ κ a. leaves (partOf (a .0) (a .1 .0) (a .1 .1 .0) (a .1 .1 .1 .0)) [])
