@@ -1,23 +1,17 @@
-// The bytes that are tried, and what is compared.
+// The bytes that are tried and compared.
 ghost use mathlib.Core.Path.{_≡_};
 ghost use mathlib.Core.Bool.{true};
 ghost use Prim.Native.Nat.{ℕ, _≤_, _<_};
 ghost use lib.ListN.{getD};
-use crate::say::words;
-use crate::words::REFUSED;
-use crate::words::TAKEN;
-use chain::Numbers;
 
 // A table of up to 33 records, a frame, or a reply buffer: as much of it as a case asks for.
 pub(crate) type Bytes = [u8; 2310];
 
-// What a reply buffer holds before.
-const BEFORE: u8 = 0xee;
-
 // Do a and b hold the same bytes from one place up to another?
 pub(crate) fn same(a: Bytes, b: Bytes, from: usize, to: usize) -> bool
     requires { ⌜ to ≤ 2310 ⌝ }
-    ensures { λ r. ⌜ (r ≡ true → (k : ℕ) → from ≤ k → k < to → getD a k 0 ≡ getD b k 0) × (((k : ℕ) → from ≤ k → k < to → getD a k 0 ≡ getD b k 0) → r ≡ true) ⌝ }
+    ensures { λ r. ⌜ (r ≡ true → (k : ℕ) → from ≤ k → k < to → getD a k 0 ≡ getD b k 0) ⌝ }
+    ensures { λ r. ⌜ (((k : ℕ) → from ≤ k → k < to → getD a k 0 ≡ getD b k 0) → r ≡ true) ⌝ }
 {
     let mut i = from;
     while i < to {
@@ -30,14 +24,14 @@ pub(crate) fn same(a: Bytes, b: Bytes, from: usize, to: usize) -> bool
 }
 
 // A number's last bytes laid over others from a place on; where they are more than eight, over and over.
-pub(crate) fn lay(list: Bytes, at: usize, count: usize, number: u64) -> Bytes {
+pub(crate) fn lay(list: Bytes, at: u64, count: u64, number: u64) -> Bytes {
     let mut laid = list;
     let mut rest = number;
     let mut i = count;
     while i > 0 {
         i -= 1;
-        laid[(at % 2310 + i % 2310) % 2310] = (rest % 256) as u8;
-        rest = rest % 256 * 0x0100_0000_0000_0000 + rest / 256;
+        laid[((at % 2310 + i % 2310) % 2310) as usize] = (rest % 256) as u8;
+        rest = rest << 56 | rest >> 8;
     }
     laid
 }
@@ -57,54 +51,4 @@ pub(crate) fn two() -> Bytes {
         \xbd\xbe\xbf\xc0\xc1\xc2\xc3\xc4\xc5\xc6\xc7\xc8\xc9\xca\xcb\xcc\xcd\xce\xcf\xd0\x09\x00",
     );
     table
-}
-
-// What came of a frame: the table and the reply buffer after it, and the numbers.
-pub(crate) struct Came {
-    pub table: Bytes,
-    pub buffer: Bytes,
-    pub numbers: Numbers,
-}
-
-// The first `size` bytes of a frame handled by the first `end` of a table, with so much room for a reply.
-pub(crate) fn handled(table: Bytes, end: usize, frame: Bytes, size: usize, room: usize) -> Came {
-    let mut after = table;
-    let mut buffer = [BEFORE; 2310];
-    let end = end % 2311;
-    let size = size % 2311;
-    let room = room % 2311;
-    let numbers = chain::numbers_of(chain::handle(
-        &mut after[0..end],
-        &frame[0..size],
-        &mut buffer[0..room],
-    ));
-    Came {
-        table: after,
-        buffer,
-        numbers,
-    }
-}
-
-// Says what came. Are they the numbers expected, with a reply of `first` and `second` in turn, and the buffer past it as before?
-pub(crate) fn told(
-    came: Came,
-    number: u64,
-    taken: u64,
-    reply: u64,
-    first: u64,
-    second: u64,
-) -> bool {
-    let numbers = came.numbers;
-    let buffer = came.buffer;
-    let its = numbers.number as u64;
-    let took = numbers.taken as u64;
-    let long = numbers.reply as u64;
-    if its != 0 {
-        words(REFUSED, its, 0, 0, 0);
-    } else {
-        words(TAKEN, took, long, 0, 0);
-    }
-    let each = lay([BEFORE; 2310], 0, reply as usize, first);
-    let both = lay(each, 8, (reply / 16 % 2 * 8) as usize, second);
-    (its == number) & (took == taken) & (long == reply) & same(buffer, both, 0, 2310)
 }

@@ -28,24 +28,24 @@ const ROWS: [u64; 16] = [
     2_32_000_003_6_000,
 ];
 
-// Says what came, and whether it is what was expected.
-fn told(came: Built, number: u64, length: u64) -> bool {
+// Says what came: a refusal's number, or else the length, by which the two numbers of a row are one.
+fn told(came: Built) -> u64 {
     match came {
         Built::Unbuilt(refusal) => {
-            let its = refusals::number_of(refusal) as u64;
-            words(REFUSED, its, 0, 0, 0);
-            its == number
+            let number = refusals::number_of(refusal) as u64;
+            words(REFUSED, number, 0, 0, 0);
+            number * 1000
         }
-        Built::Length(long) => {
-            words(LENGTH, long as u64, 0, 0, 0);
-            (number == 0) & (long as u64 == length)
+        Built::Length(length) => {
+            words(LENGTH, length as u64, 0, 0, 0);
+            length as u64
         }
     }
 }
 
 pub(crate) fn build(i: usize) -> bool {
     let row = ROWS[i % 16];
-    let which = (row / 1_000_000_000_000) as usize % 4;
+    let which = row / 1_000_000_000_000 % 4;
     let n = row / 10_000_000_000 % 100;
     let values = row / 10_000_000 % 1000;
     let room = row / 10_000 % 1000;
@@ -53,7 +53,12 @@ pub(crate) fn build(i: usize) -> bool {
     let mut buffer = [0xeeu8; 1000];
     let v = values as usize;
     let r = room as usize;
-    let came = host::build(CODES[which], n as usize, &zeros[0..v], &mut buffer[0..r]);
+    let came = host::build(
+        CODES[which as usize],
+        n as usize,
+        &zeros[0..v],
+        &mut buffer[0..r],
+    );
     words(BUILDS + which, n, values, room, 0);
-    told(came, row / 1000 % 10, row % 1000)
+    told(came) == row % 10_000
 }

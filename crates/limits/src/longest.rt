@@ -1,53 +1,43 @@
 // A write to the longest chain: each of 32 monitors is sent its own position, so that any other order would show.
 use crate::bench::Bytes;
-use crate::bench::handled;
 use crate::bench::lay;
 use crate::bench::same;
-use crate::bench::told;
-use crate::frames::head;
+use crate::deeds::handled;
+use crate::frames::frame;
 use crate::frames::payload;
-use crate::say::text;
 use crate::say::words;
 use crate::tally::count;
 use crate::words::OWN;
-use crate::words::READS;
 
-struct Own {
-    frame: Bytes,
-    table: Bytes,
-}
-
-// The position six times for each monitor, in the frame and in its configuration B. The first payload is that of monitor 32.
-fn positions() -> Own {
-    let mut frame = head(0x0024, 0);
-    let mut table = [0u8; 2310];
+// A frame with the position of each monitor six times. The first payload is that of monitor 32.
+fn positions() -> Bytes {
+    let mut sent = frame(0x0024_0000_0000_0000, 0, 0, 0);
     let mut i = 0;
     while i < 32 {
-        let six = (i as u64 + 1) * 0x0101_0101_0101;
-        frame = payload(frame, 252 - 8 * i, six * 65536);
-        table = lay(table, 70 * i + 6, 6, six);
+        let more = payload(sent, 252 - 8 * i, (i + 1) * 0x0101_0101_0101_0000);
+        sent = more;
         i += 1;
     }
-    Own { frame, table }
+    sent
 }
 
-// How many of 32 monitors hold their own position.
-fn holding(table: Bytes, own: Bytes) -> u64 {
+// How many of 32 monitors hold their own position in configuration B.
+fn holding(table: Bytes) -> u64 {
     let mut n = 0;
     let mut i = 0;
     while i < 32 {
-        n = count(n, same(table, own, 70 * i + 6, 70 * i + 12));
+        let own = lay(table, 70 * i + 6, 6, (i + 1) * 0x0101_0101_0101);
+        n = count(n, same(table, own, 0, 2310));
         i += 1;
     }
     n
 }
 
 pub(crate) fn write() -> bool {
-    let own = positions();
-    let came = handled([0u8; 2310], 2240, own.frame, 260, 0);
-    let n = holding(came.table, own.table);
-    text(READS + 12 + 1);
-    let right = told(came, 0, 32, 0, 0, 0);
-    words(OWN, n, 0, 0, 0);
-    right & (n == 32)
+    let came = handled([0u8; 2310], positions(), 32_260_000_000_000_000);
+    let table = came.table;
+    let numbers = came.numbers;
+    let n = holding(table);
+    words(OWN, numbers.taken as u64, numbers.reply as u64, n, 0);
+    (n == 32) & (numbers.taken == 32) & (numbers.reply == 0)
 }

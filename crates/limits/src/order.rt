@@ -1,80 +1,61 @@
 // Each refusal of a frame by itself, and where a later one would hold too: the first is given, and nothing changes.
-use crate::bench::handled;
-use crate::bench::lay;
-use crate::bench::same;
-use crate::bench::told;
-use crate::bench::two;
-use crate::frames::head;
-use crate::say::text;
-use crate::words::REFUSALS;
-use crate::words::STAY;
+use crate::cases::Case;
+use crate::cases::tried;
+use crate::words::ORDERED;
 
-// The code, and the bits of its check that are wrong. Then the second counter before; bytes of the frame; room; a refusal's number, or
-// 0 and how many take it.
-const ROWS: [u64; 40] = [
-    0x0002_0000,
-    64_20_16_1_0,
-    0x0002_0000,
-    64_03_16_1_0,
+// Two numbers for each case: the first two of commands.rt.
+const ROWS: [u64; 38] = [
+    0x0002_0000_0500_4000,
+    02_02_020_016_1_00_0_00_00_3,
+    0x0002_0000_0500_4000,
+    02_02_003_016_1_00_0_00_00_3,
     // under four bytes there is no whole check
-    0x0002_0000,
-    09_03_16_2_0,
-    0x0002_0000,
-    09_00_16_2_0,
-    0x0002_d400,
-    09_03_16_2_0,
+    0x0002_0000_0500_0900,
+    01_02_003_016_2_00_0_00_00_3,
+    0x0002_0000_0500_0900,
+    01_02_000_016_2_00_0_00_00_3,
+    0x0002_d400_0500_0900,
+    01_02_003_016_2_00_0_00_00_3,
     // the check of RDCFGA is 2b 0a
-    0x0002_0001,
-    09_20_16_3_0,
-    0x0002_0002,
-    09_20_16_3_0,
-    0x0002_0002,
-    09_04_16_3_0,
-    0x0003_0100,
-    09_04_16_3_0,
-    0x0003_0000,
-    09_04_16_4_0,
-    0x0003_0000,
-    09_20_16_4_0,
-    0x0003_0000,
-    09_07_00_4_0,
-    0x0002_0000,
-    09_19_16_5_0,
-    0x0002_0000,
-    09_04_16_5_0,
-    0x0028_0000,
-    09_05_16_5_0,
-    0x0001_0000,
-    09_12_16_5_0,
-    0x0002_0000,
-    09_19_15_5_0,
-    0x0002_0000,
-    09_20_15_6_0,
-    0x0002_0000,
-    09_20_00_6_0,
-    0x0028_0000,
-    09_04_00_0_2,
+    0x0002_0001_0500_0900,
+    01_02_020_016_3_00_0_00_00_3,
+    0x0002_0002_0500_0900,
+    01_02_020_016_3_00_0_00_00_3,
+    0x0002_0002_0500_0900,
+    01_02_004_016_3_00_0_00_00_3,
+    0x0003_0100_0500_0900,
+    01_02_004_016_3_00_0_00_00_3,
+    0x0003_0000_0500_0900,
+    01_02_004_016_4_00_0_00_00_3,
+    0x0003_0000_0500_0900,
+    01_02_020_016_4_00_0_00_00_3,
+    0x0003_0000_0500_0900,
+    01_02_007_000_4_00_0_00_00_3,
+    0x0002_0000_0500_0900,
+    01_02_019_016_5_00_0_00_00_3,
+    0x0002_0000_0500_0900,
+    01_02_004_016_5_00_0_00_00_3,
+    0x0028_0000_0500_0900,
+    01_02_005_016_5_00_0_00_00_3,
+    0x0001_0000_0500_0900,
+    01_02_012_016_5_00_0_00_00_3,
+    0x0002_0000_0500_0900,
+    01_02_019_015_5_00_0_00_00_3,
+    0x0002_0000_0500_0900,
+    01_02_020_015_6_00_0_00_00_3,
+    0x0002_0000_0500_0900,
+    01_02_020_000_6_00_0_00_00_3,
 ];
 
 pub(crate) fn refusal(i: usize) -> bool {
-    let k = i % 20 * 2;
-    let command = ROWS[k];
-    let row = ROWS[k + 1];
-    let number = row / 10 % 10;
-    let before = lay(two(), 138, 1, row / 1_000_000);
-    let came = handled(
-        before,
-        140,
-        head(command / 65536, command % 65536),
-        (row / 10_000 % 100) as usize,
-        (row / 100 % 100) as usize,
-    );
-    let after = came.table;
-    text(REFUSALS + i % 20);
-    let right = told(came, number, row % 10, 0, 0, 0);
-    let stay = same(before, after, 0, 2310);
-    if right & stay {
-        text(STAY);
-    }
-    right & (stay == (number != 0))
+    let k = i % 19 * 2;
+    let c = Case {
+        given: ROWS[k],
+        sizes: ROWS[k + 1],
+        first: 0,
+        second: 0,
+        at_first: 0,
+        at_second: 0,
+    };
+    tried(c, ORDERED + (i % 19) as u64)
 }

@@ -5,6 +5,8 @@ use crate::words::AS_BEFORE;
 use crate::words::AT;
 use crate::words::MONITOR;
 use crate::words::SIZE;
+use crate::words::SPACE;
+use crate::words::Text;
 use crate::words::WORDS;
 use libc::STDOUT_FILENO;
 
@@ -22,34 +24,40 @@ fn one(byte: u8, number: u64) -> bool {
     false
 }
 
-// The words of a number, with the numbers in them.
-pub(crate) fn words(k: usize, a: u64, b: u64, c: u64, d: u64) {
-    let text = WORDS;
+fn words_of(all: Text, k: u64, a: u64, b: u64, c: u64, d: u64) {
+    let mut left = k;
     let mut first = a;
     let mut second = b;
     let mut third = c;
-    let mut part = 0;
     let mut i = 0;
     while i < SIZE {
-        if text[i] == b'|' {
-            part += 1;
-        } else if part == k {
-            if one(text[i], first) {
-                first = second;
-                second = third;
-                third = d;
+        let byte = all[i];
+        if left > 0 {
+            if byte == b'|' {
+                left -= 1;
             }
+        } else if byte == b'|' {
+            return;
+        } else if one(byte, first) {
+            first = second;
+            second = third;
+            third = d;
         }
         i += 1;
     }
 }
 
-pub(crate) fn text(k: usize) {
+// The words of a number, with the numbers in them.
+pub(crate) fn words(k: u64, a: u64, b: u64, c: u64, d: u64) {
+    words_of(WORDS, k, a, b, c, d);
+}
+
+pub(crate) fn text(k: u64) {
     words(k, 0, 0, 0, 0);
 }
 
 fn byte(b: u8) {
-    io::write_all(STDOUT_FILENO, b" ");
+    text(SPACE);
     io::print_hex(STDOUT_FILENO, b as u64, 2);
 }
 
@@ -81,7 +89,7 @@ pub(crate) fn changes(before: Bytes, after: Bytes) {
     while i < 140 {
         if i % 70 == 0 {
             in_run = false;
-            words(MONITOR, (i / 70 + 1) as u64, 0, 0, 0);
+            words(MONITOR, i as u64 / 70 + 1, 0, 0, 0);
             if same(before, after, i, i + 70) {
                 text(AS_BEFORE);
             }

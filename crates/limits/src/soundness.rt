@@ -7,8 +7,8 @@ use crate::words::NOT_SOUND;
 use crate::words::OF_SIZE;
 use crate::words::WITH_BYTE;
 
-// Bytes of a table; a place and its value, the others being 0; 1 where it is sound.
-const TABLES: [u64; 16] = [
+// The bytes of a table; a place and its value, the others being 0; 1 where the table is sound.
+const ROWS: [u64; 16] = [
     0000_000_000_0,
     0069_000_000_0,
     0070_000_000_1,
@@ -29,12 +29,12 @@ const TABLES: [u64; 16] = [
 ];
 
 pub(crate) fn sound(i: usize) -> bool {
-    let row = TABLES[i % 16];
-    let size = row / 10_000_000;
+    let row = ROWS[i % 16];
+    let size = row / 10_000_000 % 2311;
     let place = row / 10_000 % 1000;
     let value = row / 10 % 1000;
-    let table = lay([0u8; 2310], place as usize, 1, value);
-    let end = size as usize % 2311;
+    let table = lay([0u8; 2310], place, 1, value);
+    let end = size as usize;
     if value == 0 {
         words(OF_SIZE, size, 0, 0, 0);
     } else {

@@ -3,9 +3,7 @@ ghost use mathlib.Core.Path.{_≡_};
 ghost use mathlib.Core.Bool.{true, false};
 ghost use Prim.Native.Nat.{_+_, _<_};
 use crate::say::text;
-use crate::say::words;
 use crate::words::END;
-use crate::words::SUMMARY;
 use crate::words::WRONG;
 
 pub(crate) struct Tally {
@@ -37,8 +35,4 @@ pub(crate) fn ended(t: Tally, right: bool) -> Tally
         lines: count(t.lines, true),
         right: count(t.right, right),
     }
-}
-
-pub(crate) fn summary(t: Tally) {
-    words(SUMMARY, t.lines, t.right, 0, 0);
 }

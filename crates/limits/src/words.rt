@@ -1,110 +1,92 @@
-// All that is written, in words that are called by their number: a bar stands before each of them, and the first are 1.
-pub(crate) const SIZE: usize = 2205;
+// All that is written, in words that are called by their number: a bar stands before each, and the first are 1.
+pub(crate) type Text = [u8; 2477];
 
-pub(crate) const REFUSED: usize = 1;
+pub(crate) const SIZE: usize = 2477;
 
-pub(crate) const TAKEN: usize = 2;
+pub(crate) const REFUSED: u64 = 1;
 
-pub(crate) const AT: usize = 3;
+pub(crate) const TAKEN: u64 = 2;
 
-pub(crate) const MONITOR: usize = 4;
+pub(crate) const SPACE: u64 = 3;
 
-pub(crate) const AS_BEFORE: usize = 5;
+pub(crate) const AT: u64 = 4;
 
-pub(crate) const SENT: usize = 6;
+pub(crate) const MONITOR: u64 = 5;
 
-pub(crate) const REPLY: usize = 7;
+pub(crate) const AS_BEFORE: u64 = 6;
 
-pub(crate) const WRONG: usize = 8;
+pub(crate) const SENT: u64 = 7;
 
-pub(crate) const END: usize = 9;
+pub(crate) const REPLY: u64 = 8;
 
-pub(crate) const SUMMARY: usize = 10;
+pub(crate) const WRONG: u64 = 9;
 
-// The headings of the sections.
-pub(crate) const TABLES: usize = 11;
+pub(crate) const END: u64 = 10;
 
-pub(crate) const ROOM: usize = 12;
+pub(crate) const SUMMARY: u64 = 11;
 
-pub(crate) const COMMANDS: usize = 13;
+pub(crate) const TABLES: u64 = 12;
 
-pub(crate) const LONGEST: usize = 14;
+pub(crate) const ROOM: u64 = 13;
 
-pub(crate) const ORDER: usize = 15;
+pub(crate) const COMMANDS: u64 = 14;
 
-pub(crate) const DAMAGE: usize = 16;
+pub(crate) const LONGEST: u64 = 15;
 
-pub(crate) const COUNTERS: usize = 17;
+pub(crate) const ORDER: u64 = 16;
 
-pub(crate) const LOADS: usize = 18;
+pub(crate) const DAMAGE: u64 = 17;
 
-pub(crate) const HOSTS: usize = 19;
+pub(crate) const COUNTERS: u64 = 18;
 
-pub(crate) const VOLTS: usize = 20;
+pub(crate) const LOADS: u64 = 19;
 
-// Of tables.
-pub(crate) const OF_SIZE: usize = 2205;
+pub(crate) const HOSTS: u64 = 20;
 
-pub(crate) const WITH_BYTE: usize = 22;
+pub(crate) const VOLTS: u64 = 21;
 
-pub(crate) const NOT_SOUND: usize = 23;
+pub(crate) const OF_SIZE: u64 = 22;
 
-pub(crate) const IS_SOUND: usize = 24;
+pub(crate) const WITH_BYTE: u64 = 23;
 
-// Of monitors of 0: what is tried, and what is said of the buffer.
-pub(crate) const ZEROS: usize = 25;
+pub(crate) const NOT_SOUND: u64 = 24;
 
-pub(crate) const BUFFER: usize = 27;
+pub(crate) const IS_SOUND: u64 = 25;
 
-// Of longest.
-pub(crate) const OWN: usize = 30;
+pub(crate) const STAYS: u64 = 26;
 
-// Of a refusal.
-pub(crate) const STAY: usize = 31;
+pub(crate) const OWN: u64 = 34;
 
-// Of loads.
-pub(crate) const LOADED: usize = 32;
+pub(crate) const LOADED: u64 = 35;
 
-pub(crate) const FLAGS: usize = 33;
+pub(crate) const FLAGS: u64 = 36;
 
-pub(crate) const AND: usize = 34;
+pub(crate) const AND: u64 = 37;
 
-pub(crate) const TABLE_STAYS: usize = 35;
+pub(crate) const BUILDS: u64 = 38;
 
-// Of frames of the host: each command of them.
-pub(crate) const BUILDS: usize = 36;
+pub(crate) const LENGTH: u64 = 42;
 
-pub(crate) const LENGTH: usize = 40;
+pub(crate) const READING: u64 = 43;
 
-// Of readings.
-pub(crate) const READING: usize = 41;
+pub(crate) const IS_CLEARED: u64 = 44;
 
-pub(crate) const CLEARED: usize = 42;
+pub(crate) const CODES: u64 = 45;
 
-pub(crate) const CODES: usize = 43;
+pub(crate) const NONE: u64 = 46;
 
-pub(crate) const NONE: usize = 44;
+pub(crate) const WHOLE: u64 = 47;
 
-pub(crate) const WHOLE: usize = 45;
+pub(crate) const MICROVOLTS: u64 = 48;
 
-// Each code, and its microvolts.
-pub(crate) const MICROVOLTS: usize = 46;
+pub(crate) const ORDERED: u64 = 58;
 
-// The commands that read.
-pub(crate) const READS: usize = 56;
+pub(crate) const CASES: u64 = 77;
 
-// The commands that change.
-pub(crate) const CHANGES: usize = 68;
-
-// The refusals in their order.
-pub(crate) const REFUSALS: usize = 89;
-
-// The loads.
-pub(crate) const LOADINGS: usize = 109;
-
-pub(crate) const WORDS: [u8; 2205] = *b"\
+pub(crate) const WORDS: Text = *b"\
     |: refused #\
     |: taken by #, reply #\
+    | \
     | at #:\
     |; monitor #\
     | as before\
@@ -127,17 +109,18 @@ pub(crate) const WORDS: [u8; 2205] = *b"\
     |two monitors of 0, at # the value #\
     |: not sound\
     |: sound\
-    |MUTE, monitors #\
-    |RDCFGA, monitors #, room #\
     |\
     |, buffer as before\
     |, each 00 00 00 00 00 00 03 e3, bytes past it as before\
-    |; monitors that hold their own #\
     |, table and buffer as before\
+    |, table as before\
+    |\
+    |\
+    |\
+    |WRCFGB: taken by #, reply #; monitors that hold their own #\
     |: loaded\
     |; flags\
     | and\
-    |, table as before\
     |WRCFGB, monitors #, value bytes #, room #\
     |RDCFGB, monitors #, value bytes #, room #\
     |MUTE, monitors #, value bytes #, room #\
@@ -148,22 +131,16 @@ pub(crate) const WORDS: [u8; 2205] = *b"\
     |summary of codes #\
     |: none\
     |: cells #, lowest @, highest @, total @\
-    |code -10000|: microvolts 0\
-    |code 0|: microvolts 1500000\
-    |code 32767|: microvolts 6415050\
-    |code -32767|: microvolts -3415050\
-    |code -32768|: microvolts -3415200\
-    |RDCFGA|RDCFGB|RDSTATC|RDSTATD|RDSID|RDRR\
-    |RDCVA|RDCVB|RDCVC|RDCVD|RDCVE|RDCVF\
-    |WRCFGA|WRCFGB|CLRFLAG|CLOVUV|WRRR, locked|ULRR|WRRR, after ULRR\
-    |MUTE, after ULRR|WRRR, after ULRR and MUTE|RDRR, after ULRR\
-    |MUTE|UNMUTE|RSTCC|CLRCELL\
-    |WRCFGB, the second monitor's data damaged\
-    |WRCFGB, the first monitor's check damaged\
-    |WRCFGB, both damaged\
-    |WRCFGB, counter bits 9 and 63\
-    |MUTE|RSTCC\
-    |CLOVUV, then\
+    |code -10000\
+    |: microvolts 0\
+    |code 0\
+    |: microvolts 1500000\
+    |code 32767\
+    |: microvolts 6415050\
+    |code -32767\
+    |: microvolts -3415050\
+    |code -32768\
+    |: microvolts -3415200\
     |unsound table\
     |unsound table, three bytes\
     |three bytes of RDCFGA\
@@ -183,7 +160,51 @@ pub(crate) const WORDS: [u8; 2205] = *b"\
     |RDCFGA, nineteen bytes, no room\
     |RDCFGA, room 15\
     |RDCFGA, room 0\
+    |MUTE, monitors #\
+    |MUTE, monitors #\
+    |MUTE, monitors #\
+    |MUTE, monitors #\
+    |RDCFGA, monitors #, room #\
+    |RDCFGA, monitors #, room #\
+    |RDCFGA, monitors #, room #\
+    |RDCFGA, monitors #, room #\
+    |RDCFGA, monitors #, room #\
+    |RDCFGA, monitors #, room #\
+    |RDCFGA, monitors #, room #\
+    |RDCFGA, monitors #, room #\
+    |RDCFGA\
+    |RDCFGB\
+    |RDSTATC\
+    |RDSTATD\
+    |RDSID\
+    |RDRR\
+    |RDCVA\
+    |RDCVB\
+    |RDCVC\
+    |RDCVD\
+    |RDCVE\
+    |RDCVF\
+    |WRCFGA\
+    |WRCFGB\
+    |CLRFLAG\
+    |CLOVUV\
+    |WRRR, locked\
+    |ULRR\
+    |WRRR, after ULRR\
+    |MUTE, after ULRR\
+    |WRRR, after ULRR and MUTE\
+    |RDRR, after ULRR\
+    |MUTE\
+    |UNMUTE\
+    |RSTCC\
+    |CLRCELL\
     |MUTE, room 0\
+    |WRCFGB, the second monitor's data damaged\
+    |WRCFGB, the first monitor's check damaged\
+    |WRCFGB, both damaged\
+    |WRCFGB, counter bits 9 and 63\
+    |MUTE\
+    |RSTCC\
     |unsound table\
     |unsound table, position 0\
     |position 0\
@@ -199,4 +220,5 @@ pub(crate) const WORDS: [u8; 2205] = *b"\
     |VUV -1, VOV 0, code -17\
     |VUV 100, VOV 0, sixteen codes 800\
     |the same cell, code 1600 after 1601\
+    |CLOVUV, then\
     |";

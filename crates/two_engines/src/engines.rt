@@ -1,144 +1,92 @@
 // One frame through both engines, from equal tables and equal reply buffers.
 ghost use Prim.Native.Nat.{_<_, _≤_};
-ghost use lib.ListN.{length};
-use crate::book;
-use crate::book::Book;
-use crate::digest;
-use crate::frames::kind_of;
-use crate::luck::draw;
-use crate::tables::Table;
+use crate::book::BARES;
+use crate::book::COMMANDS;
+use crate::book::FRAMES;
+use crate::book::NUMBERS;
+use crate::book::OFFERED;
+use crate::book::READS;
+use crate::book::TOOK;
+use crate::book::WRITES;
+use crate::book::count;
+use crate::book::numbered;
+use crate::digest::adler;
+use crate::frames::FIRST_BARE;
+use crate::frames::FIRST_WRITE;
+use crate::outcomes::BEFORE;
+use crate::outcomes::Outcome;
+use crate::outcomes::TABLE;
+use crate::outcomes::compared;
+use crate::outcomes::of;
+use crate::outcomes::refused;
 use crate::tables::spoil;
+use crate::world::World;
 use chain::Numbers;
+use std::num::wrapping_add_usize;
 
-// More than any reply has.
-pub(crate) const REPLY_ROOM: usize = 272;
-
-// What a reply buffer holds before.
-pub(crate) const BEFORE: [u8; REPLY_ROOM] = [0xa5; REPLY_ROOM];
-
-// Room for the reply and more, and now and then a byte too little.
-fn room_of(n: usize, book: &mut Book) -> usize
-    requires { ⌜ (0 < n) × (n ≤ 32) ⌝ }
-    ensures { λ r. ⌜ r ≤ 272 ⌝ }
-{
-    if draw(book, 16) == 0 {
-        return 8 * n - 1;
+// By the clocked engine, or by the whole-frame engine.
+fn handle(by_clock: bool, table: &mut [u8], frame: &[u8], reply: &mut [u8]) -> Numbers {
+    if by_clock {
+        return chain::numbers_of(clocked::handle(table, frame, reply));
     }
-    8 * n + 16
+    chain::numbers_of(chain::handle(table, frame, reply))
 }
 
-// What came of a frame: the numbers, the table and the reply buffer, whole.
-pub(crate) struct Outcome {
-    pub came: Numbers,
-    pub table: Table,
-    pub reply: [u8; REPLY_ROOM],
-}
-
-// An outcome with the reply buffer as it was.
-pub(crate) fn no_reply(came: Numbers, table: Table) -> Outcome {
-    Outcome {
-        came,
-        table,
-        reply: BEFORE,
-    }
-}
-
-fn handle(table: &mut [u8], size: usize, frame: &[u8], buffer: &mut [u8], room: usize) -> Numbers
-    requires { ⌜ (size ≤ length (now table)) × (room ≤ length (now buffer)) ⌝ }
-{
-    chain::numbers_of(chain::handle(&mut table[0..size], frame, &mut buffer[0..room]))
-}
-
-fn handle_by_clock(
-    table: &mut [u8],
+// An engine over the first bytes of a table and of a reply buffer.
+pub(crate) fn through(
+    by_clock: bool,
+    lent: Outcome,
     size: usize,
     frame: &[u8],
-    buffer: &mut [u8],
     room: usize,
-) -> Numbers
-    requires { ⌜ (size ≤ length (now table)) × (room ≤ length (now buffer)) ⌝ }
-{
-    chain::numbers_of(clocked::handle(&mut table[0..size], frame, &mut buffer[0..room]))
-}
-
-// The whole-frame engine, over the first bytes of a table and of a reply buffer.
-pub(crate) fn whole(lent: Table, size: usize, frame: &[u8], room: usize) -> Outcome
+) -> Outcome
     requires { ⌜ (size ≤ 2241) × (room ≤ 272) ⌝ }
 {
     let mut table = lent;
     let mut reply = BEFORE;
-    let came = handle(&mut table, size, frame, &mut reply, room);
-    Outcome { came, table, reply }
+    let end = TABLE + size;
+    let came = handle(by_clock, &mut table[TABLE..end], frame, &mut reply[0..room]);
+    of(table, came, reply)
 }
 
-// The clocked engine, from the same.
-fn clocked(lent: Table, size: usize, frame: &[u8], room: usize) -> Outcome
-    requires { ⌜ (size ≤ 2241) × (room ≤ 272) ⌝ }
-{
-    let mut table = lent;
-    let mut reply = BEFORE;
-    let came = handle_by_clock(&mut table, size, frame, &mut reply, room);
-    Outcome { came, table, reply }
-}
-
-// Counts what differs: the numbers, any byte of the table, any byte of the buffer.
-pub(crate) fn compare(book: &mut Book, one: Outcome, other: Outcome) {
-    book::compared(book, book::same_numbers(one.came, other.came));
-    let table = one.table;
-    let other_table = other.table;
-    book::compared(book, check::same(&table, &other_table));
-    let reply = one.reply;
-    let other_reply = other.reply;
-    book::compared(book, check::same(&reply, &other_reply));
-}
-
-pub(crate) fn digest(book: &mut Book, place: usize, outcome: Outcome)
-    requires { ⌜ place < 54 ⌝ }
-{
-    digest::add_numbers(book, place, outcome.came);
-    let table = outcome.table;
-    digest::add(book, place, &table);
-    let reply = outcome.reply;
-    digest::add(book, place, &reply);
-}
-
-// What became of a frame.
-fn note(book: &mut Book, n: usize, command: usize, came: Numbers)
+// What became of a frame that was accepted.
+fn accepted(world: World, n: usize, command: usize, taken: u8) -> World
     requires { ⌜ command < 22 ⌝ }
 {
-    book::count(book, book::FRAMES, 1);
-    book::count(book, book::ALL_FRAMES, 1);
-    book::numbered(book, book::NUMBERS, came);
-    if came.number != 0 {
-        return;
+    let w = count(world, COMMANDS + command, 1);
+    if command < FIRST_WRITE {
+        return count(w, READS, 1);
     }
-    let kind = kind_of(command);
-    book::count(book, book::COMMANDS + command, 1);
-    book::count(book, book::READS + kind, 1);
-    if kind == 1 {
-        book::count(book, book::TOOK, came.taken);
-        book::count(book, book::OFFERED, n);
+    if FIRST_BARE <= command {
+        return count(w, BARES, 1);
     }
+    count(count(count(w, WRITES, 1), TOOK, taken as usize), OFFERED, n)
 }
 
-// The table as the frame leaves it.
-pub(crate) fn both(table: Table, n: usize, command: usize, frame: &[u8], book: &mut Book) -> Table
+// What became of a frame, from the table that was lent.
+fn noted(world: World, n: usize, command: usize, lent: Outcome, one: Outcome) -> World
+    requires { ⌜ command < 22 ⌝ }
+{
+    let number = one[0];
+    let mut w = numbered(count(world, FRAMES, 1), NUMBERS, 6, number);
+    if number != 0 {
+        return compared(w, one, refused(lent, number));
+    }
+    w.table = one;
+    accepted(w, n, command, one[1])
+}
+
+pub(crate) fn both(mut w: World, n: usize, command: usize, frame: &[u8]) -> World
     requires { ⌜ (0 < n) × (n ≤ 32) × (command < 22) ⌝ }
 {
-    let mut lent = table;
-    let size = spoil(&mut lent, n, book);
-    let room = room_of(n, book);
-    let one = whole(lent, size, frame, room);
-    let other = clocked(lent, size, frame, room);
-    let came = one.came;
-    note(book, n, command, came);
-    compare(book, one, other);
-    digest(book, book::WHOLE, one);
-    digest(book, book::CLOCKED, other);
-    if came.number == 0 {
-        return one.table;
-    }
-    // a refusal changes nothing
-    compare(book, one, no_reply(came, lent));
-    table
+    let table = w.table;
+    let s = spoil(table, n, w.luck);
+    let lent = s.table;
+    let one = through(false, lent, s.size, frame, s.room);
+    let other = through(true, lent, s.size, frame, s.room);
+    w.luck = s.luck;
+    w.frames = wrapping_add_usize(w.frames, 1);
+    w.whole = adler(w.whole, &one);
+    w.clocked = adler(w.clocked, &other);
+    noted(compared(w, one, other), n, command, lent, one)
 }

@@ -3,16 +3,18 @@
 ghost use Prim.Native.Nat.{_+_, _*_, _<_, _≤_};
 ghost use mathlib.Core.Path.{_≡_};
 ghost use lib.ListN.{length};
-use crate::book::Book;
 use crate::book::COMMAND_COUNT;
+use crate::luck::Drawn;
+use crate::luck::NONE;
 use crate::luck::draw;
 use crate::luck::fill;
+use crate::luck::now_and_then;
 
 // More bytes than any frame has, by more than 256.
 pub(crate) const LONGEST: usize = 600;
 
-// The paper's commands in its order: reads, writes, bare.
-const CODES: [u16; COMMAND_COUNT] = [
+// The paper's commands in its order, reads, writes, bare; and then codes beside the paper's.
+const CODES: [u16; COMMAND_COUNT + 16] = [
     0x0002,
     0x0026,
     0x0004,
@@ -35,14 +37,6 @@ const CODES: [u16; COMMAND_COUNT] = [
     0x002e,
     0x0038,
     0x0711,
-];
-
-const FIRST_WRITE: usize = 12;
-
-const FIRST_BARE: usize = 17;
-
-// Codes beside the paper's.
-const UNLISTED: [u16; 16] = [
     0x0000,
     0x0003,
     0x0005,
@@ -61,139 +55,183 @@ const UNLISTED: [u16; 16] = [
     0x8002,
 ];
 
-const BITS: [u8; 8] = [1, 2, 4, 8, 16, 32, 64, 128];
+pub(crate) const FIRST_WRITE: usize = 12;
 
-// A read is 0, a write 1, a bare command 2.
-pub(crate) fn kind_of(command: usize) -> usize
-    ensures { λ r. ⌜ r ≤ 2 ⌝ }
+pub(crate) const FIRST_BARE: usize = 17;
+
+// One bit turned over, from a byte on, the lowest of that byte counted as 0. No byte has a bit that was not drawn.
+fn flip(bytes: &mut [u8], from: usize, bit: usize)
+    requires { ⌜ (from < 600) × (bit ≤ 65536) ⌝ }
 {
-    if command < FIRST_WRITE {
-        0
-    } else if command < FIRST_BARE {
-        1
-    } else {
-        2
-    }
-}
-
-// No byte has it.
-const NO_BIT: usize = usize::MAX;
-
-// One bit turned over, the lowest of the first byte counted as 0.
-fn flip(bytes: &mut [u8], bit: usize) {
-    let at = bit / 8;
-    let bits = BITS;
+    let at = from + bit / 8;
     if at < bytes.len() {
-        bytes[at] = bytes[at] ^ bits[bit % 8];
+        bytes[at] = bytes[at] ^ (1u8 << (bit % 8));
     }
 }
 
-// The code of a command, and now and then one that is not listed.
-fn code_of(command: usize, book: &mut Book) -> u16
-    requires { ⌜ command < 22 ⌝ }
+// A code and its check.
+fn head_of(place: usize) -> [u8; 4]
+    requires { ⌜ place < 38 ⌝ }
 {
-    if draw(book, 12) == 0 {
-        let unlisted = UNLISTED;
-        return unlisted[draw(book, 16)];
-    }
     let codes = CODES;
-    codes[command]
+    let code = codes[place];
+    let check = check_words::command_check(code);
+    [
+        (code / 256 % 256) as u8,
+        (code % 256) as u8,
+        check[0],
+        check[1],
+    ]
+}
+
+// The place of a command's code, or of one that is not listed.
+fn place_of(command: usize, unlisted: usize) -> usize
+    requires { ⌜ command < 22 ⌝ }
+    ensures { λ r. ⌜ r < 38 ⌝ }
+{
+    if unlisted < 16 {
+        return COMMAND_COUNT + unlisted;
+    }
+    command
 }
 
 // Now and then a bit of the code or of its check, or the 0 place after the check.
-fn head_bit(book: &mut Book) -> usize {
-    match draw(book, 24) {
-        0 => draw(book, 32),
-        1 => 24,
-        _ => NO_BIT,
-    }
-}
-
-// The code and its check.
-fn put_head(frame: &mut [u8], code: u16, book: &mut Book) {
-    bytes::put(frame, 0, &[(code / 256) as u8, (code % 256) as u8]);
-    bytes::put(frame, 2, &check_words::command_check(code));
-    flip(frame, head_bit(book));
-}
-
-// In some frames a bit of some payloads.
-fn payload_bit(some: bool, at: usize, book: &mut Book) -> usize
-    requires { ⌜ at < 600 ⌝ }
+fn head_bit(luck: usize) -> Drawn
+    ensures { λ r. ⌜ r .number ≤ 65536 ⌝ }
 {
-    if some {
-        if draw(book, 4) == 0 {
-            return 8 * at + draw(book, 64);
-        }
+    let chance = draw(luck, 24);
+    if chance.number == 0 {
+        return draw(chance.luck, 32);
     }
-    NO_BIT
+    if chance.number == 1 {
+        return Drawn {
+            luck: chance.luck,
+            number: 24,
+        };
+    }
+    Drawn {
+        luck: chance.luck,
+        number: NONE,
+    }
 }
 
-// A payload gets its check, over the counter bits as they were drawn.
-fn put_check(frame: &mut [u8], at: usize, some: bool, book: &mut Book)
-    requires { ⌜ (at < 260) × (length (now frame) ≡ 600) ⌝ }
+// The first four bytes of a frame. What luck is left is answered.
+pub(crate) fn start(frame: &mut [u8], command: usize, luck: usize) -> usize
+    requires { ⌜ command < 22 ⌝ }
+{
+    let unlisted = now_and_then(luck, 12, 16);
+    let bit = head_bit(unlisted.luck);
+    bytes::put(frame, 0, &head_of(place_of(command, unlisted.number)));
+    flip(frame, 0, bit.number);
+    bit.luck
+}
+
+// A payload gets its check, over the counter bits as they were drawn; and then a bit of it may be turned over.
+fn put_check(frame: &mut [u8], at: usize, bit: usize)
+    requires { ⌜ (at < 260) × (bit ≤ 65536) × (length (now frame) ≡ 600) ⌝ }
 {
     let end = at + 6;
     let check = remainders::seal(&frame[at..end], frame[end] / 4);
     bytes::put(frame, end, &check);
-    flip(frame, payload_bit(some, at, book));
+    flip(frame, at, bit);
 }
 
-fn put_checks(frame: &mut [u8], n: usize, book: &mut Book)
+// In some frames now and then a bit of a payload.
+fn payload_bit(some: usize, luck: usize) -> Drawn
+    ensures { λ r. ⌜ r .number ≤ 65536 ⌝ }
+{
+    if some == 0 {
+        return now_and_then(luck, 4, 64);
+    }
+    Drawn { luck, number: NONE }
+}
+
+// The payloads. What luck is left is answered.
+fn put_payloads(frame: &mut [u8], n: usize, luck: usize) -> usize
     requires { ⌜ (length (now frame) ≡ 600) × (n ≤ 32) ⌝ }
 {
-    let some = draw(book, 3) == 0;
+    let some = draw(luck, 3);
+    let mut last = some.luck;
     let mut k = 0;
     while k < n {
-        put_check(frame, 4 + 8 * k, some, book);
+        let bit = payload_bit(some.number, last);
+        put_check(frame, 4 + 8 * k, bit.number);
+        last = bit.luck;
         k += 1;
     }
+    last
 }
 
-fn right_length(command: usize, n: usize) -> usize
-    requires { ⌜ n ≤ 32 ⌝ }
-    ensures { λ r. ⌜ (0 < r) × (r ≤ 260) ⌝ }
-{
-    if kind_of(command) == 2 { 4 } else { 4 + 8 * n }
-}
-
-// The length of the frame: mostly the right one.
-fn length_of(command: usize, n: usize, book: &mut Book) -> usize
-    requires { ⌜ n ≤ 32 ⌝ }
+// The length in one of the ways: mostly the right one.
+fn length_in(way: usize, right: usize, full: usize) -> usize
+    requires { ⌜ (0 < right) × (right ≤ 260) × (full ≤ 260) ⌝ }
     ensures { λ r. ⌜ r ≤ 600 ⌝ }
 {
-    let right = right_length(command, n);
-    match draw(book, 32) {
-        0 => draw(book, 4),
+    match way {
         1 => right - 1,
         2 => right + 1,
         3 => right + 8,
         // a bare command with bytes after it
-        4 => 4 + 8 * n,
+        4 => full,
         // a read or write with none
         5 => 4,
         // a count of bytes that wraps at 256 would take these for right
         6 => right + 256,
-        // more than any frame has
-        7 => 261 + draw(book, 340),
         _ => right,
     }
 }
 
-// The first four bytes of a frame.
-pub(crate) fn start(frame: &mut [u8], command: usize, book: &mut Book)
-    requires { ⌜ command < 22 ⌝ }
+fn length_of(command: usize, n: usize, luck: usize) -> Drawn
+    requires { ⌜ n ≤ 32 ⌝ }
+    ensures { λ r. ⌜ r .number ≤ 600 ⌝ }
 {
-    let code = code_of(command, book);
-    put_head(frame, code, book);
+    let way = draw(luck, 32);
+    if way.number == 0 {
+        return draw(way.luck, 4);
+    }
+    if way.number == 7 {
+        // more than any frame has
+        let more = draw(way.luck, 340);
+        return Drawn {
+            luck: more.luck,
+            number: 261 + more.number,
+        };
+    }
+    let full = 4 + 8 * n;
+    if command < FIRST_BARE {
+        return Drawn {
+            luck: way.luck,
+            number: length_in(way.number, full, full),
+        };
+    }
+    Drawn {
+        luck: way.luck,
+        number: length_in(way.number, 4, full),
+    }
 }
 
-// A frame, at the start of an array, and its length.
-pub(crate) fn make(frame: &mut [u8], n: usize, command: usize, book: &mut Book) -> usize
-    requires { ⌜ (length (now frame) ≡ 600) × (n ≤ 32) × (command < 22) ⌝ }
-    ensures { λ r. ⌜ r ≤ 600 ⌝ }
+// A frame, at the start of an array.
+pub(crate) struct Frame {
+    pub bytes: [u8; LONGEST],
+    pub length: usize,
+    pub command: usize,
+    pub luck: usize,
+}
+
+pub(crate) fn make(n: usize, luck: usize) -> Frame
+    requires { ⌜ n ≤ 32 ⌝ }
+    ensures { λ r. ⌜ (r .length ≤ 600) × (r .command < 22) ⌝ }
 {
-    fill(frame, book);
-    start(frame, command, book);
-    put_checks(frame, n, book);
-    length_of(command, n, book)
+    let command = draw(luck, COMMAND_COUNT);
+    let mut bytes = [0; LONGEST];
+    let left = fill(&mut bytes, command.luck);
+    let left = start(&mut bytes, command.number, left);
+    let left = put_payloads(&mut bytes, n, left);
+    let length = length_of(command.number, n, left);
+    Frame {
+        bytes,
+        length: length.number,
+        command: command.number,
+        luck: length.luck,
+    }
 }

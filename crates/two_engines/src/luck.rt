@@ -1,7 +1,5 @@
 // What frames, tables and damage are drawn from: a linear congruential generator, so that tools/two-engines-model draws the same.
-ghost use Prim.Native.Nat.{_<_};
-use crate::book::Book;
-use crate::book::LUCK;
+ghost use Prim.Native.Nat.{_<_, _≤_};
 
 pub(crate) const SEED: usize = 6830;
 
@@ -11,24 +9,51 @@ const ADDEND: usize = 1013904223;
 
 const MODULUS: usize = 4294967296;
 
+// More than any number that is drawn.
+pub(crate) const NONE: usize = 65536;
+
+// A number, and the generator's last one, from which the next is drawn.
+pub(crate) struct Drawn {
+    pub luck: usize,
+    pub number: usize,
+}
+
 // The next number, below a bound. Of the generator's 32 bits the upper 16 serve: the lower ones come round too soon.
-pub(crate) fn draw(book: &mut Book, below: usize) -> usize
+pub(crate) fn draw(luck: usize, below: usize) -> Drawn
     requires { ⌜ 0 < below ⌝ }
-    ensures { λ r. ⌜ r < below ⌝ }
+    ensures { λ r. ⌜ r .number < below ⌝ }
 {
-    let next = (book[LUCK] % MODULUS * FACTOR + ADDEND) % MODULUS;
-    book[LUCK] = next;
-    next / 65536 % below
+    let next = (luck % MODULUS * FACTOR + ADDEND) % MODULUS;
+    Drawn {
+        luck: next,
+        number: next / 65536 % below,
+    }
 }
 
-pub(crate) fn draw_byte(book: &mut Book) -> u8 {
-    draw(book, 256) as u8
+// A number once in so many times, and otherwise none.
+pub(crate) fn now_and_then(luck: usize, times: usize, below: usize) -> Drawn
+    requires { ⌜ (0 < times) × (0 < below) × (below < 65536) ⌝ }
+    ensures { λ r. ⌜ r .number ≤ 65536 ⌝ }
+{
+    let chance = draw(luck, times);
+    if chance.number == 0 {
+        return draw(chance.luck, below);
+    }
+    Drawn {
+        luck: chance.luck,
+        number: NONE,
+    }
 }
 
-pub(crate) fn fill(bytes: &mut [u8], book: &mut Book) {
+// Every byte anew. What luck is left is answered.
+pub(crate) fn fill(bytes: &mut [u8], luck: usize) -> usize {
+    let mut last = luck;
     let mut i = 0;
     while i < bytes.len() {
-        bytes[i] = draw_byte(book);
+        let byte = draw(last, 256);
+        bytes[i] = byte.number as u8;
+        last = byte.luck;
         i += 1;
     }
+    last
 }

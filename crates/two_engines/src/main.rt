@@ -6,69 +6,91 @@ mod by_hand;
 mod digest;
 mod engines;
 mod frames;
+mod looks;
 mod luck;
+mod outcomes;
 mod say;
 mod tables;
+mod world;
 
 ghost use Prim.Native.Nat.{_<_, _≤_};
-use crate::book::Book;
 use crate::book::COMMAND_COUNT;
 use crate::frames::LONGEST;
 use crate::luck::SEED;
 use crate::luck::draw;
-use crate::tables::Table;
+use crate::outcomes::BEFORE;
+use crate::outcomes::REPLY;
+use crate::outcomes::REPLY_ROOM;
+use crate::world::World;
 use clock_state::STATE_SIZE;
 
 // The frames for each N.
 const TURNS: usize = 800;
 
-const ENDLESS: usize = 65536;
+// A frame at the start of an array, now and then by hand, and through both engines.
+fn sent(w: World, n: usize, command: usize, bytes: [u8; LONGEST], length: usize) -> World
+    requires { ⌜ (0 < n) × (n ≤ 32) × (command < 22) × (length ≤ 600) ⌝ }
+{
+    let frame = &bytes[0..length];
+    engines::both(by_hand::now_and_then(w, n, frame), n, command, frame)
+}
 
 // One frame, and what may come between two.
-fn turn(table: &mut Table, n: usize, state: &mut [u8; STATE_SIZE], book: &mut Book)
+fn turn(world: World, n: usize) -> World
     requires { ⌜ (0 < n) × (n ≤ 32) ⌝ }
 {
-    let stirred = tables::now_and_then_stirred(*table, book);
-    let command = draw(book, COMMAND_COUNT);
-    let mut frame = [0; LONGEST];
-    let length = frames::make(&mut frame, n, command, book);
-    by_hand::now_and_then(state, stirred, n, &frame[0..length], book);
-    let after = engines::both(stirred, n, command, &frame[0..length], book);
-    *table = tables::now_and_then_loaded(after, n, book);
+    let mut w = tables::now_and_then_stirred(world);
+    let made = frames::make(n, w.luck);
+    let bytes = made.bytes;
+    w.luck = made.luck;
+    tables::now_and_then_loaded(sent(w, n, made.command, bytes, made.length), n)
 }
 
-// The longest frame that is lent. A count of its bytes in 16 bits would come round to 0.
-fn endless(table: Table, n: usize, book: &mut Book)
+// The longest frame that is lent: of 65536 bytes, a count of which in 16 bits would come round to 0.
+fn endless(mut w: World, n: usize) -> World
     requires { ⌜ (0 < n) × (n ≤ 32) ⌝ }
 {
-    let command = draw(book, COMMAND_COUNT);
-    let mut frame = [0; ENDLESS];
-    frames::start(&mut frame, command, book);
-    engines::both(table, n, command, &frame, book);
+    let command = draw(w.luck, COMMAND_COUNT);
+    let mut frame = io::large_buffer();
+    w.luck = frames::start(&mut frame, command.number, command.luck);
+    engines::both(w, n, command.number, &frame)
 }
 
-fn run(n: usize, before: Book) -> Book
+// All the frames for an N.
+fn run(world: World, n: usize) -> World
     requires { ⌜ (0 < n) × (n ≤ 32) ⌝ }
 {
-    let mut book = book::turned(before, n);
-    let mut table = tables::new(&mut book);
-    let mut state = [0; STATE_SIZE];
-    clock_state::start(&mut state);
+    let mut w = tables::new(world, n);
     let mut i = 0;
     while i < TURNS {
-        turn(&mut table, n, &mut state, &mut book);
+        w = turn(w, n);
         i += 1;
     }
-    endless(table, n, &mut book);
+    let w = endless(w, n);
+    let book = w.book;
     say::counts(book);
-    book
+    w
 }
 
 fn main() {
-    let book = run(1, book::new(SEED));
-    let book = run(2, book);
-    let book = run(3, book);
-    let book = run(31, book);
-    let book = run(32, book);
-    say::totals(book);
+    let mut state = [0; STATE_SIZE];
+    clock_state::start(&mut state);
+    let w = World {
+        luck: SEED,
+        frames: 0,
+        differences: 0,
+        whole: 1,
+        clocked: 1,
+        by_hand: 1,
+        book: [0; 48],
+        table: [0; REPLY + REPLY_ROOM],
+        state,
+        back: BEFORE,
+    };
+    let w = run(w, 1);
+    let w = run(w, 2);
+    let w = run(w, 3);
+    let w = run(w, 31);
+    let w = run(w, 32);
+    say::totals(w);
 }

@@ -1,19 +1,17 @@
 // What is written to standard output. A write that fails shows as output that is missing.
-use crate::book::ALL_FRAMES;
 use crate::book::Book;
-use crate::book::MONITORS;
-use crate::book::SIZE;
+use crate::world::World;
 use libc::STDOUT_FILENO;
 
-// A byte of the words. In their place # has a number of the book and @ one in hexadecimal; then the next one's turn has come.
-fn one(byte: u8, book: Book, place: usize) -> usize {
-    if place < SIZE {
+// A byte of the words. In their place # has a number and @ one in hexadecimal; then the next one's turn has come.
+fn one(byte: u8, numbers: &[usize], place: usize) -> usize {
+    if place < numbers.len() {
         if byte == b'#' {
-            io::print_decimal(STDOUT_FILENO, book[place] as u64);
+            io::print_decimal(STDOUT_FILENO, numbers[place] as u64);
             return place + 1;
         }
         if byte == b'@' {
-            io::print_hex(STDOUT_FILENO, book[place] as u64, 8);
+            io::print_hex(STDOUT_FILENO, numbers[place] as u64, 8);
             return place + 1;
         }
     }
@@ -21,12 +19,11 @@ fn one(byte: u8, book: Book, place: usize) -> usize {
     place
 }
 
-// The words, with the numbers of the book from a place on.
-fn text(words: &[u8], book: Book, from: usize) {
-    let mut place = from;
+fn text(words: &[u8], numbers: &[usize]) {
+    let mut place = 0;
     let mut i = 0;
     while i < words.len() {
-        place = one(words[i], book, place);
+        place = one(words[i], numbers, place);
         i += 1;
     }
 }
@@ -40,15 +37,13 @@ pub(crate) fn counts(book: Book) {
         \x20 by hand: accepted #, refused 1: #, 2: #, 3: #, 4: #, 5: #, 6: #; looks #, refused #\n\
         \x20 loads #, refused #\n\
         \x20 differences: #\n",
-        book,
-        MONITORS,
+        &book,
     );
 }
 
-pub(crate) fn totals(book: Book) {
+pub(crate) fn totals(w: World) {
     text(
         b"frames: #, differences: #\ndigests: whole frames @, clocked @, by hand @\n",
-        book,
-        ALL_FRAMES,
+        &[w.frames, w.differences, w.whole, w.clocked, w.by_hand],
     );
 }

@@ -6,19 +6,13 @@ use Rattle.two_engines.proofs.run.Statement.{statement}
 use Rattle.two_engines.proofs.run.Tie as tie
 
 abbrev Inv-loop : tie.InvT-loop
-Inv-loop n book₀ table₀ state₀ i₀ book table state i = Unit {0}
+Inv-loop n w₀ i₀ w i = Unit {0}
 
 abbrev μ-loop : tie.MeasureT-loop
-μ-loop n book₀ table₀ state₀ i₀ book table state i = 800 - i
-
-turned-requires : tie.Need-turned-requires Inv-loop μ-loop
-turned-requires c κs = search needs
+μ-loop n w₀ i₀ w i = 800 - i
 
 new-requires : tie.Need-new-requires Inv-loop μ-loop
 new-requires c κs = search needs
-
-start-requires : tie.Need-start-requires Inv-loop μ-loop
-start-requires c κs = search needs
 
 loop-holds : tie.Need-loop-holds Inv-loop μ-loop
 loop-holds c = search needs
@@ -50,9 +44,7 @@ run-spec =
     (tie.spec
     Inv-loop
     μ-loop
-    turned-requires
     new-requires
-    start-requires
     loop-holds
     turn-requires
     add-i

@@ -1,32 +1,25 @@
--- `two_engines::digest::adler` is safe and ends: both sums stay below 65536, and the measure is the number of bytes that are left.
+-- `two_engines::digest::adler` is safe and ends: the measure is the number of bytes that are left.
 -- Assumes nothing.
 use borrow.Author.Needs.{needs}
-use Prim.Native.Nat.{_-_, _<_}
-use native.Mathlib.Omega.{arith}
+use Prim.Native.Nat.{_-_}
 use lib.ListN.{length}
 use Rattle.two_engines.proofs.digest.adler.Statement.{statement}
 use Rattle.two_engines.proofs.digest.adler.Tie as tie
 
 abbrev Inv-loop : tie.InvT-loop
-Inv-loop digest bytes a₀ b₀ i₀ a b i = (a < 65536) × (b < 65536)
+Inv-loop digest bytes last₀ i₀ last i = Unit {0}
 
 abbrev μ-loop : tie.MeasureT-loop
-μ-loop digest bytes a₀ b₀ i₀ a b i = length bytes - i
+μ-loop digest bytes last₀ i₀ last i = length bytes - i
 
 loop-holds : tie.Need-loop-holds Inv-loop μ-loop
 loop-holds c = search needs
 
-shared-slice-read-wide : tie.Need-shared-slice-read-wide Inv-loop μ-loop
-shared-slice-read-wide c = search needs
+shared-slice-read-step : tie.Need-shared-slice-read-step Inv-loop μ-loop
+shared-slice-read-step c = search needs
 
-wide-requires : tie.Need-wide-requires Inv-loop μ-loop
-wide-requires c κs = search needs
-
-add-a : tie.Need-add-a Inv-loop μ-loop
-add-a c = search needs
-
-add-b : tie.Need-add-b Inv-loop μ-loop
-add-b c = search needs
+step-requires : tie.Need-step-requires Inv-loop μ-loop
+step-requires c κs = search needs
 
 add-i : tie.Need-add-i Inv-loop μ-loop
 add-i c = search needs
@@ -36,12 +29,6 @@ loop-less c = search needs
 
 loop-again : tie.Need-loop-again Inv-loop μ-loop
 loop-again c = search needs
-
-mul-result : tie.Need-mul-result Inv-loop μ-loop
-mul-result c = search needs
-
-add-result : tie.Need-add-result Inv-loop μ-loop
-add-result c = search needs
 
 returns : tie.Need-returns Inv-loop μ-loop
 returns c = search needs
@@ -53,13 +40,9 @@ adler-spec =
     Inv-loop
     μ-loop
     loop-holds
-    shared-slice-read-wide
-    wide-requires
-    add-a
-    add-b
+    shared-slice-read-step
+    step-requires
     add-i
     loop-less
     loop-again
-    mul-result
-    add-result
     returns)

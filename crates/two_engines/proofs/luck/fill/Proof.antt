@@ -8,16 +8,19 @@ use Rattle.two_engines.proofs.luck.fill.Statement.{statement}
 use Rattle.two_engines.proofs.luck.fill.Tie as tie
 
 abbrev Inv-loop : tie.InvT-loop
-Inv-loop bytes₀ book₀ i₀ bytes book i = length bytes ≡ length bytes₀
+Inv-loop bytes₀ luck last₀ i₀ bytes last i = length bytes ≡ length bytes₀
 
 abbrev μ-loop : tie.MeasureT-loop
-μ-loop bytes₀ book₀ i₀ bytes book i = length bytes₀ - i
+μ-loop bytes₀ luck last₀ i₀ bytes last i = length bytes₀ - i
 
 loop-holds : tie.Need-loop-holds Inv-loop μ-loop
 loop-holds c = search needs
 
-draw-byte-requires : tie.Need-draw-byte-requires Inv-loop μ-loop
-draw-byte-requires c κs = search needs
+draw-requires : tie.Need-draw-requires Inv-loop μ-loop
+draw-requires c κs = search needs
+
+cast-bytes : tie.Need-cast-bytes Inv-loop μ-loop
+cast-bytes c = search needs
 
 slice-write-bytes : tie.Need-slice-write-bytes Inv-loop μ-loop
 slice-write-bytes c = search needs
@@ -44,7 +47,8 @@ fill-spec =
     Inv-loop
     μ-loop
     loop-holds
-    draw-byte-requires
+    draw-requires
+    cast-bytes
     slice-write-bytes
     add-i
     loop-less

@@ -7,10 +7,10 @@ use Rattle.two_engines.proofs.say.text.Statement.{statement}
 use Rattle.two_engines.proofs.say.text.Tie as tie
 
 abbrev Inv-loop : tie.InvT-loop
-Inv-loop words book from place₀ i₀ place i = Unit {0}
+Inv-loop words numbers place₀ i₀ place i = Unit {0}
 
 abbrev μ-loop : tie.MeasureT-loop
-μ-loop words book from place₀ i₀ place i = length words - i
+μ-loop words numbers place₀ i₀ place i = length words - i
 
 loop-holds : tie.Need-loop-holds Inv-loop μ-loop
 loop-holds c = search needs

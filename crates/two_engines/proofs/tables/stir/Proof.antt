@@ -1,17 +1,18 @@
--- `two_engines::tables::stir` is safe and ends: the table keeps its length, and the measure is the number of records that are left.
+-- `two_engines::tables::stir` is safe and ends: the table keeps its length, and the measure is the number of bytes to the reply.
 -- Assumes nothing.
 use borrow.Author.Needs.{needs}
 use mathlib.Core.Path.{_≡_}
 use Prim.Native.Nat.{_-_}
-use lib.ListN.{length}
+use native.Mathlib.Omega.{arith}
+use lib.ListN.{length, length-set}
 use Rattle.two_engines.proofs.tables.stir.Statement.{statement}
 use Rattle.two_engines.proofs.tables.stir.Tie as tie
 
 abbrev Inv-loop : tie.InvT-loop
-Inv-loop table₀ book₀ k₀ table book k = length table ≡ length table₀
+Inv-loop table₀ luck last₀ at₀ table last at = length table ≡ 2517
 
 abbrev μ-loop : tie.MeasureT-loop
-μ-loop table₀ book₀ k₀ table book k = 32 - k
+μ-loop table₀ luck last₀ at₀ table last at = 2245 - at
 
 loop-holds : tie.Need-loop-holds Inv-loop μ-loop
 loop-holds c = search needs
@@ -19,38 +20,35 @@ loop-holds c = search needs
 draw-requires : tie.Need-draw-requires Inv-loop μ-loop
 draw-requires c κs = search needs
 
-cast-counter : tie.Need-cast-counter Inv-loop μ-loop
-cast-counter c = search needs
-
 draw-requires-2 : tie.Need-draw-requires-2 Inv-loop μ-loop
 draw-requires-2 c κs = search needs
 
-cast-lock : tie.Need-cast-lock Inv-loop μ-loop
-cast-lock c = search needs
+cast-table : tie.Need-cast-table Inv-loop μ-loop
+cast-table c = search needs
 
-mul-put : tie.Need-mul-put Inv-loop μ-loop
-mul-put c = search needs
+slice-write-table : tie.Need-slice-write-table Inv-loop μ-loop
+slice-write-table c = search needs
 
-add-put : tie.Need-add-put Inv-loop μ-loop
-add-put c = search needs
+cast-table-2 : tie.Need-cast-table-2 Inv-loop μ-loop
+cast-table-2 c = search needs
 
-slice-aggregate-put : tie.Need-slice-aggregate-put Inv-loop μ-loop
-slice-aggregate-put c = search needs
+add-table : tie.Need-add-table Inv-loop μ-loop
+add-table c = search needs
 
-put-requires : tie.Need-put-requires Inv-loop μ-loop
-put-requires c κs = search needs
+slice-write-table-2 : tie.Need-slice-write-table-2 Inv-loop μ-loop
+slice-write-table-2 c = simp length-set (omega arith)
 
-add-k : tie.Need-add-k Inv-loop μ-loop
-add-k c = search needs
+add-at : tie.Need-add-at Inv-loop μ-loop
+add-at c = search needs
 
 loop-less : tie.Need-loop-less Inv-loop μ-loop
 loop-less c = search needs
 
 loop-again : tie.Need-loop-again Inv-loop μ-loop
-loop-again c = search needs
+loop-again c = simp length-set (omega arith)
 
 same-length : tie.Need-same-length Inv-loop μ-loop
-same-length c = search needs
+same-length c = omega arith
 
 returns : tie.Need-returns Inv-loop μ-loop
 returns c = search needs
@@ -63,14 +61,13 @@ stir-spec =
     μ-loop
     loop-holds
     draw-requires
-    cast-counter
     draw-requires-2
-    cast-lock
-    mul-put
-    add-put
-    slice-aggregate-put
-    put-requires
-    add-k
+    cast-table
+    slice-write-table
+    cast-table-2
+    add-table
+    slice-write-table-2
+    add-at
     loop-less
     loop-again
     same-length

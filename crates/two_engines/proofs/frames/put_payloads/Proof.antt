@@ -1,24 +1,27 @@
--- `two_engines::frames::put_checks` is safe and ends: the frame keeps its length, and the measure is the number of payloads that are
--- left.
+-- `two_engines::frames::put_payloads` is safe and ends: the frame keeps its length, and the measure is the number of payloads that
+-- are left.
 -- Assumes nothing.
 use borrow.Author.Needs.{needs}
 use mathlib.Core.Path.{_≡_}
 use Prim.Native.Nat.{_-_}
 use lib.ListN.{length}
-use Rattle.two_engines.proofs.frames.put_checks.Statement.{statement}
-use Rattle.two_engines.proofs.frames.put_checks.Tie as tie
+use Rattle.two_engines.proofs.frames.put_payloads.Statement.{statement}
+use Rattle.two_engines.proofs.frames.put_payloads.Tie as tie
 
 abbrev Inv-loop : tie.InvT-loop
-Inv-loop frame₀ n book₀ some k₀ frame book k = length frame ≡ 600
+Inv-loop frame₀ n luck some last₀ k₀ frame last k = length frame ≡ 600
 
 abbrev μ-loop : tie.MeasureT-loop
-μ-loop frame₀ n book₀ some k₀ frame book k = n - k
+μ-loop frame₀ n luck some last₀ k₀ frame last k = n - k
 
 draw-requires : tie.Need-draw-requires Inv-loop μ-loop
 draw-requires c κs = search needs
 
 loop-holds : tie.Need-loop-holds Inv-loop μ-loop
 loop-holds c = search needs
+
+payload-bit-requires : tie.Need-payload-bit-requires Inv-loop μ-loop
+payload-bit-requires c κs = search needs
 
 mul-put-check : tie.Need-mul-put-check Inv-loop μ-loop
 mul-put-check c = search needs
@@ -44,14 +47,15 @@ same-length c = search needs
 returns : tie.Need-returns Inv-loop μ-loop
 returns c = search needs
 
-pub put-checks-spec : {M : Type 1} → statement M
-put-checks-spec =
+pub put-payloads-spec : {M : Type 1} → statement M
+put-payloads-spec =
     tie.close
     (tie.spec
     Inv-loop
     μ-loop
     draw-requires
     loop-holds
+    payload-bit-requires
     mul-put-check
     add-put-check
     put-check-requires

@@ -1,0 +1,62 @@
+-- `limits::longest::positions` is safe and ends: the measure is the number of monitors that are left. Assumes nothing.
+use borrow.Author.Needs.{needs}
+use Prim.Native.Nat.{_-_}
+use Rattle.limits.proofs.longest.positions.Statement.{statement}
+use Rattle.limits.proofs.longest.positions.Tie as tie
+
+abbrev Inv-loop : tie.InvT-loop
+Inv-loop sent₀ i₀ sent i = Unit {0}
+
+abbrev μ-loop : tie.MeasureT-loop
+μ-loop sent₀ i₀ sent i = 32 - i
+
+frame-requires : tie.Need-frame-requires Inv-loop μ-loop
+frame-requires c κs = search needs
+
+loop-holds : tie.Need-loop-holds Inv-loop μ-loop
+loop-holds c = search needs
+
+mul-payload : tie.Need-mul-payload Inv-loop μ-loop
+mul-payload c = search needs
+
+sub-payload : tie.Need-sub-payload Inv-loop μ-loop
+sub-payload c = search needs
+
+add-payload : tie.Need-add-payload Inv-loop μ-loop
+add-payload c = search needs
+
+mul-payload-2 : tie.Need-mul-payload-2 Inv-loop μ-loop
+mul-payload-2 c = search needs
+
+payload-requires : tie.Need-payload-requires Inv-loop μ-loop
+payload-requires c κs = search needs
+
+add-i : tie.Need-add-i Inv-loop μ-loop
+add-i c = search needs
+
+loop-less : tie.Need-loop-less Inv-loop μ-loop
+loop-less c = search needs
+
+loop-again : tie.Need-loop-again Inv-loop μ-loop
+loop-again c = search needs
+
+returns : tie.Need-returns Inv-loop μ-loop
+returns c = search needs
+
+pub positions-spec : {M : Type 1} → statement M
+positions-spec =
+    tie.close
+    (tie.spec
+    Inv-loop
+    μ-loop
+    frame-requires
+    loop-holds
+    mul-payload
+    sub-payload
+    add-payload
+    mul-payload-2
+    payload-requires
+    add-i
+    loop-less
+    loop-again
+    returns)

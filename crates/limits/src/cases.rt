@@ -1,0 +1,134 @@
+// A case on a table: what it begins with, what is done, and what is expected of it.
+use crate::bench::Bytes;
+use crate::bench::lay;
+use crate::bench::same;
+use crate::deeds::Came;
+use crate::deeds::handled;
+use crate::deeds::loaded;
+use crate::frames::frame;
+use crate::say;
+use crate::say::text;
+use crate::say::words;
+use crate::starts::start;
+use crate::words::AND;
+use crate::words::FLAGS;
+use crate::words::LOADED;
+use crate::words::REFUSED;
+use crate::words::REPLY;
+use crate::words::SENT;
+use crate::words::STAYS;
+use crate::words::TAKEN;
+
+pub(crate) struct Case {
+    pub given: u64,
+    pub sizes: u64,
+    pub first: u64,
+    pub second: u64,
+    pub at_first: u64,
+    pub at_second: u64,
+}
+
+// Of what is given, the code of a frame is 0 in a load.
+fn is_load(given: u64) -> bool {
+    given < 0x0001_0000_0000_0000
+}
+
+fn came_of(c: Case, before: Bytes, sent: Bytes) -> Came {
+    if is_load(c.given) {
+        return loaded(before, c.given);
+    }
+    handled(before, sent, c.sizes)
+}
+
+// The table expected: the bytes at a place of both records, and the counter and byte 69 of both; or after a load the flags.
+fn wanted(c: Case, before: Bytes) -> Bytes {
+    let place = c.sizes / 1000 % 100;
+    let count = c.sizes / 10 % 100;
+    let registers = lay(
+        lay(before, place, count, c.at_first),
+        place + 70,
+        count,
+        c.at_second,
+    );
+    if is_load(c.given) {
+        return lay(
+            registers,
+            c.given / 0x1000_0000_0000 * 70 + 2290,
+            4,
+            c.given,
+        );
+    }
+    lay(lay(registers, 68, 2, c.given / 65536), 138, 2, c.given)
+}
+
+// Says what came. Are they the numbers expected, with the replies in turn, and the buffer past them as before?
+fn told(c: Case, came: Came) -> bool {
+    let numbers = came.numbers;
+    let buffer = came.buffer;
+    let number = numbers.number as u64;
+    let taken = numbers.taken as u64;
+    let reply = numbers.reply as u64;
+    if number != 0 {
+        words(REFUSED, number, 0, 0, 0);
+    } else if is_load(c.given) {
+        text(LOADED);
+    } else {
+        words(TAKEN, taken, reply, 0, 0);
+    }
+    let takers = c.sizes / 1_000_000 % 100;
+    let mut long = 0;
+    if c.sizes / 100_000 % 10 == 1 {
+        long = 8 * takers;
+    }
+    let each = lay([0xee; 2310], 0, long, c.first);
+    let both = lay(each, 8, long / 16 % 2 * 8, c.second);
+    (number == c.sizes / 100_000_000 % 10)
+        & (taken == takers)
+        & (reply == long)
+        & same(buffer, both, 0, 2310)
+}
+
+// What is shown of the table and the buffer after the case.
+fn shown(kind: u64, before: Bytes, after: Bytes, buffer: Bytes) {
+    if kind == 5 {
+        text(REPLY);
+        say::bytes(buffer, 0, 16);
+    }
+    if kind > 5 {
+        say::changes(before, after);
+    }
+    if kind == 7 {
+        text(FLAGS);
+        say::bytes(after, 50, 54);
+        text(AND);
+        say::bytes(after, 120, 124);
+    }
+}
+
+pub(crate) fn tried(c: Case, label: u64) -> bool {
+    let kind = c.sizes / 100_000 % 10;
+    let end = c.sizes % 10;
+    let before = start(c.sizes / 100_000_000_000_000_000, c.first);
+    let sent = frame(c.given, kind, c.first, c.second);
+    let came = came_of(c, before, sent);
+    let after = came.table;
+    let buffer = came.buffer;
+    words(
+        label,
+        c.sizes / 1_000_000_000_000_000 % 100,
+        c.sizes / 1_000_000_000 % 1000,
+        0,
+        0,
+    );
+    if kind == 2 {
+        text(SENT);
+        say::bytes(sent, 4, 20);
+    }
+    let told = told(c, came);
+    shown(end, before, after, buffer);
+    let right = told & same(after, wanted(c, before), 0, 140);
+    if right {
+        text(STAYS + end);
+    }
+    right
+}

@@ -1,0 +1,61 @@
+// What is done to a table: a frame is handled, or codes are loaded.
+use crate::bench::Bytes;
+use chain::Numbers;
+
+// The table and the reply buffer after it, and the numbers that came.
+pub(crate) struct Came {
+    pub table: Bytes,
+    pub buffer: Bytes,
+    pub numbers: Numbers,
+}
+
+// The codes that are loaded.
+const CODES: [i16; 7] = [0, -32768, 1600, 1601, -16, -17, 800];
+
+// A frame handled: of its sizes the monitors of the table, the bytes of the frame, and the room for a reply.
+pub(crate) fn handled(table: Bytes, frame: Bytes, sizes: u64) -> Came {
+    let mut after = table;
+    let mut buffer = [0xee; 2310];
+    let end = (sizes / 1_000_000_000_000_000 % 100 * 70 % 2311) as usize;
+    let size = (sizes / 1_000_000_000_000 % 1000) as usize;
+    let room = (sizes / 1_000_000_000 % 1000) as usize;
+    let numbers = chain::numbers_of(chain::handle(
+        &mut after[0..end],
+        &frame[0..size],
+        &mut buffer[0..room],
+    ));
+    Came {
+        table: after,
+        buffer,
+        numbers,
+    }
+}
+
+// Seventeen codes, one more than a load has: cell 6 has one of its own, the others 0, but all have the last.
+fn codes_of(which: usize) -> [i16; 17] {
+    let code = CODES[which % 7];
+    if which == 6 {
+        return [code; 17];
+    }
+    let mut codes = [0i16; 17];
+    codes[5] = code;
+    codes
+}
+
+// Codes loaded into two monitors: of what is given the position, which code it is, and how many.
+pub(crate) fn loaded(table: Bytes, given: u64) -> Came {
+    let mut after = table;
+    let codes = codes_of((given / 0x0100_0000_0000 % 16) as usize);
+    let size = (given / 0x0001_0000_0000 % 256 % 18) as usize;
+    let position = (given / 0x1000_0000_0000) as usize;
+    let number = loads::load_number(loads::load(&mut after[0..140], position, &codes[0..size]));
+    Came {
+        table: after,
+        buffer: [0xee; 2310],
+        numbers: Numbers {
+            number,
+            taken: 0,
+            reply: 0,
+        },
+    }
+}

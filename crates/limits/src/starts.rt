@@ -1,0 +1,46 @@
+// The tables that cases begin with.
+use crate::bench::Bytes;
+use crate::bench::lay;
+use crate::bench::two;
+use crate::deeds::handled;
+use crate::deeds::loaded;
+use crate::frames::frame;
+
+// Of the sizes of a case (rows.rt), those of a bare command and of a write to two monitors.
+const BARE: u64 = 02_004_000_0_00_0_00_00_0;
+
+const WRITE: u64 = 02_020_000_0_00_2_00_00_0;
+
+// What two monitors are after a frame, in which both are sent the same.
+fn after(table: Bytes, code: u64, sizes: u64, six: u64) -> Bytes {
+    let sent = frame(code << 48, sizes / 100_000 % 10, six, six);
+    let came = handled(table, sent, sizes);
+    came.table
+}
+
+fn load(table: Bytes, given: u64) -> Bytes {
+    let came = loaded(table, given);
+    came.table
+}
+
+fn thresholds(six: u64) -> Bytes {
+    after([0u8; 2310], 0x0024, WRITE, six)
+}
+
+pub(crate) fn start(which: u64, six: u64) -> Bytes {
+    match which {
+        0 => [0u8; 2310],
+        1 => two(),
+        2 => lay(two(), 138, 1, 64),
+        3 => after(two(), 0x0038, BARE, 0),
+        4 => after(after(two(), 0x0038, BARE, 0), 0x0028, BARE, 0),
+        5 => lay(lay([0u8; 2310], 68, 1, 62), 138, 1, 63),
+        6 => lay(two(), 69, 1, 2),
+        7 => thresholds(six),
+        8 => load(thresholds(0x0040_0600_0000_0000), 0x0000_2310_0000_0000),
+        _ => load(
+            load(thresholds(0x0040_0600_0000_0000), 0x0000_2310_0000_0000),
+            0x0000_2210_0000_0000,
+        ),
+    }
+}
