@@ -3,6 +3,18 @@ use crate::cases::Case;
 use crate::cases::tried;
 use crate::words::CASES;
 
+// A case is six numbers.
+//
+// 1. What is done. Of a frame, in hexadecimal, code_check_near_far: its code, the bits of its check that are wrong, and the counter and byte
+//    69 that the first and the second monitor end with. Of a load the code is 0, and after it stand one digit for the position, one for
+//    the code (deeds.rt), two for how many codes, and the flags that are expected at that position, status D bytes 0 to 3.
+// 2. Its sizes and what is expected, in decimal, begin_monitors_frame_room_refusal_taken_kind_place_count_shown: the table that the case begins
+//    with (starts.rt), its monitors, the bytes of the frame and the room for a reply; then the refusal or 0, how many monitors take it, and
+//    the kind (0 is bare or refused, 1 a read, 2 a write); then the place in a record and the count of the bytes that numbers 5 and 6 are;
+//    and what is shown of the outcome (cases.rt).
+// 3, 4. Of a read, the replies of the first and the second monitor. Of a write, what each is sent: six bytes, the counter bits, and which
+//    bit is wrong, 0 being none and 1 the last.
+// 5, 6. The bytes that are expected at that place of the first and the second record. Every other byte stays as it was.
 const ROWS: [u64; 366] = [
     // MUTE on 0, 1, 32 and 33 monitors of 0
     0x0028_0000_0000_0000,
