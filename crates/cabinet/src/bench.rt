@@ -2,26 +2,21 @@
 ghost use Prim.Native.Nat.{_<_};
 use crate::numbers::code_in;
 use crate::ordered::CELLS;
-use crate::ordered::VALUES;
-use crate::parts::byte;
+use crate::ordered::values;
 use crate::parts::bytes_of;
-use crate::parts::cells_of;
+use crate::parts::far_of;
+use crate::parts::near_of;
 use host::Built;
 use ports::Port;
 
 const WRCFGB: u16 = 0x0024;
 
-// What is read: configuration B, status D, and the six registers of the cells, three cells in each but the last, which has cell 16.
-const READS: [u16; 8] = [
-    0x0026,
-    0x0033,
-    0x0004,
-    0x0006,
-    0x0008,
-    0x000a,
-    0x0009,
-    0x000b,
-];
+const RDCFGB: u16 = 0x0026;
+
+const RDSTATD: u16 = 0x0033;
+
+// The six registers of the cells: three cells in each but the last, which has cell 16.
+const RDCV: [u16; 6] = [0x0004, 0x0006, 0x0008, 0x000a, 0x0009, 0x000b];
 
 // A frame for two monitors: four bytes of command, and eight for each monitor.
 pub(crate) struct Frame {
@@ -29,12 +24,23 @@ pub(crate) struct Frame {
     pub length: usize,
 }
 
-// What is known of the cabinet after the thresholds were sent and the cells loaded. What was read is kept in rows of seven bytes, read i of
-// the near monitor in row 2i and of the far one in the row after it: from byte 5 of the rows on, the port, and then the register.
+// Six bytes of one monitor, and the port whose reply they were taken from.
+pub(crate) struct Register {
+    pub six: [u8; 6],
+    pub port: Port,
+}
+
+pub(crate) struct Both {
+    pub near: Register,
+    pub far: Register,
+}
+
+// What is known of the cabinet after the thresholds were sent and the cells loaded.
 pub(crate) struct Played {
     pub taken: usize,
     pub loaded: bool,
-    pub kept: [u8; 120],
+    pub configuration: Both,
+    pub status: Both,
     pub cells: [i16; 32],
 }
 
@@ -49,25 +55,36 @@ fn frame_of(code: u16, six_each: &[u8]) -> Frame {
 
 // The frame with the ordered thresholds, as our host builds it.
 pub(crate) fn thresholds() -> Frame {
-    let values = VALUES;
-    frame_of(WRCFGB, &values)
-}
-
-// Two payloads the other way round, from a place on.
-fn turned(bytes: &mut [u8], from: &[u8], at: usize)
-    requires { ⌜ at < 16 ⌝ }
-{
-    bytes::put(bytes, at, bytes_of(from, at + 8, at + 16));
-    bytes::put(bytes, at + 8, bytes_of(from, at, at + 8));
+    let all = values();
+    frame_of(WRCFGB, &all)
 }
 
 // The same payloads the other way round. Each keeps its own check, so no monitor can tell.
 pub(crate) fn in_list_order(frame: Frame) -> Frame {
     let b = frame.bytes;
-    let mut bytes = b;
-    turned(&mut bytes, &b, 4);
     Frame {
-        bytes,
+        bytes: [
+            b[0],
+            b[1],
+            b[2],
+            b[3],
+            b[12],
+            b[13],
+            b[14],
+            b[15],
+            b[16],
+            b[17],
+            b[18],
+            b[19],
+            b[4],
+            b[5],
+            b[6],
+            b[7],
+            b[8],
+            b[9],
+            b[10],
+            b[11],
+        ],
         length: frame.length,
     }
 }
@@ -83,72 +100,100 @@ fn send(table: &mut [u8], frame: Frame, reply: &mut [u8]) -> usize {
 // The codes of both halves, each to its own monitor. Did both loads go through?
 fn load(table: &mut [u8]) -> bool {
     let cells = CELLS;
-    let near = loads::load_number(loads::load(table, 1, cells_of(&cells, 0)));
-    let far = loads::load_number(loads::load(table, 2, cells_of(&cells, 1)));
+    let near = loads::load_number(loads::load(table, 1, near_of(&cells)));
+    let far = loads::load_number(loads::load(table, 2, far_of(&cells)));
     near == 0 && far == 0
 }
 
-// A port as a number: 1 is A, 2 is B, and a refusal is 10 more than its number.
-fn port_number(port: Port) -> u8 {
-    match port {
-        Port::A => 1,
-        Port::B => 2,
-        Port::Refused(refusal) => refusals::number_of(refusal) % 16 + 10,
+// The reply as it comes at the other end: the same payloads, monitor 2 first.
+fn from_the_far_end(a: [u8; 16]) -> [u8; 16] {
+    [
+        a[8],
+        a[9],
+        a[10],
+        a[11],
+        a[12],
+        a[13],
+        a[14],
+        a[15],
+        a[0],
+        a[1],
+        a[2],
+        a[3],
+        a[4],
+        a[5],
+        a[6],
+        a[7],
+    ]
+}
+
+// One bit of monitor 2's payload turned over on the way.
+fn damaged(a: [u8; 16]) -> [u8; 16] {
+    let mut b = a;
+    b[8] = b[8] ^ 1;
+    b
+}
+
+// The data bytes of a payload. Where the host refused there are none, and the port says so.
+fn six_of(part: &[u8]) -> [u8; 6] {
+    if part.len() < 6 {
+        return [0; 6];
     }
+    [part[0], part[1], part[2], part[3], part[4], part[5]]
 }
 
 // A monitor's bytes as the host picks them from the two replies: port A's where they are right, otherwise port B's.
-fn keep<'x>(a: &'x [u8], b: &'x [u8], monitor: usize, kept: &mut [u8], row: usize)
-    requires { ⌜ row < 16 ⌝ }
-{
-    let port = [port_number(ports::port_of(a, b, 2, monitor))];
-    bytes::put(kept, 7 * row + 5, &port);
-    bytes::put(
-        kept,
-        7 * row + 6,
-        bytes_of(ports::part_of(a, b, 2, monitor), 0, 6),
-    );
-}
-
-// A register of both monitors, read from both ends. What comes to port A from monitor 2 is damaged, each time: one bit is turned over.
-fn read(table: &mut [u8], i: usize, kept: &mut [u8])
-    requires { ⌜ i < 8 ⌝ }
-{
-    let reads = READS;
-    let mut a = [0u8; 16];
-    send(table, frame_of(reads[i], b""), &mut a);
-    let mut b = [0u8; 16];
-    turned(&mut b, &a, 0);
-    a[8] = a[8] ^ 1;
-    keep(&a, &b, 1, kept, 2 * i);
-    keep(&a, &b, 2, kept, 2 * i + 1);
-}
-
-fn read_all(table: &mut [u8], kept: &mut [u8]) {
-    let mut i = 0;
-    while i < 8 {
-        read(table, i, kept);
-        i += 1;
+fn register_of(a: [u8; 16], b: [u8; 16], monitor: usize) -> Register {
+    Register {
+        six: six_of(ports::part_of(&a, &b, 2, monitor)),
+        port: ports::port_of(&a, &b, 2, monitor),
     }
 }
 
-// The code of a cell, the near half's sixteen first.
-fn code_of(kept: &[u8], cell: usize) -> i16
-    requires { ⌜ cell < 32 ⌝ }
-{
-    let place = cell % 16;
-    let at = 7 * (4 + 2 * (place / 3) + cell / 16) + 6 + 2 * (place % 3);
-    code_in(byte(kept, at), byte(kept, at + 1))
+// A register of both monitors, read from both ends. What comes to port A from monitor 2 is damaged, each time.
+fn read(table: &mut [u8], code: u16) -> Both {
+    let mut reply = [0u8; 16];
+    send(table, frame_of(code, b""), &mut reply);
+    let a = damaged(reply);
+    let b = from_the_far_end(reply);
+    Both {
+        near: register_of(a, b, 1),
+        far: register_of(a, b, 2),
+    }
 }
 
-fn codes_of(kept: &[u8]) -> [i16; 32] {
-    let mut cells = [0i16; 32];
+// One cell of a half, both counted from 0. The last register has room for two cells more than there are: those are left out.
+fn put_cell(cells: &mut [i16], half: usize, cell: usize, code: i16) {
+    if half < 2 {
+        if cell < 16 {
+            let place = half * 16 + cell;
+            if place < cells.len() {
+                cells[place] = code;
+            }
+        }
+    }
+}
+
+// The three cells of a register.
+fn put_three(cells: &mut [i16], half: usize, first: usize, register: Register)
+    requires { ⌜ first < 16 ⌝ }
+{
+    let six = register.six;
+    put_cell(cells, half, first, code_in(six[0], six[1]));
+    put_cell(cells, half, first + 1, code_in(six[2], six[3]));
+    put_cell(cells, half, first + 2, code_in(six[4], six[5]));
+}
+
+// All the cells, the near half's sixteen first.
+fn read_cells(table: &mut [u8], cells: &mut [i16]) {
+    let reads = RDCV;
     let mut i = 0;
-    while i < 32 {
-        cells[i] = code_of(kept, i);
+    while i < 6 {
+        let both = read(table, reads[i]);
+        put_three(cells, 0, i * 3, both.near);
+        put_three(cells, 1, i * 3, both.far);
         i += 1;
     }
-    cells
 }
 
 // A cabinet from its first day: no threshold set, no cell loaded. Then the frame, the cells, and all that can be read.
@@ -157,13 +202,15 @@ pub(crate) fn play(frame: Frame) -> Played {
     let mut no_reply = [0u8; 16];
     let taken = send(&mut table, frame, &mut no_reply);
     let loaded = load(&mut table);
-    let mut kept = [0u8; 120];
-    read_all(&mut table, &mut kept);
-    let cells = codes_of(&kept);
+    let configuration = read(&mut table, RDCFGB);
+    let status = read(&mut table, RDSTATD);
+    let mut cells = [0i16; 32];
+    read_cells(&mut table, &mut cells);
     Played {
         taken,
         loaded,
-        kept,
+        configuration,
+        status,
         cells,
     }
 }

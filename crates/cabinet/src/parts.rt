@@ -10,19 +10,10 @@ pub(crate) fn bytes_of(bytes: &[u8], at: usize, end: usize) -> &[u8] {
     &bytes[..0]
 }
 
-// All from a byte on.
-pub(crate) fn from(bytes: &[u8], at: usize) -> &[u8] {
-    if at <= bytes.len() {
-        return &bytes[at..];
-    }
-    bytes
-}
-
-// The sixteen cells of a half.
-pub(crate) fn cells_of(cells: &[i16], half: usize) -> &[i16]
-    requires { ⌜ half < 2 ⌝ }
+// The sixteen cells from one on.
+fn sixteen_of(cells: &[i16], at: usize) -> &[i16]
+    requires { ⌜ at < 4096 ⌝ }
 {
-    let at = half * 16;
     let end = at + 16;
     if end <= cells.len() {
         return &cells[at..end];
@@ -30,20 +21,10 @@ pub(crate) fn cells_of(cells: &[i16], half: usize) -> &[i16]
     &cells[..0]
 }
 
-pub(crate) fn byte(bytes: &[u8], at: usize) -> u8 {
-    if at < bytes.len() { bytes[at] } else { 0 }
+pub(crate) fn near_of(cells: &[i16]) -> &[i16] {
+    sixteen_of(cells, 0)
 }
 
-pub(crate) fn cell(cells: &[i16], at: usize) -> i16 {
-    if at < cells.len() { cells[at] } else { 0 }
-}
-
-pub(crate) fn number(numbers: &[u64], at: usize) -> u64 {
-    if at < numbers.len() { numbers[at] } else { 0 }
-}
-
-pub(crate) fn set(numbers: &mut [u64], at: usize, n: u64) {
-    if at < numbers.len() {
-        numbers[at] = n;
-    }
+pub(crate) fn far_of(cells: &[i16]) -> &[i16] {
+    sixteen_of(cells, 16)
 }

@@ -2,15 +2,24 @@
 ghost use Prim.Native.Nat.{_<_};
 use crate::bench::Frame;
 use crate::bench::Played;
-use crate::facts::flags_of;
-use crate::numbers::cell_microvolts;
-use crate::ordered;
+use crate::bench::Register;
+use crate::judged::cells_in_summary;
+use crate::judged::flagged;
+use crate::judged::flags_of;
+use crate::judged::held;
+use crate::judged::lowest_of;
+use crate::judged::sums_of;
+use crate::judged::wrong_flags;
+use crate::ordered::FAR;
 use crate::ordered::Limits;
+use crate::ordered::NEAR;
+use crate::ordered::limits_of;
+use crate::ordered::same;
 use crate::parts::bytes_of;
-use crate::parts::cell;
-use crate::parts::cells_of;
-use crate::parts::number;
+use crate::parts::far_of;
+use crate::parts::near_of;
 use crate::say;
+use ports::Port;
 
 pub(crate) fn limits(words: &[u8], l: Limits) {
     say::text(words);
@@ -18,33 +27,30 @@ pub(crate) fn limits(words: &[u8], l: Limits) {
     say::volts(b", over-voltage above ", l.over);
 }
 
-pub(crate) fn sent(frame: Frame, f: [u64; 20]) {
+pub(crate) fn sent(frame: Frame, p: Played) {
     let b = frame.bytes;
     say::bytes(b"  on the wire:", bytes_of(&b, 0, 4));
     say::bytes(b" |", bytes_of(&b, 4, 12));
     say::bytes(b" |", bytes_of(&b, 12, 20));
-    say::number(b"\n  taken by ", f[0]);
+    say::number(b"\n  taken by ", p.taken as u64);
     say::text(b" of 2 monitors; cells ");
-    if f[1] == 1 {
+    if p.loaded {
         say::text(b"loaded into both\n");
     } else {
         say::text(b"not loaded\n");
     }
 }
 
-fn port(from: u64) {
-    if from == 1 {
-        say::text(b"read at port A\n");
-    } else if from == 2 {
-        say::text(b"read at port B, since what came to port A was damaged\n");
-    } else if 10 <= from {
-        say::number(b"not read, refusal ", from - 10);
-        say::text(b"\n");
+fn port(register: Register) {
+    let from = register.port;
+    match from {
+        Port::A => say::text(b"read at port A\n"),
+        Port::B => say::text(b"read at port B, since what came to port A was damaged\n"),
+        Port::Refused(refusal) => {
+            say::number(b"not read, refusal ", refusals::number_of(refusal) as u64);
+            say::text(b"\n");
+        }
     }
-}
-
-fn same(one: Limits, other: Limits) -> bool {
-    one.under == other.under && one.over == other.over
 }
 
 fn whose(l: Limits, own: Limits, other: Limits) {
@@ -61,120 +67,85 @@ fn whose(l: Limits, own: Limits, other: Limits) {
 fn flag(cell: usize, flags: u8)
     requires { ⌜ cell < 16 ⌝ }
 {
-    if flags == 0 {
-        return;
-    }
-    say::number(b" cell ", (cell + 1) as u64);
-    if flags % 2 == 1 {
-        say::text(b" under-voltage");
-    }
-    if flags / 2 == 1 {
-        say::text(b" over-voltage");
-    }
-}
-
-fn flags(kept: &[u8], half: usize)
-    requires { ⌜ half < 2 ⌝ }
-{
-    let mut i = 0;
-    while i < 16 {
-        flag(i, flags_of(kept, half, i));
-        i += 1;
+    if flags != 0 {
+        say::number(b" cell ", (cell + 1) as u64);
+        if flags % 2 == 1 {
+            say::text(b" under-voltage");
+        }
+        if flags / 2 == 1 {
+            say::text(b" over-voltage");
+        }
     }
 }
 
-fn lower(cells: &[i16], one: usize, other: usize) -> usize {
-    if cell(cells, other) < cell(cells, one) {
-        other
-    } else {
-        one
-    }
-}
-
-// The lowest of sixteen cells. The printed number counts from 1.
-fn lowest(cells: &[i16]) {
-    let mut low = 0;
-    let mut i = 1;
-    while i < 16 {
-        low = lower(cells, low, i);
-        i += 1;
-    }
-    say::number(b"  lowest cell: ", (low % 16 + 1) as u64);
-    say::volts(b" at ", cell_microvolts(cell(cells, low)));
-    say::text(b"\n");
-}
-
-fn held(f: &[u64], half: usize) -> Limits
-    requires { ⌜ half < 2 ⌝ }
-{
-    Limits {
-        under: number(f, 6 + 2 * half),
-        over: number(f, 7 + 2 * half),
-    }
-}
-
-fn none_of(up: u64) {
-    if up == 0 {
+fn flags(status: Register) {
+    say::text(b"  flags up:");
+    if !flagged(status) {
         say::text(b" none");
     }
+    let mut cell = 0;
+    while cell < 16 {
+        flag(cell, flags_of(status, cell));
+        cell += 1;
+    }
+    say::text(b"\n");
 }
 
-fn thresholds(f: &[u64], half: usize)
-    requires { ⌜ half < 2 ⌝ }
-{
-    port(number(f, 2 + half));
-    limits(b"  holds ", held(f, half));
-    whose(
-        held(f, half),
-        ordered::limits_of(half),
-        ordered::limits_of(1 - half),
-    );
+fn lowest(cells: &[i16]) {
+    let l = lowest_of(cells);
+    if l.cell < 16 {
+        say::number(b"  lowest cell: ", (l.cell + 1) as u64);
+        say::volts(b" at ", l.microvolts);
+        say::text(b"\n");
+    }
 }
 
-fn flags_up(kept: &[u8], f: &[u64], half: usize)
-    requires { ⌜ half < 2 ⌝ }
-{
-    say::text(b"  flags up:");
-    none_of(number(f, 10 + half));
-    flags(kept, half);
+fn half(configuration: Register, status: Register, cells: &[i16], own: Limits, other: Limits) {
+    port(configuration);
+    limits(b"  holds ", held(configuration));
+    whose(held(configuration), own, other);
+    lowest(cells);
+    flags(status);
     say::number(
-        b"\n  cells with wrong flags, by the thresholds ordered: ",
-        number(f, 12 + half),
+        b"  cells with wrong flags, by the thresholds ordered: ",
+        wrong_flags(status, cells, own),
     );
     say::text(b"\n");
 }
 
-pub(crate) fn halves(p: Played, f: [u64; 20]) {
-    let kept = p.kept;
+pub(crate) fn halves(p: Played) {
+    let configuration = p.configuration;
+    let status = p.status;
     let cells = p.cells;
+    let near = limits_of(NEAR);
+    let far = limits_of(FAR);
     say::text(b"near half, monitor 1, ");
-    thresholds(&f, 0);
-    lowest(cells_of(&cells, 0));
-    flags_up(&kept, &f, 0);
+    half(configuration.near, status.near, near_of(&cells), near, far);
     say::text(b"far half, monitor 2, ");
-    thresholds(&f, 1);
-    lowest(cells_of(&cells, 1));
-    flags_up(&kept, &f, 1);
+    half(configuration.far, status.far, far_of(&cells), far, near);
 }
 
-pub(crate) fn pack(f: [u64; 20]) {
-    say::number(b"pack: ", f[17]);
-    say::volts(b" cells, lowest ", f[14]);
-    say::volts(b", highest ", f[15]);
-    say::volts(b", total ", f[16]);
+pub(crate) fn pack(p: Played) {
+    let cells = p.cells;
+    let sums = sums_of(&cells);
+    say::number(b"pack: ", cells_in_summary(&cells) as u64);
+    say::volts(b" cells, lowest ", sums.lowest);
+    say::volts(b", highest ", sums.highest);
+    say::volts(b", total ", sums.total);
     say::text(b"\n");
 }
 
 // The old bench took the replies in list order too, counted from the wrong end: the far monitor's for the near half's. It
 // passed a board on which it saw the thresholds that were ordered.
-pub(crate) fn old_reading(f: [u64; 20]) {
-    let near = held(&f, 1);
-    let far = held(&f, 0);
+pub(crate) fn old_reading(p: Played) {
+    let configuration = p.configuration;
+    let near = held(configuration.far);
+    let far = held(configuration.near);
     limits(b"  for the near half it took: ", near);
-    whose(near, ordered::limits_of(0), ordered::limits_of(1));
+    whose(near, limits_of(NEAR), limits_of(FAR));
     limits(b"  for the far half it took: ", far);
-    whose(far, ordered::limits_of(1), ordered::limits_of(0));
-    if same(near, ordered::limits_of(0)) && same(far, ordered::limits_of(1)) {
+    whose(far, limits_of(FAR), limits_of(NEAR));
+    if same(near, limits_of(NEAR)) && same(far, limits_of(FAR)) {
         say::text(b"  all as ordered, so it passed the board\n");
     } else {
         say::text(b"  not as ordered, so it did not pass the board\n");

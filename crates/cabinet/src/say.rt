@@ -12,7 +12,8 @@ pub(crate) fn number(words: &[u8], n: u64) {
 }
 
 // Exact: whole volts and six digits, so that no figure of the microvolts is lost.
-pub(crate) fn volts(words: &[u8], n: u64) {
+pub(crate) fn volts(words: &[u8], microvolts: u32) {
+    let n = microvolts as u64;
     number(words, n / 1000000);
     number(b".", n / 100000 % 10);
     number(b"", n / 10000 % 10);
