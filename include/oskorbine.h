@@ -41,7 +41,7 @@ enum {
     OSK_NO_ROOM = 6,         /* the buffer to be written is too small */
     OSK_POSITION_WRONG = 7,  /* N not 1 to 32, or position not 1 to N */
     OSK_COUNT_WRONG = 8,     /* wrong number of codes or value bytes */
-    OSK_CODE_CLEARED = 9,    /* a loaded code is -32768 */
+    OSK_CODE_CLEARED = 9,    /* a code to store or load is -32768 */
     OSK_NEITHER_RIGHT = 10   /* neither port's bytes are right */
 };
 
@@ -54,8 +54,18 @@ enum {
  */
 osk_answer osk_frame(uint8_t *table, size_t table_length, const uint8_t *frame, size_t frame_length, uint8_t *reply, size_t reply_length);
 
-/* Loads 16 codes of 150 microvolts into the monitor at a position, 1 to N: stores them, and then sets UV for each cell below the lower
- * threshold and OV for each above the upper one. Flags are only ever set by a load.
+/* Stores 16 codes of 150 microvolts as the cells of the monitor at a position, 1 to N, and compares nothing: no other byte changes.
+ * Refusals: 1, 7, 8, 9.
+ */
+osk_answer osk_store(uint8_t *table, size_t table_length, size_t position, const int16_t *codes, size_t codes_length);
+
+/* Compares the stored cells of the monitor at a position, 1 to N, with its thresholds: sets UV for each cell below the lower one and OV
+ * for each above the upper one. Cells at -32768 are skipped. Flags are only ever set, and no other byte changes.
+ * Refusals: 1, 7.
+ */
+osk_answer osk_compare(uint8_t *table, size_t table_length, size_t position);
+
+/* Loads 16 codes into the monitor at a position: osk_store and, where that is accepted, osk_compare in one call.
  * Refusals: 1, 7, 8, 9.
  */
 osk_answer osk_load(uint8_t *table, size_t table_length, size_t position, const int16_t *codes, size_t codes_length);

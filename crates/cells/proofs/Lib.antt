@@ -3,3 +3,5 @@ pub mod Flags
 pub mod Loaded
 pub mod Examples
 pub mod Codes
+pub mod Repeated
+pub mod OwnFlags

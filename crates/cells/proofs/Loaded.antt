@@ -1,5 +1,5 @@
--- What a load leaves of a record: its length, every byte outside the cells and the flags, and its soundness. Inside, a cell's
--- byte is its code's, and a flags' byte has what was raised added to what it was.
+-- What a store, a compare and a load leave of a record: its length, every byte outside the cells or the flags, and its soundness.
+-- Inside, a cell's byte is its code's, and a flags' byte has what was raised added to what it was.
 -- Assumes nothing.
 use mathlib.Core.Path.{_≡_, ap, _∙_}
 use mathlib.Core.List.{List}

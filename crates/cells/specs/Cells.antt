@@ -1,9 +1,10 @@
--- Document 01, "Readings and thresholds": loading sixteen codes into one monitor is storing them and then comparing.
+-- Document 01, "Readings and thresholds", and document 02, L1: sixteen codes stored in one monitor, its stored cells compared with its
+-- thresholds, and the load, which is both.
 -- Cells are counted from 0 here: cell c of the paper is c - 1.
 -- Assumes nothing.
 use mathlib.Core.Bool.{Bool, false, cond}
 use mathlib.Core.List.{List}
-use Prim.Native.Nat.{ℕ, _+_, _-_, _*_, _/_, _%_}
+use Prim.Native.Nat.{ℕ, _+_, _-_, _*_, _/_, _%_, _^_}
 use lib.Bits.{bitOr}
 use lib.Dec.{eqb}
 use lib.IntN.{ℤ, pos, negsuc}
@@ -54,6 +55,10 @@ flagByte r j = flagsOf r (4 * j) + flagsOf r (4 * j + 1) * 4 + flagsOf r (4 * j 
 -- flags are only ever set, and both may be set
 unfoldable pub compare : List ℕ → List ℕ
 compare r = onBytes flags (λ j old. bitOr old (flagByte r j)) r
+
+-- the two flags of a cell as they stand
+unfoldable pub flagsIn : List ℕ → ℕ → ℕ
+flagsIn r c = getD (bytesOf flags r) (c / 4) 0 / 2 ^ (2 * (c % 4)) % 4
 
 -- ---- load
 

@@ -1,4 +1,4 @@
-// Loading sixteen codes into one monitor: store, then compare.
+// The cells of one monitor: sixteen codes are stored, and what is stored is compared.
 ghost use mathlib.Core.Path.{_≡_};
 ghost use mathlib.Core.Bool.{cond, _&&_};
 ghost use Prim.Native.Nat.{_*_, _<_};
@@ -15,7 +15,6 @@ ghost use Rattle.cells.specs.Cells.{
   flagsOf,
   flagByte,
   compare,
-  load,
 };
 use records::CELL_COUNT;
 use records::CELLS;
@@ -149,16 +148,4 @@ pub fn compare(rec: &mut [u8]) -> bool
         j += 1;
     }
     true
-}
-
-// Store, then compare.
-pub fn load_one(rec: &mut [u8], codes: &[i16]) -> bool
-    ensures { λ r. ⌜ r ≡ (isRecord (now (rec .entry)) && eqb (length (now (codes .entry))) cellCount) ⌝ }
-    ensures { λ r. ⌜ now (rec .exit) ≡ cond (isRecord (now (rec .entry)) && eqb (length (now (codes .entry))) cellCount) (load (now (codes .entry)) (now (rec .entry))) (now (rec .entry)) ⌝ }
-{
-    if store(rec, codes) {
-        compare(rec)
-    } else {
-        false
-    }
 }

@@ -2,5 +2,4 @@
 mod cells;
 
 pub use cells::compare;
-pub use cells::load_one;
 pub use cells::store;

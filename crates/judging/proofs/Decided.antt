@@ -6,17 +6,22 @@ use mathlib.Core.Bool.{Bool, true, false, cond}
 use mathlib.Core.List.{List, [], _∷_}
 use Rattle.refusals.specs.declared.Refusal.{Refusal}
 use Rattle.refusals.specs.Order.{Row, decide}
+use Rattle.refusals.proofs.Deciding.{Passed}
 
--- what holds of each refusal's outcome and of the accepted one holds of what comes
+-- what holds of each refusal's outcome, and of the accepted one where no refusal holds, holds of what comes
+pub by-passing : {A : Type 0} (P : A → Type 0) (rows : List Row) (refused : Refusal → A) (accepted : A)
+    → ((r : Refusal) → P (refused r)) → (Passed rows → P accepted) → P (decide rows refused accepted)
+unfolding decide
+by-passing P [] refused accepted h k = k tt
+by-passing {A} P (row ∷ rows) refused accepted h k = by (row .holds) refl (λ e. by-passing P rows refused accepted h (λ p. k (e, p)))
+  where
+    by : (b : Bool) → row .holds ≡ b → (row .holds ≡ false → P (decide rows refused accepted)) → P (cond b (refused (row .refusal)) (decide rows refused accepted))
+    by true e rest = h (row .refusal)
+    by false e rest = rest e
+
 pub either-way : {A : Type 0} (P : A → Type 0) (rows : List Row) (refused : Refusal → A) (accepted : A)
     → ((r : Refusal) → P (refused r)) → P accepted → P (decide rows refused accepted)
-unfolding decide
-either-way P [] refused accepted h k = k
-either-way {A} P (row ∷ rows) refused accepted h k = by (row .holds) (either-way P rows refused accepted h k)
-  where
-    by : (b : Bool) → P (decide rows refused accepted) → P (cond b (refused (row .refusal)) (decide rows refused accepted))
-    by true rest = h (row .refusal)
-    by false rest = rest
+either-way P rows refused accepted h k = by-passing P rows refused accepted h (λ p. k)
 
 -- where one question is refused, another one with the same refusals is refused too
 pub stays-so : {A B : Type 0} (rows : List Row) (refused : Refusal → A) (accepted : A) (r : Refusal) (before after : B)
@@ -54,4 +59,16 @@ is-accepted {A} (row ∷ rows) refused accepted other apart e = by (row .holds) 
     by : (b : Bool) → (decide rows refused accepted ≡ other → accepted ≡ other)
         → cond b (refused (row .refusal)) (decide rows refused accepted) ≡ other → accepted ≡ other
     by true rest e = absurd (apart (row .refusal) (sym e))
+    by false rest e = rest e
+
+-- a refusal stands whatever would have been accepted
+pub refused-so : {A : Type 0} (rows : List Row) (refused : Refusal → A) (accepted other : A) (r : Refusal)
+    → (accepted ≡ refused r → ⊥) → decide rows refused accepted ≡ refused r → decide rows refused other ≡ refused r
+unfolding decide
+refused-so [] refused accepted other r apart e = absurd (apart e)
+refused-so {A} (row ∷ rows) refused accepted other r apart e = by (row .holds) (refused-so rows refused accepted other r apart) e
+  where
+    by : (b : Bool) → (decide rows refused accepted ≡ refused r → decide rows refused other ≡ refused r)
+        → cond b (refused (row .refusal)) (decide rows refused accepted) ≡ refused r → cond b (refused (row .refusal)) (decide rows refused other) ≡ refused r
+    by true rest e = e
     by false rest e = rest e

@@ -4,3 +4,4 @@ pub mod Whole
 pub mod Decided
 pub mod Judging
 pub mod Keeps
+pub mod Changed

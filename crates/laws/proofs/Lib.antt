@@ -9,3 +9,5 @@ pub mod Rows
 pub mod Filling
 pub mod LentParts
 pub mod Counts
+pub mod Or
+pub mod Places

@@ -1,5 +1,6 @@
-pub mod Loading
-pub mod LoadJudging
+pub mod Judging
 pub mod Refused
+pub mod Place
 pub mod Keeps
-pub mod OwnLoad
+pub mod Halves
+pub mod Bytes

@@ -1,5 +1,5 @@
 -- Bytes of a list made anew: the length stays, the bytes outside stay, each byte inside is what the function says of what it
--- was. And the step of a loop that makes them so, one after the other.
+-- was. The step of a loop that makes them so, one after the other; and bytes made anew twice, which are made anew once by both.
 -- Assumes nothing.
 use mathlib.Core.Path.{_≡_, refl, sym, ap, ap₂, _∙_}
 use mathlib.Core.List.{List}
@@ -9,7 +9,7 @@ use native.Mathlib.Nat.{eq-or-lt-of-le, le-of-suc-le-suc}
 use native.Mathlib.Numerals.{add-one}
 use native.Mathlib.Omega.{arith}
 use lib.ListN.{length, length-set, getD, set}
-use lib.Seq.{getD-set-same, getD-set-other}
+use lib.Seq.{getD-set-same, getD-set-other, set-set, set-comm}
 use Rattle.records.specs.Record.{anew}
 
 module _ (f : ℕ → ℕ → ℕ) (at : ℕ) where
@@ -56,3 +56,23 @@ unfolding anew
 anew-same f g at zero r h = refl
 anew-same f g at (suc n) r h =
     ap₂ (λ (l : List ℕ) (v : ℕ). set l (at + n) v) (anew-same f g at n r (λ i k. h i (omega arith))) (h n (omega arith))
+
+-- ---- twice
+
+anew-beside : (f : ℕ → ℕ → ℕ) (at n : ℕ) (r : List ℕ) (j v : ℕ) → at + n ≤ j → anew f at n (set r j v) ≡ set (anew f at n r) j v
+unfolding anew
+anew-beside f at zero r j v h = refl
+anew-beside f at (suc n) r j v h =
+    ap₂ (λ (l : List ℕ) (w : ℕ). set l (at + n) w) (anew-beside f at n r j v (omega arith)) (ap (f n) (getD-set-other r j (at + n) v 0 (omega arith)))
+    ∙ set-comm (anew f at n r) j (at + n) v (f n (getD r (at + n) 0)) (omega arith)
+
+pub anew-twice : (f g : ℕ → ℕ → ℕ) (at n : ℕ) (r : List ℕ) → at + n ≤ length r
+    → anew f at n (anew g at n r) ≡ anew (λ i old. f i (g i old)) at n r
+unfolding anew
+anew-twice f g at zero r fits = refl
+anew-twice f g at (suc n) r fits =
+    let old = getD r (at + n) 0 in
+    ap₂ (λ (l : List ℕ) (w : ℕ). set l (at + n) (f n w)) (anew-beside f at n (anew g at n r) (at + n) (g n old) (omega arith))
+    (getD-set-same (anew g at n r) (at + n) (g n old) 0 (rw (length-anew g at n r) (omega arith)))
+    ∙ set-set (anew f at n (anew g at n r)) (at + n) (g n old) (f n (g n old))
+    ∙ ap (λ (l : List ℕ). set l (at + n) (f n (g n old))) (anew-twice f g at n r (omega arith))

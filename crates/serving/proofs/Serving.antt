@@ -3,18 +3,17 @@
 -- Assumes nothing.
 use mathlib.Core.Path.{_≡_, sym, ap, _∙_}
 use mathlib.Core.Bool.{Bool, true, false, cond, _&&_}
-use mathlib.Core.List.{List, _++_}
+use mathlib.Core.List.{List}
 use Prim.Native.Nat.{ℕ, _+_, _-_, _*_, _/_, _≤_, _<_}
 use native.Mathlib.Omega.{arith}
-use lib.ListN.{length, take, drop}
+use lib.ListN.{length}
 use borrow.Author.Tests.{le-leb, lt-leb}
 use borrow.Rule.Slice.PartMut.{putMid}
-use Rattle.laws.proofs.LentParts.{part-lent, part-back}
 use Rattle.records.specs.declared.commands.Command.{Command}
 use Rattle.records.specs.Record.{recordSize, isRecord}
 use Rattle.monitor.specs.Effects.{takes, keeps}
 use Rattle.serving.specs.Served.{hasRecord, servedAt}
-use Rattle.judging.proofs.Lent.{lent, lent-record}
+use Rattle.judging.proofs.Lent.{lent, lent-record, came-back}
 
 module _ (k : ℕ) (table : List ℕ) (fits : k * recordSize + recordSize ≤ length table) where
   there : hasRecord k table ≡ true
@@ -28,9 +27,7 @@ module _ (k : ℕ) (table : List ℕ) (fits : k * recordSize + recordSize ≤ le
   unfolding servedAt
   served command eight t a = (
     t ∙ ap (λ (b : Bool). b && takes command eight) (lent-record k table fits ∙ sym there),
-    part-back (k * recordSize) recordSize table _
-        ∙ ap (λ (r : List ℕ). take (k * recordSize) table ++ r ++ drop (k * recordSize + recordSize) table)
-        (a ∙ ap (λ (b : Bool). cond b (keeps command eight (lent k table)) (lent k table)) (lent-record k table fits) ∙ ap (keeps command eight) (part-lent recordSize k table))
+    came-back k table (keeps command eight) (lent-record k table fits) a
         ∙ ap (λ (b : Bool). cond b (servedAt k command eight table) table) (sym there),
   )
 

@@ -2,17 +2,18 @@
 -- write hands out by the order on the wire. Document 01, "The table", "Commands" and "Numbers that come back".
 -- Assumes nothing.
 use mathlib.Core.Bool.{Bool}
-use mathlib.Core.List.{List, _++_}
+use mathlib.Core.List.{List}
 use Prim.Native.Nat.{ℕ, _+_, _*_}
 use lib.Dec.{leb}
-use lib.ListN.{length, take, drop}
+use lib.ListN.{length, drop}
 use Rattle.laws.specs.Counts.{count}
-use Rattle.laws.specs.Rows.{rows, rowAt, joined, along}
+use Rattle.laws.specs.Rows.{rows, joined, along}
 use Rattle.wire.specs.Order.{writePayloads}
 use Rattle.records.specs.declared.commands.Command.{Command}
 use Rattle.records.specs.Record.{recordSize}
 use Rattle.records.specs.Commands.{payloadSize}
 use Rattle.monitor.specs.Effects.{takes, keeps}
+use Rattle.judging.specs.Table.{changedAt}
 
 -- ---- one monitor
 
@@ -22,7 +23,7 @@ hasRecord k table = leb (k * recordSize + recordSize) (length table)
 
 -- the table with the record at k as its monitor keeps it
 unfoldable pub servedAt : ℕ → Command → List ℕ → List ℕ → List ℕ
-servedAt k c eight table = take (k * recordSize) table ++ keeps c eight (rowAt recordSize k table) ++ drop (k * recordSize + recordSize) table
+servedAt k c eight table = changedAt k (keeps c eight) table
 
 -- ---- all of them, by a frame
 

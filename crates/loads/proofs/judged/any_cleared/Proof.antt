@@ -1,4 +1,4 @@
--- `loads::loads::any_cleared` meets its contract: no code so far is that of a cleared cell. The measure is what is left of them.
+-- `loads::judged::any_cleared` meets its contract: no code so far is that of a cleared cell. The measure is what is left of them.
 -- Assumes nothing.
 use mathlib.Core.Path.{_≡_, refl, sym, ap}
 use mathlib.Core.Bool.{true, not}
@@ -10,8 +10,8 @@ use mir.Syntax.{w16}
 use mir.Val.{SFits}
 use Rattle.laws.specs.Counts.{all}
 use Rattle.cells.proofs.Codes.{cleared, not-cleared, none-cleared, one-more, one-cleared, each-looked-at}
-use Rattle.loads.proofs.loads.any_cleared.Statement.{statement}
-use Rattle.loads.proofs.loads.any_cleared.Tie as tie
+use Rattle.loads.proofs.judged.any_cleared.Statement.{statement}
+use Rattle.loads.proofs.judged.any_cleared.Tie as tie
 
 abbrev Inv-loop : tie.InvT-loop
 Inv-loop codes i₀ i = (i ≤ length codes) × (none-cleared codes i ≡ true)

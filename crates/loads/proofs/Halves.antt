@@ -1,0 +1,107 @@
+-- A load is its two halves: where a store is done the compare after it is, and the two leave the table that the load leaves. Of two
+-- stores the second counts; a compare after a compare changes nothing. By two changes of one record, which are one.
+-- Assumes nothing.
+use mathlib.Core.Path.{_≡_, refl, sym, ap, _∙_, subst⁻¹}
+use mathlib.Core.Bool.{true}
+use mathlib.Core.List.{List, _++_}
+use Prim.Native.Nat.{ℕ, _+_, _-_, _*_, _≤_}
+use lib.IntN.{ℤ}
+use lib.ListN.{length, take, drop}
+use Rattle.laws.specs.Rows.{rowAt}
+use Rattle.refusals.specs.declared.Refusal.{Refusal}
+use Rattle.refusals.proofs.Deciding.{Passed, passes}
+use Rattle.records.specs.Record.{recordSize}
+use Rattle.judging.specs.Table.{monitors, sound, changedAt}
+use Rattle.judging.proofs.Lent.{lent-length}
+use Rattle.judging.proofs.Keeps.{Keeps}
+use Rattle.judging.proofs.Changed.{changed-twice}
+use Rattle.cells.specs.Cells.{store, compare, load}
+use Rattle.cells.proofs.Loaded.{length-store, length-compare}
+use Rattle.cells.proofs.Repeated.{store-store, compare-compare}
+use Rattle.loads.specs.declared.loads.Loaded.{Loaded}
+use Rattle.loads.specs.declared.loads.Loaded.the-variants.{Unloaded, Done}
+use Rattle.loads.specs.Load.{storeRefusals, stored, tableAfterStore, compared, tableAfterCompare, loaded, tableAfterLoad}
+use Rattle.loads.proofs.Judging.{as-stored, goes-on}
+use Rattle.loads.proofs.Refused.{table-compared, table-stored, table-loaded}
+use Rattle.loads.proofs.Place.{Place, done-place, compare-done, fits, store-place, stored-passed}
+use Rattle.loads.proofs.Keeps.{store-keeps, compare-keeps}
+
+-- a place in a table that kept its monitors
+kept-place : {table after : List ℕ} (position : ℕ) → Keeps table after → Place table position → Place after position
+kept-place position keeps p =
+    record { its-sound = keeps .sound-after; first = p .first; last = subst⁻¹ (λ (n : ℕ). position ≤ n) (keeps .monitors-after) (p .last) }
+
+-- two changes of one record, the second of which makes what a third makes of it
+module _ (k : ℕ) (table : List ℕ) (whole : k * recordSize + recordSize ≤ length table) where
+  two-changes : (f g h : List ℕ → List ℕ) → ((r : List ℕ) → length (f r) ≡ length r) → ((r : List ℕ) → length r ≡ recordSize → g (f r) ≡ h r)
+      → changedAt k g (changedAt k f table) ≡ changedAt k h table
+  two-changes f g h as-long same =
+      changed-twice k f as-long table whole g
+      ∙ ap (λ (r : List ℕ). take (k * recordSize) table ++ r ++ drop (k * recordSize + recordSize) table) (same (rowAt recordSize k table) (lent-length k table whole))
+
+module _ (table : List ℕ) (position : ℕ) where
+  -- ---- a store and a compare
+
+  module _ (codes : List ℤ) (done : stored table position codes ≡ Done) where
+    its-place : Place table position
+    its-place = store-place table position codes (stored-passed table position codes done)
+
+    pub place-after : Place (tableAfterStore table position codes) position
+    place-after = kept-place position (store-keeps table position (its-place .its-sound) codes) its-place
+
+    pub compare-after-store : compared (tableAfterStore table position codes) position ≡ Done
+    compare-after-store = compare-done (tableAfterStore table position codes) position place-after
+
+    pub halves : changedAt (position - 1) compare (tableAfterStore table position codes) ≡ tableAfterLoad table position codes
+    unfolding load
+    halves =
+        ap (changedAt (position - 1) compare) (table-stored table position codes done)
+        ∙ two-changes (position - 1) table (fits table position its-place) (store codes) compare (load codes) (length-store codes) (λ r l. refl)
+        ∙ sym (table-loaded table position codes (as-stored table position codes ∙ done))
+
+    pub store-and-compare : tableAfterCompare (tableAfterStore table position codes) position ≡ tableAfterLoad table position codes
+    store-and-compare = table-compared (tableAfterStore table position codes) position compare-after-store ∙ halves
+
+  -- where a load is refused so is its store, and by the same refusal
+  pub load-refused : (codes : List ℤ) (r : Refusal) → loaded table position codes ≡ Unloaded r → stored table position codes ≡ Unloaded r
+  load-refused codes r e = sym (as-stored table position codes) ∙ e
+
+  -- ---- two stores: the first may be any, refused too
+
+  pub second-counts : (first second : List ℤ) → stored table position second ≡ Done
+      → tableAfterStore (tableAfterStore table position first) position second ≡ tableAfterStore table position second
+  second-counts first second done = by (stored table position first) refl
+    where
+      place : Place table position
+      place = its-place second done
+
+      again : stored (tableAfterStore table position first) position second ≡ Done
+      again =
+          let kept = kept-place position (store-keeps table position (place .its-sound) first) place in
+          goes-on second (tableAfterStore table position first) position (compare-done (tableAfterStore table position first) position kept)
+          ∙ sym (goes-on second table position (compare-done table position place))
+          ∙ done
+
+      by : (l : Loaded) → stored table position first ≡ l
+          → tableAfterStore (tableAfterStore table position first) position second ≡ tableAfterStore table position second
+      by (Unloaded r) e = ap (λ (t : List ℕ). tableAfterStore t position second) (table-stored table position first e)
+      by Done e =
+          table-stored (tableAfterStore table position first) position second again
+          ∙ ap (changedAt (position - 1) (store second)) (table-stored table position first e)
+          ∙ two-changes (position - 1) table (fits table position place) (store first) (store second) (store second) (length-store first) (store-store first second)
+          ∙ sym (table-stored table position second done)
+
+  -- ---- two compares, done or refused
+
+  pub compare-again : tableAfterCompare (tableAfterCompare table position) position ≡ tableAfterCompare table position
+  compare-again = by (compared table position) refl
+    where
+      by : (l : Loaded) → compared table position ≡ l → tableAfterCompare (tableAfterCompare table position) position ≡ tableAfterCompare table position
+      by (Unloaded r) e = ap (λ (t : List ℕ). tableAfterCompare t position) (table-compared table position e)
+      by Done e =
+          let place = done-place table position e in
+          table-compared (tableAfterCompare table position) position
+          (compare-done (tableAfterCompare table position) position (kept-place position (compare-keeps table position (place .its-sound)) place))
+          ∙ ap (changedAt (position - 1) compare) (table-compared table position e)
+          ∙ two-changes (position - 1) table (fits table position place) compare compare compare length-compare compare-compare
+          ∙ sym (table-compared table position e)

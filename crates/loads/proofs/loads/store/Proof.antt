@@ -1,0 +1,63 @@
+-- `loads::loads::store` meets its contract: it is judged, and what comes of it is what comes of its judgement.
+-- Assumes nothing.
+use mathlib.Core.Path.{sym, _∙_}
+use native.Mathlib.Omega.{arith}
+use borrow.Author.Needs.{needs}
+use Rattle.loads.proofs.Refused.{table-stored}
+use Rattle.loads.proofs.Place.{few, fits, sixteen, store-place, stored-passed}
+use Rattle.loads.proofs.loads.store.Statement.{statement}
+use Rattle.loads.proofs.loads.store.Tie as tie
+
+judge-store-requires : tie.Need-judge-store-requires
+judge-store-requires c κs = search needs
+
+enum-known-refusal : tie.Need-enum-known-refusal
+enum-known-refusal c = search needs
+
+enum-told : tie.Need-enum-told
+enum-told c = search needs
+
+sub-store-at : tie.Need-sub-store-at
+sub-store-at c =
+    let a = c .before .before .before .before .before .before .args in
+    let none = stored-passed (a .table .now) (a .position) (a .codes .now) (sym (c .before .before .before .judge-store .ensures) ∙ c .before .enum-told .given .1) in
+    omega (arith, store-place (a .table .now) (a .position) (a .codes .now) none .first)
+
+store-at-requires : tie.Need-store-at-requires
+store-at-requires c κs =
+    let a = c .before .before .before .before .before .before .args in
+    let none = stored-passed (a .table .now) (a .position) (a .codes .now) (sym (c .before .before .before .judge-store .ensures) ∙ c .before .enum-told .given .1) in
+    let p = store-place (a .table .now) (a .position) (a .codes .now) none in
+    (few (a .table .now) (a .position) p, fits (a .table .now) (a .position) p, sixteen (a .table .now) (a .position) (a .codes .now) none)
+
+same-length : tie.Need-same-length
+same-length c = search needs
+
+returns : tie.Need-returns
+returns c =
+    let a = c .before .before .before .before .before .before .args in
+    let e = sym (c .before .before .before .judge-store .ensures) ∙ c .before .refusal .given .1 in
+    (sym e, sym (table-stored (a .table .now) (a .position) (a .codes .now) e))
+
+same-length-2 : tie.Need-same-length-2
+same-length-2 c = search needs
+
+returns-2 : tie.Need-returns-2
+returns-2 c =
+    let a = c .before .before .before .before .before .before .before .before .before .args in
+    let e = sym (c .before .before .before .before .before .before .judge-store .ensures) ∙ c .before .before .before .before .enum-told .given .1 in
+    (sym e, c .before .before .store-at .ensures ∙ sym (table-stored (a .table .now) (a .position) (a .codes .now) e))
+
+pub store-spec : {M : Type 1} → statement M
+store-spec =
+    tie.close
+    (tie.spec
+    judge-store-requires
+    enum-known-refusal
+    enum-told
+    sub-store-at
+    store-at-requires
+    same-length
+    returns
+    same-length-2
+    returns-2)
