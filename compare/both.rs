@@ -1,5 +1,6 @@
 //! The same call to the library and to the model, and everything compared after it. The clocked engine has a file of its own.
 
+use crate::cells;
 use crate::difference::{listed, refused, Difference, Faults};
 use crate::inputs::{shape, Shape, RECORD};
 use crate::lent::{Both, Lent};
@@ -65,41 +66,62 @@ pub fn note_effects(run: &mut Run, code: u16, answer: u32, table: &Both<u8>) {
     }
 }
 
+pub fn store(run: &mut Run, table: &mut Both<u8>, position: usize, codes: &[i16]) -> Answered {
+    let answer = with_codes(run, Function::Store, (surface::store, model::store), table, position, codes)?;
+    if !refused(answer) {
+        cells::note_store(run, table, position);
+    }
+    Ok(answer)
+}
+
 pub fn load(run: &mut Run, table: &mut Both<u8>, position: usize, codes: &[i16]) -> Answered {
+    let answer = with_codes(run, Function::Load, (surface::load, model::load), table, position, codes)?;
+    if !refused(answer) {
+        cells::note_load(run, table, position);
+    }
+    Ok(answer)
+}
+
+type WithCodes = fn(&mut [u8], usize, &[i16]) -> u32;
+
+/// A store or a load, by the library and by the model: both are lent the same.
+fn with_codes(
+    run: &mut Run,
+    function: Function,
+    (of_library, of_model): (WithCodes, WithCodes),
+    table: &mut Both<u8>,
+    position: usize,
+    codes: &[i16],
+) -> Answered {
     table.lend();
     let lent_codes = Lent::new(&mut run.random, codes);
     run.begin();
-    let library = surface::load(table.library.part_mut(), position, lent_codes.part());
-    let model = model::load(&mut table.model, position, codes);
+    let library = of_library(table.library.part_mut(), position, lent_codes.part());
+    let model = of_model(&mut table.model, position, codes);
 
     let mut faults = Faults::new();
     faults.answer(library, model);
     faults.written("table", table, refused(library));
     faults.kept("codes", &lent_codes, codes);
-    run.settle(Function::Load, library, faults, || {
+    run.settle(function, library, faults, || {
         vec![("table", listed(&table.before)), ("position", position.to_string()), ("codes", listed(codes))]
-    })?;
-    if !refused(library) {
-        note_flags(run, table, position);
-    }
-    Ok(library)
+    })
 }
 
-fn note_flags(run: &mut Run, table: &Both<u8>, position: usize) {
-    let flags_from = (position - 1) * RECORD + 50;
-    for at in flags_from..flags_from + 4 {
-        let (before, after) = (table.before[at], table.contents()[at]);
-        let set = after & !before;
-        if set & 0x55 != 0 {
-            run.tally.saw(Situation::LoadSetsUv);
-        }
-        if set & 0xAA != 0 {
-            run.tally.saw(Situation::LoadSetsOv);
-        }
-        if before != 0 && set == 0 {
-            run.tally.saw(Situation::LoadKeepsFlag);
-        }
+pub fn compare(run: &mut Run, table: &mut Both<u8>, position: usize) -> Answered {
+    table.lend();
+    run.begin();
+    let library = surface::compare(table.library.part_mut(), position);
+    let model = model::compare(&mut table.model, position);
+
+    let mut faults = Faults::new();
+    faults.answer(library, model);
+    faults.written("table", table, refused(library));
+    run.settle(Function::Compare, library, faults, || vec![("table", listed(&table.before)), ("position", position.to_string())])?;
+    if !refused(library) {
+        cells::note_compare(run, table, position);
     }
+    Ok(library)
 }
 
 /// The buffer to build in has `room` bytes. Gives the answer and the bytes of the buffer.

@@ -4,6 +4,7 @@ use crate::random::Random;
 
 pub const RECORD: usize = 70;
 pub const MOST: usize = 32;
+pub const CLEARED: i16 = -32768;
 
 /// Every command, in the paper's order: reads, writes, bare ones.
 pub const LISTED: [(u16, &str); 22] = [
@@ -163,7 +164,7 @@ pub fn frame(random: &mut Random, monitors: usize) -> Vec<u8> {
     frame
 }
 
-/// One record that is sound: any bytes, or all alike, or with clear flags and near thresholds, so that a load shows.
+/// One record that is sound: any bytes, or all alike, or with clear flags and near thresholds, so that a compare shows.
 pub fn record(random: &mut Random) -> Vec<u8> {
     let mut record = match random.below(4) {
         0 => vec![random.pick(&[0x00, 0xFF]); RECORD],
@@ -187,6 +188,21 @@ fn set_thresholds(record: &mut [u8], vuv: i16, vov: i16) {
     record[6] = vuv as u8;
     record[7] = (vuv >> 8 | (vov & 0xF) << 4) as u8;
     record[8] = (vov >> 4) as u8;
+}
+
+/// A record with clear flags and this threshold, VUV or VOV; the other one is any.
+pub fn record_with(random: &mut Random, value: i32, as_vov: bool) -> Vec<u8> {
+    let bits = value as u16 & 0xFFF;
+    let mut record = record(random);
+    record[50..56].fill(0);
+    if as_vov {
+        record[7] = record[7] & 0x0F | (bits << 4) as u8;
+        record[8] = (bits >> 4) as u8;
+    } else {
+        record[6] = bits as u8;
+        record[7] = record[7] & 0xF0 | (bits >> 8) as u8;
+    }
+    record
 }
 
 /// A sound table, where N is 1 to 32.
@@ -220,14 +236,23 @@ pub fn unsound(random: &mut Random) -> Vec<u8> {
     bytes
 }
 
-/// A code to load into this record: at, beside and far from its thresholds, never -32768.
+/// The codes that the cells of a record are compared with: 16 VUV and 16 VOV.
+pub fn limits(record: &[u8]) -> (i32, i32) {
+    let vuv = i32::from(record[6]) | i32::from(record[7] & 0x0F) << 8;
+    let vov = i32::from(record[7] >> 4) | i32::from(record[8]) << 4;
+    let codes = |step: i32| 16 * if step >= 2048 { step - 4096 } else { step };
+    (codes(vuv), codes(vov))
+}
+
+/// A position that a chain of so many monitors does not have; one of them times 70 would wrap and lie within the table.
+pub fn wrong_position(random: &mut Random, monitors: usize) -> usize {
+    random.pick(&[0, monitors + 1, 33, 34, 256, 1 << 32, usize::MAX / RECORD + 2, usize::MAX - 1, usize::MAX])
+}
+
+/// A code to store or load into this record: at, beside and far from its thresholds, never -32768.
 pub fn code_for(random: &mut Random, record: &[u8]) -> i16 {
-    let step = if random.once_in(2) {
-        i32::from(record[6]) | i32::from(record[7] & 0x0F) << 8
-    } else {
-        i32::from(record[7] >> 4) | i32::from(record[8]) << 4
-    };
-    let at = 16 * if step >= 2048 { step - 4096 } else { step };
+    let (lower, upper) = limits(record);
+    let at = if random.once_in(2) { lower } else { upper };
     let code = match random.below(6) {
         0 => at - 1,
         1 => at,
@@ -240,4 +265,17 @@ pub fn code_for(random: &mut Random, record: &[u8]) -> i16 {
 
 pub fn codes_for(random: &mut Random, record: &[u8]) -> Vec<i16> {
     (0..16).map(|_| code_for(random, record)).collect()
+}
+
+/// Cells for a compare to find in this record: as stored, some cleared, some with a byte of the cleared code or its bytes swapped.
+pub fn set_cells(random: &mut Random, record: &mut [u8]) {
+    let cleared_of_eight = random.pick(&[0, 1, 4, 8]);
+    for cell in 0..16 {
+        let code = match random.below(8) {
+            chance if chance < cleared_of_eight => CLEARED,
+            7 => random.pick(&[-32767, -32512, 0, 128]),
+            _ => code_for(random, record),
+        };
+        record[12 + 2 * cell..][..2].copy_from_slice(&code.to_le_bytes());
+    }
 }

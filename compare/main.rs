@@ -1,8 +1,9 @@
-//! Compares the library (target/c/liboskorbine.a) with a second implementation of document 01, the crate `model`: every function of
+//! Compares the library (target/c/liboskorbine.a) with a second implementation of the papers, the crate `model`: every function of
 //! include/oskorbine.h, after each call the answer and every byte of every buffer. Usage: compare [SEED [ROUNDS]]
 
 mod both;
 mod cases;
+mod cells;
 mod clocks;
 mod difference;
 mod inputs;

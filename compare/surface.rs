@@ -1,4 +1,4 @@
-//! The twelve functions of include/oskorbine.h, behind safe wrappers: a slice is a pointer and a length that belong together, and Rust
+//! The fourteen functions of include/oskorbine.h, behind safe wrappers: a slice is a pointer and a length that belong together, and Rust
 //! sees to it that a written one overlaps no other. An empty slice must still have a real address (the header asks for it), so callers
 //! take theirs from `Lent`.
 
@@ -8,6 +8,8 @@ pub const CLOCK_STATE: usize = 264;
 #[derive(Clone, Copy, Debug, PartialEq, Eq)]
 pub enum Function {
     Frame,
+    Store,
+    Compare,
     Load,
     HostFrame,
     Check,
@@ -22,8 +24,10 @@ pub enum Function {
 }
 
 impl Function {
-    pub const ALL: [Function; 12] = [
+    pub const ALL: [Function; 14] = [
         Function::Frame,
+        Function::Store,
+        Function::Compare,
         Function::Load,
         Function::HostFrame,
         Function::Check,
@@ -40,6 +44,8 @@ impl Function {
     pub fn name(self) -> &'static str {
         match self {
             Function::Frame => "osk_frame",
+            Function::Store => "osk_store",
+            Function::Compare => "osk_compare",
             Function::Load => "osk_load",
             Function::HostFrame => "osk_host_frame",
             Function::Check => "osk_check",
@@ -58,7 +64,8 @@ impl Function {
     pub fn refusals(self) -> &'static [usize] {
         match self {
             Function::Frame => &[1, 2, 3, 4, 5, 6],
-            Function::Load => &[1, 7, 8, 9],
+            Function::Store | Function::Load => &[1, 7, 8, 9],
+            Function::Compare => &[1, 7],
             Function::HostFrame => &[4, 6, 7, 8],
             Function::Check => &[5],
             Function::TwoPorts => &[5, 7, 10],
@@ -80,6 +87,8 @@ mod c {
             reply: *mut u8,
             reply_length: usize,
         ) -> u32;
+        pub fn osk_store(table: *mut u8, table_length: usize, position: usize, codes: *const i16, codes_length: usize) -> u32;
+        pub fn osk_compare(table: *mut u8, table_length: usize, position: usize) -> u32;
         pub fn osk_load(table: *mut u8, table_length: usize, position: usize, codes: *const i16, codes_length: usize) -> u32;
         pub fn osk_host_frame(
             command: u16,
@@ -103,6 +112,14 @@ mod c {
 
 pub fn frame(table: &mut [u8], frame: &[u8], reply: &mut [u8]) -> u32 {
     unsafe { c::osk_frame(table.as_mut_ptr(), table.len(), frame.as_ptr(), frame.len(), reply.as_mut_ptr(), reply.len()) }
+}
+
+pub fn store(table: &mut [u8], position: usize, codes: &[i16]) -> u32 {
+    unsafe { c::osk_store(table.as_mut_ptr(), table.len(), position, codes.as_ptr(), codes.len()) }
+}
+
+pub fn compare(table: &mut [u8], position: usize) -> u32 {
+    unsafe { c::osk_compare(table.as_mut_ptr(), table.len(), position) }
 }
 
 pub fn load(table: &mut [u8], position: usize, codes: &[i16]) -> u32 {

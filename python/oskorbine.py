@@ -22,8 +22,9 @@ import sys
 from typing import Any, NamedTuple, Sequence, Tuple, Union
 
 __all__ = [
-    "Answer", "osk_number", "osk_first", "osk_second", "osk_frame", "osk_load", "osk_host_frame", "osk_check", "osk_two_ports",
-    "osk_clock_start", "osk_clock_byte", "osk_clock_window", "osk_clock_release", "osk_microvolts", "osk_volts", "osk_summary",
+    "Answer", "osk_number", "osk_first", "osk_second", "osk_frame", "osk_store", "osk_compare", "osk_load", "osk_host_frame", "osk_check",
+    "osk_two_ports", "osk_clock_start", "osk_clock_byte", "osk_clock_window", "osk_clock_release", "osk_microvolts", "osk_volts",
+    "osk_summary",
     "OSK_ACCEPTED", "OSK_TABLE_NOT_SOUND", "OSK_FRAME_SHORT", "OSK_COMMAND_WRONG", "OSK_CODE_NOT_LISTED", "OSK_LENGTH_WRONG",
     "OSK_NO_ROOM", "OSK_POSITION_WRONG", "OSK_COUNT_WRONG", "OSK_CODE_CLEARED", "OSK_NEITHER_RIGHT", "OSK_RIGHT", "OSK_DAMAGED",
     "OSK_PORT_A", "OSK_PORT_B", "OSK_CLOCK_STATE",
@@ -44,7 +45,7 @@ OSK_LENGTH_WRONG = 5  # length not the one for this command and N; a reply or pa
 OSK_NO_ROOM = 6  # the buffer to be written is too small
 OSK_POSITION_WRONG = 7  # N not 1 to 32, or position not 1 to N
 OSK_COUNT_WRONG = 8  # wrong number of codes or value bytes
-OSK_CODE_CLEARED = 9  # a loaded code is -32768
+OSK_CODE_CLEARED = 9  # a code to store or load is -32768
 OSK_NEITHER_RIGHT = 10  # neither port's bytes are right
 
 OSK_RIGHT = 1
@@ -113,6 +114,8 @@ _POSITION = (ctypes.c_size_t,)
 _CODE = (ctypes.c_int16,)
 _PROTOTYPES = {
     "osk_frame": (ctypes.c_uint32, _BUFFER + _BUFFER + _BUFFER),
+    "osk_store": (ctypes.c_uint32, _BUFFER + _POSITION + _BUFFER),
+    "osk_compare": (ctypes.c_uint32, _BUFFER + _POSITION),
     "osk_load": (ctypes.c_uint32, _BUFFER + _POSITION + _BUFFER),
     "osk_host_frame": (ctypes.c_uint32, (ctypes.c_uint16,) + _POSITION + _BUFFER + _BUFFER),
     "osk_check": (ctypes.c_uint32, _BUFFER),
@@ -294,9 +297,25 @@ def osk_frame(table: Writable, frame: Readable, reply: Writable) -> Answer:
     return Answer(_call(_library.osk_frame, _written("table", table), _read("frame", frame), _written("reply", reply)))
 
 
+def osk_store(table: Writable, position: int, codes: Codes) -> Answer:
+    """Stores 16 codes of 150 microvolts as the cells of the monitor at a position, 1 to N, and compares nothing: no other byte changes.
+
+    No values. Refusals: 1, 7, 8, 9.
+    """
+    return Answer(_call(_library.osk_store, _written("table", table), _size("position", position), _codes(codes)))
+
+
+def osk_compare(table: Writable, position: int) -> Answer:
+    """Compares the stored cells of the monitor at a position, 1 to N, with its thresholds: sets UV for each cell below the lower one and
+    OV for each above the upper one. Cells at -32768 are skipped. Flags are only ever set, and no other byte changes.
+
+    No values. Refusals: 1, 7.
+    """
+    return Answer(_call(_library.osk_compare, _written("table", table), _size("position", position)))
+
+
 def osk_load(table: Writable, position: int, codes: Codes) -> Answer:
-    """Loads 16 codes of 150 microvolts into the monitor at a position, 1 to N: stores them, and then sets UV for each cell below the
-    lower threshold and OV for each above the upper one. Flags are only ever set by a load.
+    """Loads 16 codes into the monitor at a position: osk_store and, where that is accepted, osk_compare in one call.
 
     No values. Refusals: 1, 7, 8, 9.
     """

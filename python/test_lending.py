@@ -63,6 +63,9 @@ class Kinds(unittest.TestCase):
             with self.subTest(codes=repr(codes)):
                 self.assertEqual(osk.osk_load(table, 1, codes), osk.OSK_ACCEPTED)
                 self.assertEqual(table[12:44], expected)
+                stored = bytearray(70)
+                self.assertEqual(osk.osk_store(stored, 1, codes), osk.OSK_ACCEPTED)
+                self.assertEqual(stored[12:44], expected)
         self.assertEqual(osk.osk_load(bytearray(70), 1, range(16)), osk.OSK_ACCEPTED)
 
     def test_volts(self):
@@ -77,6 +80,8 @@ class Kinds(unittest.TestCase):
 
         self.assertEqual(osk.osk_microvolts(Four()), 1_500_600)
         self.assertEqual(osk.osk_load(bytearray(70), Four(), [0] * 16), osk.OSK_POSITION_WRONG)
+        self.assertEqual(osk.osk_store(bytearray(280), Four(), [0] * 16), osk.OSK_ACCEPTED)
+        self.assertEqual(osk.osk_compare(bytearray(210), Four()), osk.OSK_POSITION_WRONG)
 
 
 class Lending(unittest.TestCase):
@@ -91,7 +96,7 @@ class Lending(unittest.TestCase):
         def at(buffer):
             return ctypes.addressof(ctypes.c_char.from_buffer(buffer))
 
-        with library_of(osk_frame=function, osk_host_frame=function, osk_load=function):
+        with library_of(osk_frame=function, osk_host_frame=function, osk_store=function, osk_compare=function, osk_load=function):
             osk.osk_frame(table, FRAME, reply)
             self.assertEqual([address(lent["words"][0]), address(lent["words"][4])], [at(table), at(reply)])
             self.assertIs(lent["words"][2], FRAME)
@@ -102,8 +107,13 @@ class Lending(unittest.TestCase):
             self.assertEqual(lent["words"][1::2], (69, 12, 3))
             osk.osk_host_frame(wire.WRCFGB, 1, values, reply)
             self.assertEqual([address(lent["words"][2]), address(lent["words"][4])], [at(values), at(reply)])
-            osk.osk_load(table, 1, codes)
-            self.assertEqual([address(lent["words"][3]), lent["words"][4]], [codes.buffer_info()[0], 16])
+            for with_codes in osk.osk_store, osk.osk_load:
+                lent.clear()
+                with_codes(table, 3, codes)
+                self.assertEqual([address(lent["words"][0]), *lent["words"][1:3]], [at(table), 70, 3])
+                self.assertEqual([address(lent["words"][3]), lent["words"][4]], [codes.buffer_info()[0], 16])
+            osk.osk_compare(memoryview(table)[1:], 3)
+            self.assertEqual([address(lent["words"][0]), *lent["words"][1:]], [at(table) + 1, 69, 3])
 
     def test_empty_buffers_have_an_address(self):
         seen = []
@@ -114,12 +124,14 @@ class Lending(unittest.TestCase):
                     seen.append(address(pointer))
             return 0
 
-        names = ("osk_frame", "osk_load", "osk_host_frame", "osk_check", "osk_two_ports", "osk_clock_byte", "osk_clock_window",
-                 "osk_clock_release", "osk_summary")
+        names = ("osk_frame", "osk_store", "osk_compare", "osk_load", "osk_host_frame", "osk_check", "osk_two_ports", "osk_clock_byte",
+                 "osk_clock_window", "osk_clock_release", "osk_summary")
         with library_of(**{name: function for name in names}):
             for empty in b"", bytearray(), memoryview(b"abc")[:0], (ctypes.c_uint8 * 0)(), array.array("B"):
                 state = bytearray(osk.OSK_CLOCK_STATE)
                 osk.osk_frame(bytearray(), empty, bytearray())
+                osk.osk_store(bytearray(), 1, [])
+                osk.osk_compare(bytearray(), 1)
                 osk.osk_load(bytearray(), 1, [])
                 osk.osk_host_frame(wire.MUTE, 1, empty, bytearray())
                 osk.osk_check(empty)
@@ -128,7 +140,7 @@ class Lending(unittest.TestCase):
                 osk.osk_clock_window(state, 1, bytearray())
                 osk.osk_clock_release(state, bytearray())
                 osk.osk_summary(array.array("h"), array.array("d"))
-        self.assertEqual(len(seen), 5 * 15)
+        self.assertEqual(len(seen), 5 * 18)
         self.assertEqual([each for each in seen if not each or each % 8], [])
 
     def test_codes_are_aligned(self):
@@ -211,6 +223,8 @@ class Mistakes(unittest.TestCase):
         if written:
             yield "table", osk.osk_frame, lambda wrong: (wrong, FRAME, reply)
             yield "reply", osk.osk_frame, lambda wrong: (table, FRAME, wrong)
+            yield "table", osk.osk_store, lambda wrong: (wrong, 1, self.codes)
+            yield "table", osk.osk_compare, lambda wrong: (wrong, 1)
             yield "table", osk.osk_load, lambda wrong: (wrong, 1, self.codes)
             yield "out", osk.osk_host_frame, lambda wrong: (wire.MUTE, 1, b"", wrong)
             yield "out", osk.osk_clock_window, lambda wrong: (state, 1, wrong)
@@ -259,6 +273,7 @@ class Mistakes(unittest.TestCase):
             ("table and reply", osk.osk_frame, memory[:70], FRAME, memory[69:77]),
             ("frame and reply", osk.osk_frame, self.table, memory[60:72], memory[53:61]),
             ("table and reply", osk.osk_frame, self.table, FRAME, self.table),
+            ("table and codes", osk.osk_store, memory[:70], 1, memory[68:100].cast("h")),
             ("table and codes", osk.osk_load, memory[:70], 1, memory[68:100].cast("h")),
             ("values and out", osk.osk_host_frame, wire.WRCFGB, 1, memory[11:17], memory[:12]),
             ("state and table", osk.osk_clock_byte, state, memory[200:270], 0),
@@ -270,6 +285,8 @@ class Mistakes(unittest.TestCase):
 
     def test_sizes(self):
         calls = (
+            ("position", osk.osk_store, lambda wrong: (self.table, wrong, self.codes)),
+            ("position", osk.osk_compare, lambda wrong: (self.table, wrong)),
             ("position", osk.osk_load, lambda wrong: (self.table, wrong, self.codes)),
             ("monitors", osk.osk_host_frame, lambda wrong: (wire.MUTE, wrong, b"", self.reply)),
             ("monitors", osk.osk_two_ports, lambda wrong: (PAYLOAD, PAYLOAD, wrong, 1)),
@@ -299,7 +316,11 @@ class Mistakes(unittest.TestCase):
                 self.stopped(TypeError, f"^{name}: a whole number is needed", function, *arguments(wrong))
 
     def test_codes(self):
-        calls = (osk.osk_load, lambda wrong: (self.table, 1, wrong)), (osk.osk_summary, lambda wrong: (wrong, self.volts))
+        calls = (
+            (osk.osk_store, lambda wrong: (self.table, 1, wrong)),
+            (osk.osk_load, lambda wrong: (self.table, 1, wrong)),
+            (osk.osk_summary, lambda wrong: (wrong, self.volts)),
+        )
         for function, arguments in calls:
             for wrong in [32768], [0, -32769], [1 << 80], array.array("i", [40000]), array.array("H", [40000]):
                 self.stopped(ValueError, "^codes: one is not from -32768 to 32767", function, *arguments(wrong))

@@ -8,8 +8,8 @@ import paper_wire as wire
 from oskorbine import (
     OSK_ACCEPTED, OSK_CLOCK_STATE, OSK_CODE_CLEARED, OSK_CODE_NOT_LISTED, OSK_COMMAND_WRONG, OSK_COUNT_WRONG, OSK_DAMAGED,
     OSK_FRAME_SHORT, OSK_LENGTH_WRONG, OSK_NEITHER_RIGHT, OSK_NO_ROOM, OSK_PORT_A, OSK_PORT_B, OSK_POSITION_WRONG, OSK_RIGHT,
-    OSK_TABLE_NOT_SOUND, Answer, osk_check, osk_clock_byte, osk_clock_release, osk_clock_start, osk_clock_window, osk_first, osk_frame,
-    osk_host_frame, osk_load, osk_microvolts, osk_number, osk_second, osk_summary, osk_two_ports, osk_volts,
+    OSK_TABLE_NOT_SOUND, Answer, osk_check, osk_clock_byte, osk_clock_release, osk_clock_start, osk_clock_window, osk_compare, osk_first,
+    osk_frame, osk_host_frame, osk_load, osk_microvolts, osk_number, osk_second, osk_store, osk_summary, osk_two_ports, osk_volts,
 )
 
 CANARY = 0xA5
@@ -39,6 +39,17 @@ def edited(table, changes):
     for at, some_bytes in changes.items():
         copy[at:at + len(some_bytes)] = some_bytes
     return copy
+
+
+def cells(codes):
+    """The bytes of stored codes."""
+    return b"".join(code.to_bytes(2, "little", signed=True) for code in codes)
+
+
+def stored_and_compared(table, position, codes):
+    """A store and, where that is accepted, a compare."""
+    answer = osk_store(table, position, codes)
+    return osk_compare(table, position) if answer.number == OSK_ACCEPTED else answer
 
 
 def clocked(state, table, frame):
@@ -191,16 +202,141 @@ class Frames(Case):
         self.assert_answer(osk_frame(bytearray(table), write, bytearray()), 1, 0)
 
 
-class Loads(Case):
+class TakesCodes:
+    """What a store and a load have in common: their refusals."""
+
+    def keeps(self, table, position, codes, number):
+        lent = bytearray(table)
+        self.assert_refused(self.function(lent, position, codes), number)
+        self.assertEqual(lent, table)
+
+    def test_refusals_in_their_order(self):
+        codes = list(range(16))
+        cleared = codes[:15] + [-32768]
+        for name, table in UNSOUND.items():
+            with self.subTest(table=name):
+                for position, given in (0, []), (1, cleared), (1, codes):
+                    self.keeps(table, position, given, OSK_TABLE_NOT_SOUND)
+        for position in 0, 3, 33, PAST_32_BITS, (1 << 64) - 1:
+            for given in [], cleared, codes:
+                self.keeps(filled(2), position, given, OSK_POSITION_WRONG)
+        for wrong in [], codes[:15], codes + [0], [-32768] * 17:
+            self.keeps(filled(2), 2, wrong, OSK_COUNT_WRONG)
+        for cell in range(16):
+            self.keeps(filled(2), 1, codes[:cell] + [-32768] + codes[cell + 1:], OSK_CODE_CLEARED)
+
+
+class Stores(TakesCodes, Case):
+    function = staticmethod(osk_store)
+
+    def test_cells_change_and_nothing_else(self):
+        codes = [1, -1, 256, -256, 32767, -32767, 0, 128] * 2
+        stored = bytes.fromhex("0100 FFFF 0001 00FF FF7F 0180 0000 8000" * 2)
+        for monitors, position in (1, 1), (2, 1), (2, 2), (32, 17), (32, 32):
+            lent = filled(monitors, unlocked=1)
+            self.assert_answer(osk_store(lent, position, codes), 0, 0)
+            self.assertEqual(lent, edited(filled(monitors, unlocked=1), {70 * (position - 1) + 12: stored}))
+
+    def test_flags_stay(self):
+        for flags in bytes(6), b"\xff" * 6, bytes.fromhex("0102040810A5"):
+            table = edited(bytearray(70), {6: bytes.fromhex("FF0F00"), STATUS_D: flags})  # VUV -1, VOV 0
+            for codes in [-17, 1] * 8, [0] * 16:
+                lent = bytearray(table)
+                self.assert_answer(osk_store(lent, 1, codes), 0, 0)
+                self.assertEqual(lent, edited(table, {12: cells(codes)}))
+
+    def test_store_after_store(self):
+        table = edited(bytearray(70), {6: bytes.fromhex("FF0F00")})  # VUV -1, VOV 0
+        for codes in [-17] * 16, [0] * 15 + [1]:
+            self.assert_answer(osk_store(table, 1, codes), 0, 0)
+        self.assert_answer(osk_compare(table, 1), 0, 0)
+        self.assertEqual(table[12:44], bytes(30) + b"\x01\x00")
+        self.assertEqual(table[50:56].hex(), "000000800000", "the codes that were replaced are compared no more")
+
+
+class Compares(Case):
+    def flags(self, lower_and_upper, codes, before=bytes(6)):
+        """Status D of monitor 2 of three after a compare, which changes nothing else. The cells are laid in the table as bytes."""
+        table = edited(filled(3, unlocked=1), {76: bytes.fromhex(lower_and_upper), 82: cells(codes), 70 + STATUS_D: before})
+        lent = bytearray(table)
+        self.assert_answer(osk_compare(lent, 2), 0, 0)
+        self.assertEqual(lent, edited(table, {70 + STATUS_D: lent[120:126]}))
+        again = bytearray(lent)
+        self.assert_answer(osk_compare(again, 2), 0, 0)
+        self.assertEqual(again, lent, "a second compare finds nothing new")
+        return lent[120:126].hex()
+
+    def test_cleared_cells_are_skipped(self):
+        highest = "FFF77F"  # VUV and VOV 2047 are the code 32752
+        self.assertEqual(self.flags(highest, [-32768] * 16), "000000000000")
+        for code, place in (-32767, 0), (-32512, 0), (0, 0), (128, 0), (32751, 0), (32753, 1):
+            for cell in range(1, 17):
+                codes = [-32768] * 16
+                codes[cell - 1] = code
+                bit = 8 * ((cell - 1) // 4) + 2 * ((cell - 1) % 4) + place
+                self.assertEqual(self.flags(highest, codes), (1 << bit).to_bytes(6, "little").hex())
+
+    def test_flags_are_only_set(self):
+        for code in 0, -32768:
+            for before in "ffffffffffff", "0102040810a5":
+                self.assertEqual(self.flags("FF0F00", [code] * 16, before=bytes.fromhex(before)), before)  # VUV -1, VOV 0
+        self.assertEqual(self.flags("FF0F00", [-17, 1, 0, -32768] * 4, before=bytes.fromhex("90600000FFFF")), "99690909ffff")
+
+    def test_after_clrcell(self):
+        table = edited(filled(1), {6: bytes.fromhex("FF0F00"), STATUS_D: bytes(6)})  # VUV -1, VOV 0
+        for compared_first, flags in (False, "000000000000"), (True, "999999990000"):
+            lent = bytearray(table)
+            self.assert_answer(osk_store(lent, 1, [-17, 1] * 8), 0, 0)
+            if compared_first:
+                self.assert_answer(osk_compare(lent, 1), 0, 0)
+            self.assert_answer(osk_frame(lent, wire.command_bytes(wire.CLRCELL), bytearray()), 1, 0)
+            self.assert_answer(osk_compare(lent, 1), 0, 0)
+            self.assertEqual(lent, edited(table, {12: b"\x00\x80" * 16, STATUS_D: bytes.fromhex(flags), COUNTER: b"\x06"}))
+
+    def test_by_thresholds_that_came_after_the_store(self):
+        """VUV and VOV are 0 at the store, and at the compare -1 and 1: of -17 and 1 only -17 is past its threshold then."""
+        later = wire.write(wire.WRCFGB, wire.payload(bytes.fromhex("FF1F00000000")))
+        table, clocked_table, state = bytearray(70), bytearray(70), started()
+        for lent in table, clocked_table:
+            self.assert_answer(osk_store(lent, 1, [-17, 1] * 8), 0, 0)
+        self.assert_answer(osk_frame(table, later, bytearray()), 1, 0)
+        clocked(state, clocked_table, later)
+        self.assert_answer(osk_clock_release(state, clocked_table), 1, 0)
+        for flags in "000000000000", "111111110000":
+            reply = bytearray(8)
+            self.assert_answer(osk_frame(table, wire.read(wire.RDSTATD, 1), reply), 1, 8)
+            self.assertEqual(reply, wire.payload(bytes.fromhex(flags), 1))
+            self.assertEqual(clocked(state, clocked_table, wire.read(wire.RDSTATD, 1))[4:], reply)
+            self.assert_answer(osk_clock_release(state, clocked_table), 1, 8)
+            for lent in table, clocked_table:
+                self.assert_answer(osk_compare(lent, 1), 0, 0)
+        self.assertEqual(clocked_table, table)
+
+    def test_refusals_in_their_order(self):
+        for name, table in UNSOUND.items():
+            with self.subTest(table=name):
+                for position in 0, 1:
+                    self.keeps(table, position, OSK_TABLE_NOT_SOUND)
+        for position in 0, 3, 33, PAST_32_BITS, (1 << 64) - 1:
+            self.keeps(filled(2), position, OSK_POSITION_WRONG)
+
+    def keeps(self, table, position, number):
+        lent = bytearray(table)
+        self.assert_refused(osk_compare(lent, position), number)
+        self.assertEqual(lent, table)
+
+
+class Loads(TakesCodes, Case):
+    function = staticmethod(osk_load)
+
     def flags(self, lower_and_upper, code, cell=1, before=bytes(6)):
         """Status D of monitor 2 after a load that gives one cell the code and the others one between the thresholds."""
         table = edited(bytearray(140), {76: bytes.fromhex(lower_and_upper), 70 + STATUS_D: before})
         codes = [0] * 16
         codes[cell - 1] = code
         lent = bytearray(table)
-        self.assert_answer(osk_load(lent, 2, codes), 0, 0)
-        stored = b"".join(each.to_bytes(2, "little", signed=True) for each in codes)
-        self.assertEqual(lent, edited(table, {82: stored, 70 + STATUS_D: lent[120:126]}))
+        self.assert_answer(self.function(lent, 2, codes), 0, 0)
+        self.assertEqual(lent, edited(table, {82: cells(codes), 70 + STATUS_D: lent[120:126]}))
         return lent[120:126].hex()
 
     def test_thresholds(self):
@@ -221,24 +357,19 @@ class Loads(Case):
         self.assertEqual(self.flags("004006", 0, before=b"\xff" * 6), "ff" * 6)
         self.assertEqual(self.flags("0140FF", 0), "ffffffff0000")  # VUV 1 above VOV -12: every cell, both flags
 
-    def test_refusals_in_their_order(self):
-        codes = list(range(16))
-        cleared = codes[:15] + [-32768]
-        for name, table in UNSOUND.items():
-            with self.subTest(table=name):
-                lent = bytearray(table)
-                self.assert_refused(osk_load(lent, 0, []), OSK_TABLE_NOT_SOUND)
-                self.assertEqual(lent, table)
-        for position in 0, 3, 33, PAST_32_BITS, (1 << 64) - 1:
-            self.keeps(position, [], OSK_POSITION_WRONG)
-        for wrong in [], codes[:15], codes + [0], [-32768] * 17:
-            self.keeps(2, wrong, OSK_COUNT_WRONG)
-        self.keeps(1, cleared, OSK_CODE_CLEARED)
 
-    def keeps(self, position, codes, number):
-        lent = filled(2)
-        self.assert_refused(osk_load(lent, position, codes), number)
-        self.assertEqual(lent, filled(2))
+class LoadsInTwo(Loads):
+    """All of it once more by the two calls that a load stands for."""
+
+    function = staticmethod(stored_and_compared)
+
+    def test_same_as_at_once(self):
+        for first in range(0, 65535, 4001):
+            codes = [(first + 5003 * cell) % 65535 - 32767 for cell in range(16)]
+            for position in 1, 2, 3:
+                at_once, in_two = filled(3), filled(3)
+                self.assertEqual(osk_load(at_once, position, codes), stored_and_compared(in_two, position, codes))
+                self.assertEqual(at_once, in_two)
 
 
 class Host(Case):

@@ -8,14 +8,16 @@ mod long_runs;
 mod never_started;
 mod payloads;
 mod readings;
+mod stores;
 mod tables;
 
 use crate::run::{Done, Run};
 use crate::tally::NEVER_STARTED;
 
-pub const KINDS: [(&str, fn(&mut Run) -> Done); 9] = [
+pub const KINDS: [(&str, fn(&mut Run) -> Done); 10] = [
     ("frames", frames::cases),
     ("tables", tables::cases),
+    ("stores", stores::cases),
     ("loads", loads::cases),
     ("host frames", host_frames::cases),
     ("payloads", payloads::cases),

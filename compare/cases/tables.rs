@@ -1,6 +1,6 @@
-//! What makes a table sound: its length, and two bytes of each record. Tried on each of the four functions that are lent a table.
+//! What makes a table sound: its length, and two bytes of each record. Tried on each of the six functions that are lent a table.
 
-use crate::both::{frame, load};
+use crate::both::{compare, frame, load, store};
 use crate::clocks::Clocks;
 use crate::inputs::{self, head, MOST, RECORD};
 use crate::lent::{Both, Lent};
@@ -15,10 +15,14 @@ pub fn cases(run: &mut Run) -> Done {
     each_record(run, &mut clocks)
 }
 
-/// A bare command, a load, and a bare command clocked with this table at byte four and at the release.
+/// A bare command, a store, a compare, a load, and a bare command clocked with this table at byte four and at the release.
 fn try_table(run: &mut Run, clocks: &mut Clocks, bytes: &[u8]) -> Done {
     let mut table = Both::new(&mut run.random, bytes);
     frame(run, &mut table, &head(RSTCC), 0)?;
+    let mut table = Both::new(&mut run.random, bytes);
+    store(run, &mut table, 1, &[0; 16])?;
+    let mut table = Both::new(&mut run.random, bytes);
+    compare(run, &mut table, 1)?;
     let mut table = Both::new(&mut run.random, bytes);
     load(run, &mut table, 1, &[0; 16])?;
 

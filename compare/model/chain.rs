@@ -1,4 +1,4 @@
-//! "The table", a whole frame and a load, each with its refusals in the paper's order.
+//! "The table", and a whole frame, a store, a compare and a load, each with its refusals in the paper's order.
 
 use crate::commands::{received, Command};
 use crate::monitor::{self, Record, CLEARED, RECORD};
@@ -67,20 +67,38 @@ fn whole(table: &mut [u8], frame: &[u8], reply: &mut [u8]) -> Outcome {
     }
 }
 
-/// Loads 16 codes into the monitor at a position, 1 to N.
-pub fn load(table: &mut [u8], position: usize, codes: &[i16]) -> u32 {
-    packed(load_one(table, position, codes))
+/// Stores 16 codes as the cells of the monitor at a position, 1 to N.
+pub fn store(table: &mut [u8], position: usize, codes: &[i16]) -> u32 {
+    packed(with_codes(table, position, codes, monitor::store))
 }
 
-fn load_one(table: &mut [u8], position: usize, codes: &[i16]) -> Outcome {
-    let monitors = sound(table)?;
-    if !(1..=monitors).contains(&position) {
-        return Err(Refusal::PositionWrong);
-    }
+/// Loads 16 codes into the monitor at a position, 1 to N.
+pub fn load(table: &mut [u8], position: usize, codes: &[i16]) -> u32 {
+    packed(with_codes(table, position, codes, monitor::load))
+}
+
+fn with_codes(table: &mut [u8], position: usize, codes: &[i16], act: fn(&mut Record, &[i16; 16])) -> Outcome {
+    let record = record_at(table, position)?;
     let codes: &[i16; 16] = codes.try_into().map_err(|_| Refusal::CountWrong)?;
     if codes.contains(&CLEARED) {
         return Err(Refusal::CodeCleared);
     }
-    monitor::load(&mut records_mut(table)[position - 1], codes);
+    act(record, codes);
     Ok((0, 0))
+}
+
+/// Compares the stored cells of the monitor at a position, 1 to N, with its thresholds.
+pub fn compare(table: &mut [u8], position: usize) -> u32 {
+    packed(record_at(table, position).map(|record| {
+        monitor::compare(record);
+        (0, 0)
+    }))
+}
+
+fn record_at(table: &mut [u8], position: usize) -> Result<&mut Record, Refusal> {
+    let monitors = sound(table)?;
+    if !(1..=monitors).contains(&position) {
+        return Err(Refusal::PositionWrong);
+    }
+    Ok(&mut records_mut(table)[position - 1])
 }

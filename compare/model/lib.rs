@@ -1,4 +1,4 @@
-//! Document 01 (paper/01-scope.md) written once more, from the paper alone: one file for each of its sections.
+//! Document 01 (paper/01-scope.md), with request L1 of document 02, written once more from the papers alone: one file for each section.
 //!
 //! It shares nothing with the proved code, so that a difference between the two shows a mistake in one of them. Each public function
 //! stands beside a function of include/oskorbine.h and packs its answer the same way. Nothing here allocates.
@@ -15,7 +15,7 @@ mod readings;
 #[cfg(test)]
 mod worked_examples;
 
-pub use chain::{frame, load};
+pub use chain::{compare, frame, load, store};
 pub use check_words::{
     command_pec, command_pec_bit_by_bit, data_pec, data_pec_bit_by_bit, data_pec_with_counter, data_pec_with_counter_bit_by_bit,
 };

@@ -1,4 +1,5 @@
-//! One monitor's record: what a command does to it, what it replies, and what a load sets ("Effects", "Counter", "Thresholds").
+//! One monitor's record: what a command does to it, what it replies, and its cells stored, compared and loaded ("Effects", "Counter",
+//! "Thresholds", L1).
 
 use crate::check_words::{payload, payload_right};
 use crate::commands::{at, Bare, Read, Write};
@@ -93,6 +94,10 @@ fn set_cell(record: &mut Record, cell: usize, code: i16) {
     record[at::CELLS + 2 * cell..][..2].copy_from_slice(&code.to_le_bytes());
 }
 
+fn cell_code(record: &Record, cell: usize) -> i16 {
+    i16::from_le_bytes([record[at::CELLS + 2 * cell], record[at::CELLS + 2 * cell + 1]])
+}
+
 /// VUV and VOV, as steps of 16 codes.
 pub fn thresholds(record: &Record) -> (i16, i16) {
     let [low, middle, high] = [0, 1, 2].map(|byte| u16::from(record[at::CONFIGURATION_B + byte]));
@@ -103,13 +108,34 @@ fn twelve_bits(bits: u16) -> i16 {
     (bits << 4) as i16 >> 4
 }
 
-/// Stores the codes and then sets the flags; a flag that stands is left standing.
-pub fn load(record: &mut Record, codes: &[i16; 16]) {
+/// Sets the flags of a cell with this code; a flag that stands is left standing.
+fn set_flags(record: &mut Record, cell: usize, code: i16) {
     let (vuv, vov) = thresholds(record);
+    let uv = i32::from(code) < 16 * i32::from(vuv);
+    let ov = i32::from(code) > 16 * i32::from(vov);
+    record[at::STATUS_D + cell / 4] |= (u8::from(ov) << 1 | u8::from(uv)) << (2 * (cell % 4));
+}
+
+pub fn store(record: &mut Record, codes: &[i16; 16]) {
     for (cell, &code) in codes.iter().enumerate() {
         set_cell(record, cell, code);
-        let uv = i32::from(code) < 16 * i32::from(vuv);
-        let ov = i32::from(code) > 16 * i32::from(vov);
-        record[at::STATUS_D + cell / 4] |= (u8::from(ov) << 1 | u8::from(uv)) << (2 * (cell % 4));
+    }
+}
+
+/// The cells as they stand now, with the thresholds as they stand now. A cleared cell is no reading and is skipped.
+pub fn compare(record: &mut Record) {
+    for cell in 0..16 {
+        let code = cell_code(record, cell);
+        if code != CLEARED {
+            set_flags(record, cell, code);
+        }
+    }
+}
+
+/// The load of document 01, which L1 wants store and compare to equal. It is not made of the two, so that it can be held against them.
+pub fn load(record: &mut Record, codes: &[i16; 16]) {
+    for (cell, &code) in codes.iter().enumerate() {
+        set_cell(record, cell, code);
+        set_flags(record, cell, code);
     }
 }

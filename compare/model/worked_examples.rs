@@ -1,4 +1,5 @@
-//! The fourteen worked examples of "On either side of the line", and what stands below them as "run by a program".
+//! The fourteen worked examples of "On either side of the line", what stands below them as "run by a program", and what L1 says of a
+//! store and a compare.
 
 use crate::check_words::{command_bytes, payload};
 use crate::commands::{at, listed, Command, Write};
@@ -17,10 +18,15 @@ fn record_with(vuv: i16, vov: i16) -> [u8; RECORD] {
     record
 }
 
-/// The two flag bits of cell 1 after a load of this code in every cell.
+/// The two flag bits of cell 1 after this code in every cell: loaded, or stored and then compared.
 fn flags_of_cell_1(vuv: i16, vov: i16, code: i16) -> u8 {
     let mut table = record_with(vuv, vov);
     assert_eq!(load(&mut table, 1, &[code; 16]), 0);
+    let mut in_two = record_with(vuv, vov);
+    assert_eq!(store(&mut in_two, 1, &[code; 16]), 0);
+    assert_eq!(in_two[at::STATUS_D..][..6], [0; 6]);
+    assert_eq!(compare(&mut in_two, 1), 0);
+    assert_eq!(in_two, table);
     table[at::STATUS_D] & 0b11
 }
 
@@ -70,6 +76,65 @@ fn examples_11_and_12_flags() {
     assert_eq!(flags_of_cell_1(0, 100, 1601), 0b10);
     assert_eq!(flags_of_cell_1(-1, 0, -16), 0b00);
     assert_eq!(flags_of_cell_1(-1, 0, -17), 0b01);
+}
+
+/// By hand: thresholds of 16 and -16 codes, crossed, so that a cell between them has both flags.
+#[test]
+fn a_compare_sets_flags_and_skips_cleared_cells() {
+    let mut table = record_with(1, -1);
+    let cells: [i16; 16] = [-32768, 0, 16, -16, 15, -15, 17, -17, -32768, -32768, -32767, 32767, 128, -32768, 0, -32768];
+    for (cell, code) in cells.into_iter().enumerate() {
+        table[at::CELLS + 2 * cell..][..2].copy_from_slice(&code.to_le_bytes());
+    }
+    table[at::STATUS_D + 2] = 0b10_00_00_01;
+    let mut expected = table;
+    // Four cells a byte, the first one lowest. In the third byte cell 9's UV and cell 12's OV stood before.
+    expected[at::STATUS_D..][..4].copy_from_slice(&[0b01_10_11_00, 0b01_10_11_11, 0b10_01_00_01, 0b00_11_00_10]);
+    assert_eq!(compare(&mut table, 1), 0);
+    assert_eq!(table, expected);
+    assert_eq!(frame(&mut table, &command_bytes(0x0711), &mut []), 1 << 8);
+    let cleared = table;
+    assert_eq!(compare(&mut table, 1), 0);
+    assert_eq!(table, cleared);
+}
+
+/// L1: "An accepted store and then compare must equal the old load", whatever flags stood.
+#[test]
+fn a_store_and_then_a_compare_are_the_old_load() {
+    let edges = [-2048, -2047, -1, 0, 1, 100, 2047];
+    for (vuv, vov) in edges.into_iter().flat_map(|vuv| edges.map(|vov| (vuv, vov))) {
+        let near = edges.into_iter().flat_map(|edge| [-1, 0, 1].map(|beside| 16 * i32::from(edge) + beside));
+        let codes: Vec<i16> = near.chain([32767, -32767]).map(|code| code.max(-32767) as i16).collect();
+        for (first, flags) in (0..codes.len()).flat_map(|first| [0x00, 0xFF, 0x5A].map(|flags| (first, flags))) {
+            let sixteen: [i16; 16] = std::array::from_fn(|cell| codes[(first + cell) % codes.len()]);
+            let mut loaded = record_with(vuv, vov);
+            loaded[at::STATUS_D..][..6].fill(flags);
+            let mut in_two = loaded;
+            assert_eq!(load(&mut loaded, 1, &sixteen), 0);
+            assert_eq!([store(&mut in_two, 1, &sixteen), compare(&mut in_two, 1)], [0, 0]);
+            assert_eq!(in_two, loaded, "VUV {vuv}, VOV {vov}, {sixteen:?}");
+        }
+    }
+}
+
+#[test]
+fn refusals_of_a_store_and_a_compare() {
+    let mut unsound = ZERO_RECORD;
+    unsound[at::COUNTER] = 64;
+    let [right, cleared] = [[0; 16], [-32768; 16]];
+    for (table, position, codes, stored, compared) in [
+        (unsound, 0, &cleared[..3], 1, 1),
+        (ZERO_RECORD, 0, &cleared[..3], 7, 7),
+        (ZERO_RECORD, 2, &cleared[..], 7, 7),
+        (ZERO_RECORD, 1, &cleared[..15], 8, 0),
+        (ZERO_RECORD, 1, &cleared[..], 9, 0),
+        (ZERO_RECORD, 1, &right[..], 0, 0),
+    ] {
+        // Cells and thresholds all 0, so that neither changes a byte where it is accepted.
+        let mut lent = table;
+        assert_eq!([store(&mut lent, position, codes), compare(&mut lent, position)], [stored, compared]);
+        assert_eq!(lent, table);
+    }
 }
 
 #[test]

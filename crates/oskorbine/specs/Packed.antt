@@ -58,7 +58,7 @@ abbrev pub frameParts : Answer → Parts
 frameParts (Refused r) = refused r
 frameParts (Accepted taken reply) = accepted taken reply
 
--- a load has no values
+-- a store, a compare and a load have no values
 abbrev pub loadParts : Loaded → Parts
 loadParts l = record { number = loadNumber l; first = 0; second = 0 }
 

@@ -1,17 +1,20 @@
 // The surface for C: numbers and slices only, and nothing decided here. A slice is a pointer and a length; an answer is a u32 that
 // holds the refusal number and two values (specs/Packed).
+mod cells;
 mod clocks;
 mod frames;
 mod hosts;
 mod packing;
 mod volts;
 
+pub use cells::osk_compare;
+pub use cells::osk_load;
+pub use cells::osk_store;
 pub use clocks::osk_clock_byte;
 pub use clocks::osk_clock_release;
 pub use clocks::osk_clock_start;
 pub use clocks::osk_clock_window;
 pub use frames::osk_frame;
-pub use frames::osk_load;
 pub use hosts::osk_check;
 pub use hosts::osk_host_frame;
 pub use hosts::osk_two_ports;

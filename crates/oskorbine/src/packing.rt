@@ -1,8 +1,9 @@
 // An answer as one number.
 ghost use mathlib.Core.Path.{_≡_};
 ghost use Prim.Native.Nat.{_<_};
-ghost use Rattle.oskorbine.specs.Packed.{packed, refused, accepted, frameParts, Fit};
+ghost use Rattle.oskorbine.specs.Packed.{packed, refused, accepted, frameParts, loadParts, Fit};
 use chain::Answer;
+use loads::Loaded;
 use refusals::Refusal;
 
 // The number in bits 0 to 7, the first value in bits 8 to 15, the second in bits 16 to 31.
@@ -36,4 +37,11 @@ pub(crate) fn frame_answer(answer: Answer) -> u32
         Answer::Refused(refusal) => refused(refusal),
         Answer::Accepted { taken, reply } => accepted(taken, reply),
     }
+}
+
+// What comes of a store, a compare or a load.
+pub(crate) fn load_answer(loaded: Loaded) -> u32
+    ensures { λ r. ⌜ r ≡ packed (loadParts loaded) ⌝ }
+{
+    pack(loads::load_number(loaded), 0, 0)
 }

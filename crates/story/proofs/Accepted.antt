@@ -1,19 +1,18 @@
--- What comes of a frame, a load and a host's frame of which no refusal holds: the answer, each monitor's record and reply, and what our
+-- What comes of a frame, a store, a compare, a load and a host's frame of which no refusal holds: the answer, each monitor's record and reply, and what our
 -- host writes. With no refusal the outcome is the accepted one; it is taken apart by the laws of `chain` and `host`.
 -- Assumes nothing.
 use mathlib.Core.Path.{_≡_, sym, ap, _∙_}
-use mathlib.Core.Bool.{true, _&&_}
+use mathlib.Core.Bool.{true}
 use mathlib.Core.List.{List, _++_}
 use Prim.Native.Nat.{ℕ, suc, _-_, _*_, _<_}
-use native.Mathlib.Omega.{arith}
-use lib.Dec.{leb}
 use lib.IntN.{ℤ}
 use lib.ListN.{length, drop}
-use borrow.Author.Tests.{leb-true, eqb-true, not-false}
+use borrow.Author.Tests.{eqb-true, not-false}
 use Rattle.laws.specs.Counts.{count}
 use Rattle.laws.specs.Rows.{rowAt}
 use Rattle.pec.specs.Words.{payloadRight}
 use Rattle.refusals.specs.declared.Refusal.{Refusal}
+use Rattle.refusals.specs.Order.{Row, decide}
 use Rattle.refusals.proofs.Deciding.{Passed, passes}
 use Rattle.records.specs.declared.commands.Bare.{Bare}
 use Rattle.records.specs.declared.commands.Command.{Command}
@@ -24,9 +23,8 @@ use Rattle.records.specs.Record.{recordSize}
 use Rattle.records.specs.Commands.{payloadSize, replyLength}
 use Rattle.monitor.specs.Effects.{keeps}
 use Rattle.reads.specs.Reply.{reply}
-use Rattle.records.proofs.Answers.{both-first}
 use Rattle.chain.specs.declared.frames.Answer.the-variants.{Refused, Accepted}
-use Rattle.judging.specs.Table.{monitors, sound}
+use Rattle.judging.specs.Table.{monitors, sound, changedAt}
 use Rattle.judging.specs.Refusals.{commandIn}
 use Rattle.serving.specs.Served.{payloadsIn, takenBy, kept}
 use Rattle.replying.specs.Replied.{replied}
@@ -35,13 +33,14 @@ use Rattle.serving.proofs.OwnRecord.{own-record}
 use Rattle.replying.proofs.OwnReply.{own-reply, past-reply}
 use Rattle.judging.proofs.Soundness.{is-sound}
 use Rattle.loads.specs.declared.loads.Loaded.the-variants.{Unloaded, Done}
-use Rattle.cells.specs.Cells.{load}
-use Rattle.loads.specs.Load.{loadRefusals, loadedAt, loaded, tableAfterLoad}
-use Rattle.loads.proofs.OwnLoad.{loaded-record, other-record}
+use Rattle.cells.specs.Cells.{store, compare, load}
+use Rattle.cells.proofs.Loaded.{length-store, length-compare, length-load}
+use Rattle.judging.proofs.Changed.{changed-record, other-record}
+use Rattle.loads.specs.Load.{storeRefusals, stored, tableAfterStore, compareRefusals, compared, tableAfterCompare, loadRefusals, loaded, tableAfterLoad}
+use Rattle.loads.proofs.Place.{Place, place, there, fits, store-place}
 use Rattle.host.specs.declared.frames.Built.the-variants.{Unbuilt, Length}
 use Rattle.host.specs.Frames.{frameFor, buildRefusals, built, bufferAfter}
 use Rattle.host.proofs.FrameFor.{length-frame}
-use Rattle.laws.proofs.Tests.{both-second}
 use Rattle.story.specs.Numbers.{First}
 use Rattle.story.specs.Runs.{takers}
 use Rattle.story.proofs.Numbers.{first-refuses}
@@ -108,40 +107,66 @@ module _ (table frame buffer : List ℕ) (none : Passed (frameRefusals table fra
   unfolding replied
   bare-no-reply c its = buffer-by its
 
--- ---- a load
+-- ---- a store, a compare and a load
+
+-- one record becomes what f makes of it, and every other stays
+module _ (rows : List Row) (table : List ℕ) (position : ℕ) (f : List ℕ → List ℕ) (as-long : (r : List ℕ) → length (f r) ≡ length r) (place : Place table position) (none : Passed rows) where
+  abbrev after : List ℕ
+  after = decide rows (λ r. table) (changedAt (position - 1) f table)
+
+  is-changed : after ≡ changedAt (position - 1) f table
+  is-changed = passes rows (λ r. table) (changedAt (position - 1) f table) none
+
+  own : rowAt recordSize (position - 1) after ≡ f (rowAt recordSize (position - 1) table)
+  own = ap (rowAt recordSize (position - 1)) is-changed ∙ changed-record (position - 1) f as-long table (fits table position place)
+
+  others : (j : ℕ) → j < monitors table → (j ≡ position - 1 → ⊥) → rowAt recordSize j after ≡ rowAt recordSize j table
+  others j h apart =
+      ap (rowAt recordSize j) is-changed
+      ∙ other-record (position - 1) f as-long (monitors table) table (there table position place) (is-sound table (place .its-sound) .whole) j h apart
+
+module _ (table : List ℕ) (position : ℕ) (none : Passed (compareRefusals table position)) where
+  pub compare-done : compared table position ≡ Done
+  unfolding compared
+  compare-done = passes (compareRefusals table position) Unloaded Done none
+
+  pub compare-own : rowAt recordSize (position - 1) (tableAfterCompare table position) ≡ compare (rowAt recordSize (position - 1) table)
+  unfolding tableAfterCompare
+  compare-own = own (compareRefusals table position) table position compare length-compare (place table position none) none
+
+  pub compare-others : (j : ℕ) → j < monitors table → (j ≡ position - 1 → ⊥) → rowAt recordSize j (tableAfterCompare table position) ≡ rowAt recordSize j table
+  unfolding tableAfterCompare
+  compare-others = others (compareRefusals table position) table position compare length-compare (place table position none) none
+
+module _ (table : List ℕ) (position : ℕ) (codes : List ℤ) (none : Passed (storeRefusals table position codes)) where
+  pub store-done : stored table position codes ≡ Done
+  unfolding stored
+  store-done = passes (storeRefusals table position codes) Unloaded Done none
+
+  pub store-own : rowAt recordSize (position - 1) (tableAfterStore table position codes) ≡ store codes (rowAt recordSize (position - 1) table)
+  unfolding tableAfterStore
+  store-own = own (storeRefusals table position codes) table position (store codes) (length-store codes) (store-place table position codes none) none
+
+  pub store-others : (j : ℕ) → j < monitors table → (j ≡ position - 1 → ⊥) → rowAt recordSize j (tableAfterStore table position codes) ≡ rowAt recordSize j table
+  unfolding tableAfterStore
+  store-others = others (storeRefusals table position codes) table position (store codes) (length-store codes) (store-place table position codes none) none
 
 module _ (table : List ℕ) (position : ℕ) (codes : List ℤ) (none : Passed (loadRefusals table position codes)) where
-  load-sound : sound table ≡ true
-  unfolding loadRefusals
-  load-sound = not-false (sound table) (none .0)
-
-  there : position - 1 < monitors table
-  unfolding loadRefusals
-  there =
-      let first = leb 1 position in
-      let last = leb position (monitors table) in
-      let within = not-false (first && last) (none .1 .0) in
-      let low = leb-true 1 position (both-first first last within) in
-      let high = leb-true position (monitors table) (both-second first last within) in
-      omega arith
+  its-place : Place table position
+  unfolding loadRefusals storeRefusals
+  its-place = store-place table position codes none
 
   pub load-done : loaded table position codes ≡ Done
   unfolding loaded
   load-done = passes (loadRefusals table position codes) Unloaded Done none
 
-  table-loaded : tableAfterLoad table position codes ≡ loadedAt (position - 1) codes table
-  unfolding tableAfterLoad
-  table-loaded = passes (loadRefusals table position codes) (λ r. table) _ none
-
   pub load-own : rowAt recordSize (position - 1) (tableAfterLoad table position codes) ≡ load codes (rowAt recordSize (position - 1) table)
-  load-own =
-      ap (rowAt recordSize (position - 1)) table-loaded
-      ∙ loaded-record (position - 1) codes (monitors table) table there (is-sound table load-sound .whole)
+  unfolding tableAfterLoad
+  load-own = own (loadRefusals table position codes) table position (load codes) (length-load codes) its-place none
 
   pub load-others : (j : ℕ) → j < monitors table → (j ≡ position - 1 → ⊥) → rowAt recordSize j (tableAfterLoad table position codes) ≡ rowAt recordSize j table
-  load-others j h apart =
-      ap (rowAt recordSize j) table-loaded
-      ∙ other-record (position - 1) codes (monitors table) table there (is-sound table load-sound .whole) j h apart
+  unfolding tableAfterLoad
+  load-others = others (loadRefusals table position codes) table position (load codes) (length-load codes) its-place none
 
 -- ---- a host's frame
 

@@ -38,12 +38,12 @@ use Rattle.replying.proofs as replying
 use Rattle.chain.proofs as chain
 use Rattle.chain.proofs.Refused.{refused-table, refused-reply}
 use Rattle.loads.specs.declared.loads.Loaded.the-variants.{Unloaded}
-use Rattle.loads.specs.Load.{loadRefusals, loaded, tableAfterLoad}
+use Rattle.loads.specs.Load.{storeRefusals, stored, tableAfterStore, compareRefusals, compared, tableAfterCompare, loadRefusals, loaded, tableAfterLoad}
 use Rattle.loads.specs.Numbers.{loadNumber}
 use Rattle.thresholds.proofs as thresholds
 use Rattle.cells.proofs as cells
 use Rattle.loads.proofs as loads
-use Rattle.loads.proofs.Refused.{refused-load}
+use Rattle.loads.proofs.Refused.{refused-store, refused-compare, refused-load}
 use Rattle.releasing.specs.declared.looks.Looked.the-variants.{Refused as Unseen}
 use Rattle.clocking.specs.Clock.{Clock, start}
 use Rattle.releasing.specs.Release.{releaseRefusals, released, tableReleased}
@@ -67,7 +67,7 @@ use Rattle.readings.specs.Readings.{summaryOf}
 use Rattle.readings.proofs as readings
 use Rattle.story.specs.Numbers.{builtNumbers, checkedNumbers, portNumber, lookedNumbers, packNumbers, summaryRefusals, firstNumber, First, order}
 use Rattle.story.proofs.OneOutcome.{OneOutcome, one-outcomes}
-use Rattle.story.proofs.Numbers.{number-exactly, zero-exactly, frame-number, load-number, release-number, look-number, built-number, checked-number, port-number, summary-number}
+use Rattle.story.proofs.Numbers.{number-exactly, zero-exactly, frame-number, store-number, compare-number, load-number, release-number, look-number, built-number, checked-number, port-number, summary-number}
 use Rattle.story.proofs.Stays.{refused-release, refused-look, refused-build, refused-part}
 
 -- ---- every public function of every library
@@ -125,9 +125,10 @@ pub record Promises : Type 2 where
   over-threshold : Promised thresholds.over_threshold.Statement.statement thresholds.over_threshold.Reads.Asked
   under-threshold : Promised thresholds.under_threshold.Statement.statement thresholds.under_threshold.Reads.Asked
   load-number : Promised loads.load_number.Statement.statement loads.load_number.Reads.Asked
-  store : Promised cells.store.Statement.statement cells.store.Reads.Asked
-  compare : Promised cells.compare.Statement.statement cells.compare.Reads.Asked
-  load-one : Promised cells.load_one.Statement.statement cells.load_one.Reads.Asked
+  store-one : Promised cells.store.Statement.statement cells.store.Reads.Asked
+  compare-one : Promised cells.compare.Statement.statement cells.compare.Reads.Asked
+  store : Promised loads.store.Statement.statement loads.store.Reads.Asked
+  compare : Promised loads.compare.Statement.statement loads.compare.Reads.Asked
   load : Promised loads.load.Statement.statement loads.load.Reads.Asked
   -- the clocked engine
   start : Promised clock_state.start.Statement.statement clock_state.start.Reads.Asked
@@ -165,7 +166,14 @@ pub record Demand1 : Type 2 where
   no-6-for-a-bare : (room : ℕ) (c : Bare) (n : ℕ) → roomRow room (Bares c) n .holds ≡ false
   frame-stays : (table frame buffer : List ℕ) (r : Refusal) → answer table frame (length buffer) ≡ Refused r
       → (tableAfter table frame (length buffer) ≡ table) × (replyAfter table frame buffer ≡ buffer)
-  -- a load: `loads::load`
+  -- a store, a compare and a load: `loads::store`, `loads::compare` and `loads::load`
+  store : (table : List ℕ) (position : ℕ) (codes : List ℤ) → loadNumber (stored table position codes) ≡ firstNumber (storeRefusals table position codes)
+  store-order : (table : List ℕ) (position : ℕ) (codes : List ℤ) → order (storeRefusals table position codes) ≡ 1 ∷ 7 ∷ 8 ∷ 9 ∷ []
+  store-stays : (table : List ℕ) (position : ℕ) (codes : List ℤ) (r : Refusal) → stored table position codes ≡ Unloaded r
+      → tableAfterStore table position codes ≡ table
+  compare : (table : List ℕ) (position : ℕ) → loadNumber (compared table position) ≡ firstNumber (compareRefusals table position)
+  compare-order : (table : List ℕ) (position : ℕ) → order (compareRefusals table position) ≡ 1 ∷ 7 ∷ []
+  compare-stays : (table : List ℕ) (position : ℕ) (r : Refusal) → compared table position ≡ Unloaded r → tableAfterCompare table position ≡ table
   load : (table : List ℕ) (position : ℕ) (codes : List ℤ) → loadNumber (loaded table position codes) ≡ firstNumber (loadRefusals table position codes)
   load-order : (table : List ℕ) (position : ℕ) (codes : List ℤ) → order (loadRefusals table position codes) ≡ 1 ∷ 7 ∷ 8 ∷ 9 ∷ []
   load-stays : (table : List ℕ) (position : ℕ) (codes : List ℤ) (r : Refusal) → loaded table position codes ≡ Unloaded r
@@ -242,9 +250,10 @@ proved =
       over-threshold = (λ M. thresholds.over_threshold.Met.met, λ κ a. tt);
       under-threshold = (λ M. thresholds.under_threshold.Met.met, λ κ a. tt);
       load-number = (λ M. loads.load_number.Met.met, λ κ a. tt);
-      store = (λ M. cells.store.Met.met, λ κ a. tt);
-      compare = (λ M. cells.compare.Met.met, λ κ a. tt);
-      load-one = (λ M. cells.load_one.Met.met, λ κ a. tt);
+      store-one = (λ M. cells.store.Met.met, λ κ a. tt);
+      compare-one = (λ M. cells.compare.Met.met, λ κ a. tt);
+      store = (λ M. loads.store.Met.met, λ κ a. tt);
+      compare = (λ M. loads.compare.Met.met, λ κ a. tt);
       load = (λ M. loads.load.Met.met, λ κ a. tt);
       start = (λ M. clock_state.start.Met.met, λ κ a. tt);
       seen-in = (λ M. clock_state.seen_in.Met.met, λ κ a. tt);
@@ -265,7 +274,7 @@ proved =
     }
 
 pub demand-1 : Demand1
-unfolding frameRefusals loadRefusals buildRefusals checkRefusals portRefusals releaseRefusals lookRefusals
+unfolding frameRefusals storeRefusals compareRefusals loadRefusals buildRefusals checkRefusals portRefusals releaseRefusals lookRefusals
 demand-1 =
     record {
       promises = proved;
@@ -277,6 +286,12 @@ demand-1 =
       no-6-for-a-write = λ room c n. le-ltb room 0 (omega arith);
       no-6-for-a-bare = λ room c n. le-ltb room 0 (omega arith);
       frame-stays = λ table frame buffer r e. (refused-table table frame (length buffer) r e, refused-reply table frame buffer r e);
+      store = store-number;
+      store-order = λ table position codes. refl;
+      store-stays = λ table position codes r. refused-store table position codes r;
+      compare = compare-number;
+      compare-order = λ table position. refl;
+      compare-stays = refused-compare;
       load = load-number;
       load-order = λ table position codes. refl;
       load-stays = refused-load;

@@ -3,18 +3,19 @@
 -- from 0 here: monitor 1 of the paper is k = 0. Each field is proved where it is cited from.
 -- Assumes nothing.
 use mathlib.Core.Path.{_≡_, refl}
-use mathlib.Core.Bool.{true, false, not}
+use mathlib.Core.Bool.{true, false, not, _&&_}
 use mathlib.Core.List.{List, [], _∷_, _++_, map, reverse}
 use Prim.Native.Nat.{ℕ, suc, _-_, _*_, _≤_, _<_}
-use lib.Dec.{eqb, ltb}
+use lib.Bits.{bitOr}
+use lib.Dec.{eqb, ltb, leb}
 use lib.IntN.{ℤ}
 use lib.ListN.{length, take, drop, getD}
-use Rattle.laws.specs.Counts.{count}
+use Rattle.laws.specs.Counts.{all, count}
 use Rattle.laws.specs.Rows.{rows, rowAt}
 use Rattle.pec.specs.Words.{seal, commandRight, payloadRight}
 use Rattle.wire.specs.Order.{replyData}
 use Rattle.refusals.specs.declared.Refusal.{Refusal}
-use Rattle.refusals.specs.declared.Refusal.the-variants.{TableNotSound, FrameShort, CommandWrong, CodeNotListed, LengthWrong, NoRoom}
+use Rattle.refusals.specs.declared.Refusal.the-variants.{TableNotSound, FrameShort, CommandWrong, CodeNotListed, LengthWrong, NoRoom, PositionWrong, CountWrong, CodeCleared}
 use Rattle.refusals.specs.Order.{_gives_}
 use Rattle.refusals.proofs.Deciding.{Passed}
 use Rattle.records.specs.declared.commands.Bare.{Bare}
@@ -22,29 +23,32 @@ use Rattle.records.specs.declared.commands.Command.the-variants.{Reads, Writes,
 use Rattle.records.specs.declared.commands.Write.{Write}
 use Rattle.records.specs.declared.commands.Write.the-variants.{Wrcfgb}
 use Rattle.records.specs.declared.record.Part.{Part}
-use Rattle.records.specs.Record.{recordSize, counter, unlocked, byteOf}
+use Rattle.records.specs.Record.{cellCount, cells, flags, recordSize, counter, unlocked, byteOf}
 use Rattle.records.specs.Commands.{commands, commandOf, isListed, rdcfgb, mostMonitors, payloadSize, frameLength, replyLength}
 use Rattle.writes.specs.Writes.{written}
 use Rattle.monitor.specs.Effects.{locked, counted, done, keeps}
 use Rattle.reads.specs.Reply.{register, reply}
 use Rattle.monitor.proofs.Keeping.{keeps-right, keeps-wrong}
 use Rattle.chain.specs.declared.frames.Answer.the-variants.{Refused, Accepted}
-use Rattle.judging.specs.Table.{monitors, sound}
+use Rattle.judging.specs.Table.{monitors, sound, Beside}
 use Rattle.judging.specs.Refusals.{commandIn}
 use Rattle.serving.specs.Served.{payloadsIn}
 use Rattle.chain.specs.Frame.{frameRefusals, answer, tableAfter, replyAfter}
 use Rattle.judging.proofs.Keeps.{Keeps}
 use Rattle.chain.proofs.FrameKeeps.{frame-keeps}
-use Rattle.loads.specs.declared.loads.Loaded.the-variants.{Done}
-use Rattle.cells.specs.Cells.{load}
-use Rattle.loads.specs.Load.{loadRefusals, loaded, tableAfterLoad}
-use Rattle.loads.proofs.Keeps.{load-keeps}
+use Rattle.cells.specs.Cells.{store, codeAt, isCleared, flagsOf, compare, flagsIn, load}
+use Rattle.cells.proofs.OwnFlags.{own-flags, cleared-skipped}
+use Rattle.loads.specs.declared.loads.Loaded.the-variants.{Unloaded, Done}
+use Rattle.loads.specs.Load.{storeRefusals, stored, tableAfterStore, compareRefusals, compared, tableAfterCompare, loadRefusals, loaded, tableAfterLoad}
+use Rattle.loads.proofs.Keeps.{store-keeps, compare-keeps, load-keeps}
+use Rattle.loads.proofs.Bytes.{store-as-long, store-only-cells, compare-as-long, compare-only-flags, compare-only-sets}
+use Rattle.loads.proofs.Halves.{compare-after-store, store-and-compare, load-refused, second-counts, compare-again}
 use Rattle.host.specs.declared.frames.Built.the-variants.{Length}
 use Rattle.host.specs.Frames.{dataSize, sealed, frameFor, buildRefusals, built, bufferAfter}
 use Rattle.ports.specs.Ports.{partA}
 use Rattle.ports.specs.Parts.{bytesOf}
 use Rattle.story.specs.Numbers.{First}
-use Rattle.story.proofs.Accepted.{frame-refused, write-answer, read-answer, bare-answer, record-after, reply-own, reply-past, write-no-reply, bare-no-reply, load-done, load-own, load-others, host-writes}
+use Rattle.story.proofs.Accepted.{frame-refused, write-answer, read-answer, bare-answer, record-after, reply-own, reply-past, write-no-reply, bare-no-reply, store-done, store-own, store-others, compare-done, compare-own, compare-others, load-done, load-own, load-others, host-writes}
 use Rattle.story.proofs.OurHost.{own-six, write-taken-by-all, bare-taken-by-all, each-keeps-its-own, reply-right, read-taken-by-all, each-reply-its-own, each-reply-right}
 use Rattle.story.proofs.ReadBack.{written-and-read-back}
 use Rattle.story.proofs.BothEnds.{the-replies, handed-from-a, handed-from-b}
@@ -94,15 +98,64 @@ pub record Demand2 : Type 0 where
   -- `monitor::reply_of`: a reply holds the register and the counter as it stands, with a check over both that is right
   reply-holds : (part : Part) (r : List ℕ) → reply part r ≡ register part r ++ seal (register part r) (byteOf counter r)
   reply-is-right : (part : Part) (r : List ℕ) → payloadRight (reply part r) ≡ true
-  -- ---- a load: `loads::load`
+  -- ---- readings: `loads::store`, `loads::compare` and `loads::load`
 
+  -- the exact refusals, in their order; a load's are its store's
+  store-refusals : (table : List ℕ) (position : ℕ) (codes : List ℤ) → storeRefusals table position codes
+      ≡ (not (sound table) gives TableNotSound)
+      ∷ (not (leb 1 position && leb position (monitors table)) gives PositionWrong)
+      ∷ (not (eqb (length codes) cellCount) gives CountWrong)
+      ∷ (not (all (λ code. not (isCleared code)) codes) gives CodeCleared)
+      ∷ []
+  compare-refusals : (table : List ℕ) (position : ℕ) → compareRefusals table position
+      ≡ (not (sound table) gives TableNotSound) ∷ (not (leb 1 position && leb position (monitors table)) gives PositionWrong) ∷ []
+  load-refusals : (table : List ℕ) (position : ℕ) (codes : List ℤ) → loadRefusals table position codes ≡ storeRefusals table position codes
+  -- none holds: it is done. The record of the monitor at the position becomes what `cells::store` or `cells::compare` makes of it, and every
+  -- other stays
+  store-done : (table : List ℕ) (position : ℕ) (codes : List ℤ) → Passed (storeRefusals table position codes) → stored table position codes ≡ Done
+  own-store : (table : List ℕ) (position : ℕ) (codes : List ℤ) → Passed (storeRefusals table position codes)
+      → rowAt recordSize (position - 1) (tableAfterStore table position codes) ≡ store codes (rowAt recordSize (position - 1) table)
+  store-others : (table : List ℕ) (position : ℕ) (codes : List ℤ) → Passed (storeRefusals table position codes)
+      → (j : ℕ) → j < monitors table → (j ≡ position - 1 → ⊥) → rowAt recordSize j (tableAfterStore table position codes) ≡ rowAt recordSize j table
+  compare-done : (table : List ℕ) (position : ℕ) → Passed (compareRefusals table position) → compared table position ≡ Done
+  own-compare : (table : List ℕ) (position : ℕ) → Passed (compareRefusals table position)
+      → rowAt recordSize (position - 1) (tableAfterCompare table position) ≡ compare (rowAt recordSize (position - 1) table)
+  compare-others : (table : List ℕ) (position : ℕ) → Passed (compareRefusals table position)
+      → (j : ℕ) → j < monitors table → (j ≡ position - 1 → ⊥) → rowAt recordSize j (tableAfterCompare table position) ≡ rowAt recordSize j table
   load-done : (table : List ℕ) (position : ℕ) (codes : List ℤ) → Passed (loadRefusals table position codes) → loaded table position codes ≡ Done
-  -- the monitor at the position is loaded, as `loads::load_one` does, and every other stays
   own-load : (table : List ℕ) (position : ℕ) (codes : List ℤ) → Passed (loadRefusals table position codes)
       → rowAt recordSize (position - 1) (tableAfterLoad table position codes) ≡ load codes (rowAt recordSize (position - 1) table)
   others-stay : (table : List ℕ) (position : ℕ) (codes : List ℤ) → Passed (loadRefusals table position codes)
       → (j : ℕ) → j < monitors table → (j ≡ position - 1 → ⊥) → rowAt recordSize j (tableAfterLoad table position codes) ≡ rowAt recordSize j table
+  -- a sound table stays sound, with its N monitors
+  store-stays-sound : (table : List ℕ) (position : ℕ) (codes : List ℤ) → sound table ≡ true → Keeps table (tableAfterStore table position codes)
+  compare-stays-sound : (table : List ℕ) (position : ℕ) → sound table ≡ true → Keeps table (tableAfterCompare table position)
   load-stays-sound : (table : List ℕ) (position : ℕ) (codes : List ℤ) → sound table ≡ true → Keeps table (tableAfterLoad table position codes)
+  -- a store changes only the cells of that monitor, done or refused: the table stays as long, and every byte beside them stays
+  store-as-long : (table : List ℕ) (position : ℕ) (codes : List ℤ) → length (tableAfterStore table position codes) ≡ length table
+  store-only-cells : (table : List ℕ) (position : ℕ) (codes : List ℤ) (i : ℕ) → Beside cells (position - 1) i
+      → getD (tableAfterStore table position codes) i 0 ≡ getD table i 0
+  -- a compare changes only the flags of that monitor, bytes 0 to 3 of status D, and only sets them: a bit that was set is set
+  compare-as-long : (table : List ℕ) (position : ℕ) → length (tableAfterCompare table position) ≡ length table
+  compare-only-flags : (table : List ℕ) (position i : ℕ) → Beside flags (position - 1) i → getD (tableAfterCompare table position) i 0 ≡ getD table i 0
+  compare-only-sets : (table : List ℕ) (position i : ℕ)
+      → bitOr (getD table i 0) (getD (tableAfterCompare table position) i 0) ≡ getD (tableAfterCompare table position) i 0
+  -- a cell's two flags become what they were with those of its own code raised; those of a cell at -32768 stay
+  own-flags : (r : List ℕ) → length r ≡ recordSize → (c : ℕ) → c < cellCount → flagsIn (compare r) c ≡ bitOr (flagsIn r c) (flagsOf r c)
+  cleared-skipped : (r : List ℕ) → length r ≡ recordSize → (c : ℕ) → c < cellCount → isCleared (codeAt r c .0) ≡ true
+      → flagsIn (compare r) c ≡ flagsIn r c
+  -- compare twice is compare once; of two stores the second counts
+  compare-again : (table : List ℕ) (position : ℕ) → tableAfterCompare (tableAfterCompare table position) position ≡ tableAfterCompare table position
+  second-counts : (table : List ℕ) (position : ℕ) (first second : List ℤ) → stored table position second ≡ Done
+      → tableAfterStore (tableAfterStore table position first) position second ≡ tableAfterStore table position second
+  -- a load is a store and a compare: where the store is done so is the compare after it, and both leave the load's table; where the load
+  -- is refused so is the store, by the same refusal
+  compare-after-store : (table : List ℕ) (position : ℕ) (codes : List ℤ) → stored table position codes ≡ Done
+      → compared (tableAfterStore table position codes) position ≡ Done
+  store-and-compare : (table : List ℕ) (position : ℕ) (codes : List ℤ) → stored table position codes ≡ Done
+      → tableAfterCompare (tableAfterStore table position codes) position ≡ tableAfterLoad table position codes
+  load-refused : (table : List ℕ) (position : ℕ) (codes : List ℤ) (r : Refusal) → loaded table position codes ≡ Unloaded r
+      → stored table position codes ≡ Unloaded r
   -- ---- our host: `host::build`, and the chain that its frames come to
 
   -- the frame goes to the start of the buffer, and the bytes past it stay
@@ -153,7 +206,7 @@ pub record Demand2 : Type 0 where
   examples : EitherSide
 
 pub demand-2 : Demand2
-unfolding frameRefusals keeps reply
+unfolding frameRefusals storeRefusals compareRefusals loadRefusals keeps reply
 demand-2 =
     record {
       refusals = λ table frame room. refl;
@@ -173,10 +226,33 @@ demand-2 =
       bare-no-reply = bare-no-reply;
       reply-holds = λ part r. refl;
       reply-is-right = reply-right;
+      store-refusals = λ table position codes. refl;
+      compare-refusals = λ table position. refl;
+      load-refusals = λ table position codes. refl;
+      store-done = store-done;
+      own-store = store-own;
+      store-others = store-others;
+      compare-done = compare-done;
+      own-compare = compare-own;
+      compare-others = compare-others;
       load-done = load-done;
       own-load = load-own;
       others-stay = load-others;
-      load-stays-sound = load-keeps;
+      store-stays-sound = λ table position codes s. store-keeps table position s codes;
+      compare-stays-sound = compare-keeps;
+      load-stays-sound = λ table position codes s. load-keeps table position s codes;
+      store-as-long = store-as-long;
+      store-only-cells = store-only-cells;
+      compare-as-long = compare-as-long;
+      compare-only-flags = compare-only-flags;
+      compare-only-sets = compare-only-sets;
+      own-flags = own-flags;
+      cleared-skipped = cleared-skipped;
+      compare-again = compare-again;
+      second-counts = second-counts;
+      compare-after-store = compare-after-store;
+      store-and-compare = store-and-compare;
+      load-refused = load-refused;
       host-writes = host-writes;
       own-six = own-six;
       all-take = write-taken-by-all;

@@ -1,9 +1,9 @@
--- Demand 3. For 1 to 32 monitors, a sound table and any list of frames with readings loaded between them, the whole-frame engine
--- and the clocked engine end in the same table and give the same answers and reply bytes, both judged by the rules of demand 2.
+-- Demand 3. For 1 to 32 monitors, a sound table and any list of frames with readings stored and compared between them, the whole-frame
+-- engine and the clocked engine end in the same table and give the same answers and reply bytes, both judged by the rules of demand 2.
 -- What the three runs are stands in specs/Runs.antt. By going along the events: one event by either engine is one by the rules
 -- (Runs.antt), and the number of monitors stays, so that the reply buffer keeps its room.
 -- Assumes nothing.
-use mathlib.Core.Path.{_≡_, refl, sym, ap, _∙_, subst}
+use mathlib.Core.Path.{_≡_, refl, sym, ap, ap₂, _∙_, subst}
 use mathlib.Core.Bool.{Bool, true, false, cond}
 use mathlib.Core.List.{List, [], _∷_, map}
 use Prim.Native.Nat.{ℕ, _*_, _≤_}
@@ -12,6 +12,7 @@ use lib.IntN.{ℤ}
 use lib.ListN.{length, drop}
 use Rattle.laws.specs.Rows.{rows}
 use Rattle.wire.specs.Order.{replyData}
+use Rattle.refusals.specs.declared.Refusal.{Refusal}
 use Rattle.refusals.specs.declared.Refusal.the-variants.{TableNotSound}
 use Rattle.records.specs.declared.commands.Command.the-variants.{Reads}
 use Rattle.records.specs.declared.record.Part.{Part}
@@ -27,32 +28,43 @@ use Rattle.judging.proofs.Keeps.{Keeps}
 use Rattle.chain.proofs.FrameKeeps.{frame-keeps, monitors-after-frame}
 use Rattle.chain.proofs.Outcome.{the-table}
 use Rattle.judging.proofs.Soundness.{is-sound}
-use Rattle.loads.specs.Load.{tableAfterLoad}
-use Rattle.loads.proofs.Keeps.{load-keeps, monitors-after-load}
-use Rattle.loads.proofs.LoadJudging.{stop-1 as load-stop-1, the-table as load-table}
+use Rattle.loads.specs.declared.loads.Loaded.{Loaded}
+use Rattle.loads.specs.declared.loads.Loaded.the-variants.{Unloaded, Done}
+use Rattle.loads.specs.Load.{stored, tableAfterStore, tableAfterCompare, loaded, tableAfterLoad}
+use Rattle.loads.proofs.Judging.{stop-1 as cells-stop-1, refused-before, as-stored}
+use Rattle.loads.proofs.Refused.{table-stored, refused-store, table-compared, refused-load}
+use Rattle.loads.proofs.Keeps.{store-keeps, compare-keeps}
+use Rattle.loads.proofs.Halves.{compare-after-store, store-and-compare, load-refused}
 use Rattle.clocking.specs.Clock.{Clock, chainedBy, clocked}
 use Rattle.releasing.specs.Release.{released}
 use Rattle.clock_state.specs.State.{stateSize, idle}
 use Rattle.clocking.specs.Bytes.{clockOf, stateAfter}
 use Rattle.clocking.proofs.View.{view}
 use Rattle.clocked.proofs.Whole.{released-read}
-use Rattle.story.specs.Runs.{Event, Frame, Load, Left, saw, Step, ruled, byRules, byFrames, stateAfterAll, cameBack, byBytes}
+use Rattle.story.specs.Runs.{Event, Frame, Store, Compare, StoreAnswered, CompareAnswered, Left, saw, Step, ruled, byRules, byFrames, stateAfterAll, cameBack, byBytes}
 use Rattle.story.proofs.ByteFour.{only-byte-four, at-byte-four, noted-stays, another-n}
-use Rattle.story.proofs.Runs.{frame-step, length-after, load-step, full, has-room, clock-whole, back-whole, clocked-step}
+use Rattle.story.proofs.Runs.{frame-step, length-after, store-step, compare-step, full, has-room, clock-whole, back-whole, clocked-step}
 
 -- ---- the demand. It asks for a sound table; the engines agree on any: one that is not sound is refused by both
 
 pub record Demand3 : Type 0 where
   -- a sound table has 1 to 32 monitors
   one-to-32 : (table : List ℕ) → sound table ≡ true → (1 ≤ monitors table) × (monitors table ≤ mostMonitors)
-  -- `chain::handle` and `loads::load`, lent any reply buffer with room for eight bytes a monitor, do what the rules say
+  -- `chain::handle`, `loads::store` and `loads::compare`, lent any reply buffer with room for eight bytes a monitor, do what the rules say
   by-frames : (table buffer : List ℕ) (events : List Event) → payloadSize * monitors table ≤ length buffer
       → byFrames table buffer events ≡ byRules table events
-  -- `clocked::start`, `clocked::clock`, `clocked::release` and `loads::load`, lent any state, do what the rules say
+  -- `clocked::start`, `clocked::clock`, `clocked::release`, `loads::store` and `loads::compare`, lent any state, do what the rules say
   by-bytes : (table state : List ℕ) (events : List Event) → byBytes table state events ≡ byRules table events
   -- so the two engines end in the same table and give the same answers and reply bytes
   alike : (table buffer state : List ℕ) (events : List Event) → payloadSize * monitors table ≤ length buffer
       → byFrames table buffer events ≡ byBytes table state events
+  -- a load, `loads::load`, is a store and a compare: where it is done the events after it find what both leave, and where it is refused
+  -- what its store leaves, which is refused by the same number
+  load-done : (table : List ℕ) (position : ℕ) (codes : List ℤ) (events : List Event) → loaded table position codes ≡ Done
+      → byRules table (Store position codes ∷ Compare position ∷ events)
+      ≡ saw (StoreAnswered Done) (saw (CompareAnswered Done) (byRules (tableAfterLoad table position codes) events))
+  load-refused : (table : List ℕ) (position : ℕ) (codes : List ℤ) (events : List Event) (r : Refusal) → loaded table position codes ≡ Unloaded r
+      → byRules table (Store position codes ∷ events) ≡ saw (StoreAnswered (Unloaded r)) (byRules (tableAfterLoad table position codes) events)
   -- at every byte, not only at a release, the bytes of the state stand for the windows as the rules move them
   every-byte : (table : List ℕ) (byte : ℕ) (state : List ℕ) → length state ≡ stateSize
       → clockOf (stateAfter table byte state) ≡ clocked table byte (clockOf state)
@@ -85,9 +97,14 @@ module _ (table : List ℕ) where
   as-many-frame frame buffer =
       either-table (monitors-after-frame table frame (length buffer)) (λ e. the-table table frame buffer (stop-unsound table frame (length buffer) e))
 
-  as-many-load : (position : ℕ) (codes : List ℤ) → monitors (tableAfterLoad table position codes) ≡ monitors table
-  as-many-load position codes =
-      either-table (monitors-after-load table position codes) (λ e. load-table table position codes (load-stop-1 table position codes e))
+  as-many-store : (position : ℕ) (codes : List ℤ) → monitors (tableAfterStore table position codes) ≡ monitors table
+  as-many-store position codes =
+      either-table (λ s. store-keeps table position s codes .monitors-after)
+      (λ e. table-stored table position codes (refused-before codes table position (cells-stop-1 table position e)))
+
+  as-many-compare : (position : ℕ) → monitors (tableAfterCompare table position) ≡ monitors table
+  as-many-compare position =
+      either-table (λ s. compare-keeps table position s .monitors-after) (λ e. table-compared table position (cells-stop-1 table position e))
 
 -- ---- along the events
 
@@ -104,23 +121,53 @@ frames-by-rules table buffer (Frame frame ∷ events) room =
     along-rules events (frame-step table frame buffer room)
     (frames-by-rules (tableAfter table frame (length buffer)) (replyAfter table frame buffer) events
     (omega (arith, as-many-frame table frame buffer, length-after table frame buffer room)))
-frames-by-rules table buffer (Load position codes ∷ events) room =
-    along-rules events (load-step table position codes)
-    (frames-by-rules (tableAfterLoad table position codes) buffer events (omega (arith, as-many-load table position codes)))
+frames-by-rules table buffer (Store position codes ∷ events) room =
+    along-rules events (store-step table position codes)
+    (frames-by-rules (tableAfterStore table position codes) buffer events (omega (arith, as-many-store table position codes)))
+frames-by-rules table buffer (Compare position ∷ events) room =
+    along-rules events (compare-step table position)
+    (frames-by-rules (tableAfterCompare table position) buffer events (omega (arith, as-many-compare table position)))
 
 bytes-by-rules : (table state : List ℕ) (events : List Event) → byBytes table state events ≡ byRules table events
 unfolding byBytes byRules
 bytes-by-rules table state [] = refl
 bytes-by-rules table state (Frame frame ∷ events) = along-rules events (clocked-step table frame) (bytes-by-rules _ idle events)
-bytes-by-rules table state (Load position codes ∷ events) = along-rules events (load-step table position codes) (bytes-by-rules _ state events)
+bytes-by-rules table state (Store position codes ∷ events) = along-rules events (store-step table position codes) (bytes-by-rules _ state events)
+bytes-by-rules table state (Compare position ∷ events) = along-rules events (compare-step table position) (bytes-by-rules _ state events)
+
+-- ---- a load, by its halves
+
+module _ (table : List ℕ) (position : ℕ) (codes : List ℤ) (events : List Event) where
+  halves-by-rules : loaded table position codes ≡ Done
+      → byRules table (Store position codes ∷ Compare position ∷ events)
+      ≡ saw (StoreAnswered Done) (saw (CompareAnswered Done) (byRules (tableAfterLoad table position codes) events))
+  unfolding byRules
+  halves-by-rules e =
+      let done = sym (as-stored table position codes) ∙ e in
+      let after = tableAfterStore table position codes in
+      sym (along-rules (Compare position ∷ events) (store-step table position codes) refl)
+      ∙ ap (saw (StoreAnswered (stored table position codes))) (sym (along-rules events (compare-step after position) refl))
+      ∙ ap₂ (λ (a b : Loaded). saw (StoreAnswered a) (saw (CompareAnswered b) (byRules (tableAfterCompare after position) events))) done (compare-after-store table position codes done)
+      ∙ ap (λ (t : List ℕ). saw (StoreAnswered Done) (saw (CompareAnswered Done) (byRules t events))) (store-and-compare table position codes done)
+
+  refused-by-rules : (r : Refusal) → loaded table position codes ≡ Unloaded r
+      → byRules table (Store position codes ∷ events) ≡ saw (StoreAnswered (Unloaded r)) (byRules (tableAfterLoad table position codes) events)
+  unfolding byRules
+  refused-by-rules r e =
+      let refused = load-refused table position codes r e in
+      sym (along-rules events (store-step table position codes) refl)
+      ∙ ap₂ (λ (a : Loaded) (t : List ℕ). saw (StoreAnswered a) (byRules t events)) refused
+      (refused-store table position codes r refused ∙ sym (refused-load table position codes r e))
 
 -- ---- what they end in
 
 step-keeps : (table : List ℕ) (event : Event) → sound table ≡ true → Keeps table (ruled table event .table)
 step-keeps table (Frame frame) s =
     subst (Keeps table) (ap (λ (step : Step). step .table) (frame-step table frame (full table) (has-room table))) (frame-keeps table frame (length (full table)) s)
-step-keeps table (Load position codes) s =
-    subst (Keeps table) (ap (λ (step : Step). step .table) (load-step table position codes)) (load-keeps table position codes s)
+step-keeps table (Store position codes) s =
+    subst (Keeps table) (ap (λ (step : Step). step .table) (store-step table position codes)) (store-keeps table position s codes)
+step-keeps table (Compare position) s =
+    subst (Keeps table) (ap (λ (step : Step). step .table) (compare-step table position)) (compare-keeps table position s)
 
 rules-keep : (table : List ℕ) (events : List Event) → sound table ≡ true → Keeps table (byRules table events .table)
 unfolding byRules
@@ -140,6 +187,8 @@ demand-3 =
       by-frames = frames-by-rules;
       by-bytes = bytes-by-rules;
       alike = λ table buffer state events room. frames-by-rules table buffer events room ∙ sym (bytes-by-rules table state events);
+      load-done = halves-by-rules;
+      load-refused = refused-by-rules;
       every-byte = view;
       only-byte-four = only-byte-four;
       at-byte-four = at-byte-four;

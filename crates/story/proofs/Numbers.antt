@@ -19,7 +19,7 @@ use Rattle.chain.specs.declared.frames.Answer.the-variants.{Refused as Refuses}
 use Rattle.chain.specs.Frame.{frameRefusals, answer}
 use Rattle.chain.specs.Numbers.{numbersOf}
 use Rattle.loads.specs.declared.loads.Loaded.the-variants.{Unloaded, Done}
-use Rattle.loads.specs.Load.{loadRefusals, loaded}
+use Rattle.loads.specs.Load.{storeRefusals, stored, compareRefusals, compared, loadRefusals, loaded}
 use Rattle.loads.specs.Numbers.{loadNumber}
 use Rattle.releasing.specs.declared.looks.Looked.the-variants.{Refused as Unseen}
 use Rattle.clocking.specs.Clock.{Clock}
@@ -102,9 +102,21 @@ pub frame-number : (table frame : List ℕ) (room : ℕ) → numbersOf (answer t
 unfolding answer
 frame-number table frame room = number-by (λ a. numbersOf a .number) (frameRefusals table frame room) Refuses _ (λ r. refl) refl
 
+-- a store, a compare and a load
+done-number : (rows : List Row) → loadNumber (decide rows Unloaded Done) ≡ firstNumber rows
+done-number rows = number-by loadNumber rows Unloaded Done (λ r. refl) refl
+
+pub store-number : (table : List ℕ) (position : ℕ) (codes : List ℤ) → loadNumber (stored table position codes) ≡ firstNumber (storeRefusals table position codes)
+unfolding stored
+store-number table position codes = done-number (storeRefusals table position codes)
+
+pub compare-number : (table : List ℕ) (position : ℕ) → loadNumber (compared table position) ≡ firstNumber (compareRefusals table position)
+unfolding compared
+compare-number table position = done-number (compareRefusals table position)
+
 pub load-number : (table : List ℕ) (position : ℕ) (codes : List ℤ) → loadNumber (loaded table position codes) ≡ firstNumber (loadRefusals table position codes)
 unfolding loaded
-load-number table position codes = number-by loadNumber (loadRefusals table position codes) Unloaded Done (λ r. refl) refl
+load-number table position codes = done-number (loadRefusals table position codes)
 
 pub release-number : (c : Clock) (table : List ℕ) → numbersOf (released c table) .number ≡ firstNumber (releaseRefusals c table)
 unfolding released

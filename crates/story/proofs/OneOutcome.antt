@@ -29,7 +29,7 @@ use Rattle.reads.specs.Reply.{reply}
 use Rattle.writes.specs.Writes.{written}
 use Rattle.thresholds.specs.Thresholds.{vuv, vov, codesOf}
 use Rattle.monitor.specs.Effects.{takes, keeps}
-use Rattle.cells.specs.Cells.{store, compare, load}
+use Rattle.cells.specs.Cells.{store, compare}
 use Rattle.records.proofs as records
 use Rattle.writes.proofs as writes
 use Rattle.reads.proofs as reads
@@ -40,7 +40,7 @@ use Rattle.replying.specs.Replied.{replied, repliesFit, repliesInto}
 use Rattle.chain.specs.Frame.{answer, tableAfter, replyAfter}
 use Rattle.serving.specs.Served.{hasRecord, servedAt}
 use Rattle.judging.specs.Heads.{headJudged}
-use Rattle.loads.specs.Load.{loaded, tableAfterLoad}
+use Rattle.loads.specs.Load.{stored, tableAfterStore, compared, tableAfterCompare, loaded, tableAfterLoad}
 use Rattle.chain.specs.Numbers.{numbersOf}
 use Rattle.loads.specs.Numbers.{loadNumber}
 use Rattle.thresholds.proofs as thresholds
@@ -160,12 +160,14 @@ pub record OneOutcome : Type 0 where
   over-threshold : Settles thresholds.over_threshold.Reads.Post (λ κ z e. leaves z []) (λ κ a. leaves (vov (now (a .0))) [])
   under-threshold : Settles thresholds.under_threshold.Reads.Post (λ κ z e. leaves z []) (λ κ a. leaves (vuv (now (a .0))) [])
   load-number : Settles loads.load_number.Reads.Post (λ κ z e. leaves z []) (λ κ a. leaves (loadNumber (a .0)) [])
-  store : Settles cells.store.Reads.Post (λ κ z e. leaves z (now (e .0) ∷ []))
+  store-one : Settles cells.store.Reads.Post (λ κ z e. leaves z (now (e .0) ∷ []))
       (λ κ a. leaves (isRecord (now (a .0)) && eqb (length (now (a .1 .0))) cellCount) (cond (isRecord (now (a .0)) && eqb (length (now (a .1 .0))) cellCount) (store (now (a .1 .0)) (now (a .0))) (now (a .0)) ∷ []))
-  compare : Settles cells.compare.Reads.Post (λ κ z e. leaves z (now (e .0) ∷ []))
+  compare-one : Settles cells.compare.Reads.Post (λ κ z e. leaves z (now (e .0) ∷ []))
       (λ κ a. leaves (isRecord (now (a .0))) (cond (isRecord (now (a .0))) (compare (now (a .0))) (now (a .0)) ∷ []))
-  load-one : Settles cells.load_one.Reads.Post (λ κ z e. leaves z (now (e .0) ∷ []))
-      (λ κ a. leaves (isRecord (now (a .0)) && eqb (length (now (a .1 .0))) cellCount) (cond (isRecord (now (a .0)) && eqb (length (now (a .1 .0))) cellCount) (load (now (a .1 .0)) (now (a .0))) (now (a .0)) ∷ []))
+  store : Settles loads.store.Reads.Post (λ κ z e. leaves z (now (e .0) ∷ []))
+      (λ κ a. leaves (stored (now (a .0)) (a .1 .0) (now (a .1 .1 .0))) (tableAfterStore (now (a .0)) (a .1 .0) (now (a .1 .1 .0)) ∷ []))
+  compare : Settles loads.compare.Reads.Post (λ κ z e. leaves z (now (e .0) ∷ []))
+      (λ κ a. leaves (compared (now (a .0)) (a .1 .0)) (tableAfterCompare (now (a .0)) (a .1 .0) ∷ []))
   load : Settles loads.load.Reads.Post (λ κ z e. leaves z (now (e .0) ∷ []))
       (λ κ a. leaves (loaded (now (a .0)) (a .1 .0) (now (a .1 .1 .0))) (tableAfterLoad (now (a .0)) (a .1 .0) (now (a .1 .1 .0)) ∷ []))
   -- the clocked engine
@@ -240,7 +242,8 @@ one-outcomes =
       load-number = settles (λ κ a z e p i. leaves (p i) []);
       store = settles (λ κ a z e p i. leaves (p .0 i) (p .1 i ∷ []));
       compare = settles (λ κ a z e p i. leaves (p .0 i) (p .1 i ∷ []));
-      load-one = settles (λ κ a z e p i. leaves (p .0 i) (p .1 i ∷ []));
+      store-one = settles (λ κ a z e p i. leaves (p .0 i) (p .1 i ∷ []));
+      compare-one = settles (λ κ a z e p i. leaves (p .0 i) (p .1 i ∷ []));
       load = settles (λ κ a z e p i. leaves (p .0 i) (p .1 i ∷ []));
       start = settles (λ κ a z e p i. leaves z (p i ∷ []));
       seen-in = settles (λ κ a z e p i. leaves (p .0 i) []);

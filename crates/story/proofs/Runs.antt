@@ -38,7 +38,7 @@ use Rattle.replying.proofs.OwnReply.{length-replied}
 use Rattle.judging.proofs.Decided.{either-way}
 use Rattle.serving.proofs.Taken.{taken-read, taken-bare}
 use Rattle.loads.specs.declared.loads.Loaded.the-variants.{Unloaded}
-use Rattle.loads.specs.Load.{loadRefusals, loaded, tableAfterLoad}
+use Rattle.loads.specs.Load.{storeRefusals, stored, tableAfterStore, compareRefusals, compared, tableAfterCompare}
 use Rattle.clocking.specs.Clock.{Clock, start, answered}
 use Rattle.releasing.specs.Release.{released, tableReleased}
 use Rattle.clocked.specs.Frames.{clockedAll, answeredAll}
@@ -48,7 +48,7 @@ use Rattle.clocking.proofs.Known.{reply-short}
 use Rattle.clocking.proofs.Lengths.{length-stateAfter}
 use Rattle.clocking.proofs.View.{view, view-idle}
 use Rattle.clocked.proofs.Whole.{released-whole, table-released-whole, reply-whole}
-use Rattle.story.specs.Runs.{Frame, Load, Seen, Answered, LoadAnswered, Step, replyBytes, ruleRefusals, takers, replies, obeyed, ruled, stateAfterAll, cameBack}
+use Rattle.story.specs.Runs.{Frame, Store, Compare, Seen, Answered, StoreAnswered, CompareAnswered, Step, replyBytes, ruleRefusals, takers, replies, obeyed, ruled, stateAfterAll, cameBack}
 
 -- ---- two questions with the same refusals, as one
 
@@ -137,12 +137,17 @@ module _ (table frame buffer : List ℕ) (room : payloadSize * monitors table �
       either-way (λ (left : List ℕ). length left ≡ length buffer) (frameRefusals table frame (length buffer)) (λ r. buffer) (replied c n table buffer)
       (λ r. refl) (length-replied c n table buffer (le-trans (reply-short c n) room))
 
--- ---- a load
+-- ---- a store and a compare
 
-pub load-step : (table : List ℕ) (position : ℕ) (codes : List ℤ)
-    → stepTo (tableAfterLoad table position codes) (LoadAnswered (loaded table position codes)) ≡ ruled table (Load position codes)
-unfolding tableAfterLoad loaded ruled
-load-step table position codes = decide-both (λ after said. stepTo after (LoadAnswered said)) (loadRefusals table position codes) (λ r. table) Unloaded _ _
+pub store-step : (table : List ℕ) (position : ℕ) (codes : List ℤ)
+    → stepTo (tableAfterStore table position codes) (StoreAnswered (stored table position codes)) ≡ ruled table (Store position codes)
+unfolding tableAfterStore stored ruled
+store-step table position codes = decide-both (λ after said. stepTo after (StoreAnswered said)) (storeRefusals table position codes) (λ r. table) Unloaded _ _
+
+pub compare-step : (table : List ℕ) (position : ℕ)
+    → stepTo (tableAfterCompare table position) (CompareAnswered (compared table position)) ≡ ruled table (Compare position)
+unfolding tableAfterCompare compared ruled
+compare-step table position = decide-both (λ after said. stepTo after (CompareAnswered said)) (compareRefusals table position) (λ r. table) Unloaded _ _
 
 -- ---- a clocked frame
 

@@ -13,7 +13,7 @@ use lib.ListN.{length, getD}
 use Rattle.refusals.specs.declared.Refusal.{Refusal}
 use Rattle.loads.specs.declared.loads.Loaded.{Loaded}
 use Rattle.chain.specs.Frame.{frameRefusals, answer, tableAfter, replyAfter}
-use Rattle.loads.specs.Load.{loadRefusals, loaded, tableAfterLoad}
+use Rattle.loads.specs.Load.{storeRefusals, stored, tableAfterStore, compareRefusals, compared, tableAfterCompare, loadRefusals, loaded, tableAfterLoad}
 use Rattle.clocking.specs.Clock.{Clock, answered}
 use Rattle.releasing.specs.Release.{releaseRefusals, released, tableReleased}
 use Rattle.releasing.specs.Look.{lookRefusals, looked, outAfter}
@@ -34,13 +34,16 @@ use Rattle.oskorbine.specs.Volts.{voltsOrNan, roomRow, summaryParts, summaryOut
 use Rattle.oskorbine.proofs.Packed.{apart-packed}
 use Rattle.oskorbine.proofs.Fits.{frame-fits, release-fits, load-fits, built-fits, checked-fits, port-fits, look-fits, byte-fits, summary-fits}
 use Rattle.oskorbine.proofs.Pointed.{pointed-bytes}
-use Rattle.story.proofs.SurfaceNumbers.{frame-number, load-number, release-number, look-number, built-number, checked-number, port-number, summary-number, summary-stays, nothing-stays}
+use Rattle.story.proofs.Numbers.{store-number, compare-number, load-number}
+use Rattle.story.proofs.SurfaceNumbers.{frame-number, release-number, look-number, built-number, checked-number, port-number, summary-number, summary-stays, nothing-stays}
 use Rattle.oskorbine.proofs as oskorbine
 
 -- ---- every function
 
 pub record Promises : Type 2 where
   frame : Promised oskorbine.osk_frame.Statement.statement oskorbine.osk_frame.Reads.Asked
+  store : Promised oskorbine.osk_store.Statement.statement oskorbine.osk_store.Reads.Asked
+  compare : Promised oskorbine.osk_compare.Statement.statement oskorbine.osk_compare.Reads.Asked
   load : Promised oskorbine.osk_load.Statement.statement oskorbine.osk_load.Reads.Asked
   host-frame : Promised oskorbine.osk_host_frame.Statement.statement oskorbine.osk_host_frame.Reads.Asked
   check : Promised oskorbine.osk_check.Statement.statement oskorbine.osk_check.Reads.Asked
@@ -58,6 +61,10 @@ pub record Promises : Type 2 where
 pub record Outcomes : Type 0 where
   frame : Settles oskorbine.osk_frame.Reads.Post (λ κ z e. leaves z (now (e .0) ∷ now (e .1 .1 .0) ∷ []))
       (λ κ a. leaves (packed (frameParts (answer (now (a .0)) (now (a .1 .0)) (length (now (a .1 .1 .0)))))) (tableAfter (now (a .0)) (now (a .1 .0)) (length (now (a .1 .1 .0))) ∷ replyAfter (now (a .0)) (now (a .1 .0)) (now (a .1 .1 .0)) ∷ []))
+  store : Settles oskorbine.osk_store.Reads.Post (λ κ z e. leaves z (now (e .0) ∷ []))
+      (λ κ a. leaves (packed (loadParts (stored (now (a .0)) (a .1 .0) (now (a .1 .1 .0))))) (tableAfterStore (now (a .0)) (a .1 .0) (now (a .1 .1 .0)) ∷ []))
+  compare : Settles oskorbine.osk_compare.Reads.Post (λ κ z e. leaves z (now (e .0) ∷ []))
+      (λ κ a. leaves (packed (loadParts (compared (now (a .0)) (a .1 .0)))) (tableAfterCompare (now (a .0)) (a .1 .0) ∷ []))
   load : Settles oskorbine.osk_load.Reads.Post (λ κ z e. leaves z (now (e .0) ∷ []))
       (λ κ a. leaves (packed (loadParts (loaded (now (a .0)) (a .1 .0) (now (a .1 .1 .0))))) (tableAfterLoad (now (a .0)) (a .1 .0) (now (a .1 .1 .0)) ∷ []))
   host-frame : Settles oskorbine.osk_host_frame.Reads.Post (λ κ z e. leaves z (now (e .1 .1 .1 .0) ∷ []))
@@ -94,6 +101,8 @@ pub record Surface : Type 2 where
   summary-apart : (codes : List ℤ) (room : ℕ) → apart (packed (summaryParts (summaryOf codes) room)) ≡ summaryParts (summaryOf codes) room
   -- its number is that of the first refusal that holds, and 0 where none does
   frame-number : (table frame : List ℕ) (room : ℕ) → frameParts (answer table frame room) .number ≡ firstNumber (frameRefusals table frame room)
+  store-number : (table : List ℕ) (position : ℕ) (codes : List ℤ) → loadParts (stored table position codes) .number ≡ firstNumber (storeRefusals table position codes)
+  compare-number : (table : List ℕ) (position : ℕ) → loadParts (compared table position) .number ≡ firstNumber (compareRefusals table position)
   load-number : (table : List ℕ) (position : ℕ) (codes : List ℤ) → loadParts (loaded table position codes) .number ≡ firstNumber (loadRefusals table position codes)
   host-frame-number : (code n : ℕ) (values : List ℕ) (room : ℕ) → builtParts (built code n values room) .number ≡ firstNumber (buildRefusals code n values room)
   check-number : (payload : List ℕ) → checkedParts (checked payload) .number ≡ firstNumber (checkRefusals payload)
@@ -115,6 +124,8 @@ proved : Promises
 proved =
     record {
       frame = (λ M. oskorbine.osk_frame.Met.met, λ κ a. tt);
+      store = (λ M. oskorbine.osk_store.Met.met, λ κ a. tt);
+      compare = (λ M. oskorbine.osk_compare.Met.met, λ κ a. tt);
       load = (λ M. oskorbine.osk_load.Met.met, λ κ a. tt);
       host-frame = (λ M. oskorbine.osk_host_frame.Met.met, λ κ a. tt);
       check = (λ M. oskorbine.osk_check.Met.met, λ κ a. tt);
@@ -132,6 +143,8 @@ settled : Outcomes
 settled =
     record {
       frame = settles (λ κ a z e p i. leaves (p .0 i) (p .1 .0 i ∷ p .1 .1 i ∷ []));
+      store = settles (λ κ a z e p i. leaves (p .0 i) (p .1 i ∷ []));
+      compare = settles (λ κ a z e p i. leaves (p .0 i) (p .1 i ∷ []));
       load = settles (λ κ a z e p i. leaves (p .0 i) (p .1 i ∷ []));
       host-frame = settles (λ κ a z e p i. leaves (p .0 i) (p .1 i ∷ []));
       check = settles (λ κ a z e p i. leaves (p i) []);
@@ -160,6 +173,8 @@ surface =
       release-apart = λ s table. apart-packed _ (release-fits s table);
       summary-apart = λ codes room. apart-packed _ (summary-fits codes room);
       frame-number = frame-number;
+      store-number = store-number;
+      compare-number = compare-number;
       load-number = load-number;
       host-frame-number = built-number;
       check-number = checked-number;

@@ -17,9 +17,7 @@ use Rattle.refusals.specs.Order.{decide}
 use Rattle.refusals.proofs.Deciding.{decide-map, decide-append}
 use Rattle.pec.specs.Words.{payloadRight}
 use Rattle.chain.specs.declared.frames.Answer.the-variants.{Refused}
-use Rattle.loads.specs.declared.loads.Loaded.the-variants.{Unloaded, Done}
 use Rattle.chain.specs.Frame.{frameRefusals, answer}
-use Rattle.loads.specs.Load.{loadRefusals, loaded}
 use Rattle.releasing.specs.declared.looks.Looked.the-variants.{Refused as Unseen}
 use Rattle.clocking.specs.Clock.{Clock}
 use Rattle.releasing.specs.Release.{releaseRefusals, released}
@@ -34,16 +32,12 @@ use Rattle.readings.specs.declared.pack_summary.Pack.{Pack}
 use Rattle.readings.specs.declared.pack_summary.Pack.the-variants.{Refused as Unsummed, Nothing, Whole}
 use Rattle.readings.specs.Readings.{measured, wholeOf, summaryOf}
 use Rattle.story.specs.Numbers.{firstNumber, summaryRefusals}
-use Rattle.oskorbine.specs.Packed.{Parts, refused, accepted, frameParts, loadParts, builtParts, checkedParts, portParts, lookedParts}
+use Rattle.oskorbine.specs.Packed.{Parts, refused, accepted, frameParts, builtParts, checkedParts, portParts, lookedParts}
 use Rattle.oskorbine.specs.Volts.{summarySize, roomRow, summaryParts, summaryOut}
 
 pub frame-number : (table frame : List ℕ) (room : ℕ) → frameParts (answer table frame room) .number ≡ firstNumber (frameRefusals table frame room)
 unfolding answer
 frame-number table frame room = decide-map (λ x. frameParts x .number) (frameRefusals table frame room) Refused _
-
-pub load-number : (table : List ℕ) (position : ℕ) (codes : List ℤ) → loadParts (loaded table position codes) .number ≡ firstNumber (loadRefusals table position codes)
-unfolding loaded
-load-number table position codes = decide-map (λ x. loadParts x .number) (loadRefusals table position codes) Unloaded Done
 
 pub release-number : (c : Clock) (table : List ℕ) → frameParts (released c table) .number ≡ firstNumber (releaseRefusals c table)
 unfolding released

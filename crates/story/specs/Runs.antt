@@ -1,4 +1,4 @@
--- Demand 3's three runs: what a list of frames, with readings loaded between them, comes to. By the rules of demand 2; by whole
+-- Demand 3's three runs: what a list of frames, with stores and compares between them, comes to. By the rules of demand 2; by whole
 -- frames; by bytes clocked one at a time. The last two are put together from what the functions of the engines promise. Each gives
 -- the table afterwards and, event by event, what was seen.
 -- Assumes nothing.
@@ -19,14 +19,15 @@ use Rattle.reads.specs.Reply.{reply}
 use Rattle.records.specs.Commands.{replyLength}
 use Rattle.chain.specs.declared.frames.Answer.{Answer}
 use Rattle.chain.specs.declared.frames.Answer.the-variants.{Refused, Accepted}
-use Rattle.judging.specs.Table.{monitors}
+use Rattle.judging.specs.Table.{monitors, changedAt}
 use Rattle.judging.specs.Refusals.{commandIn, tableRow, shortRow, commandRow, listedRow, lengthRow}
 use Rattle.serving.specs.Served.{payloadsIn}
 use Rattle.chain.specs.Frame.{answer, tableAfter, replyAfter}
 use Rattle.chain.specs.Numbers.{numbersOf}
+use Rattle.cells.specs.Cells.{store, compare}
 use Rattle.loads.specs.declared.loads.Loaded.{Loaded}
 use Rattle.loads.specs.declared.loads.Loaded.the-variants.{Unloaded, Done}
-use Rattle.loads.specs.Load.{loadRefusals, loadedAt, loaded, tableAfterLoad}
+use Rattle.loads.specs.Load.{storeRefusals, stored, tableAfterStore, compareRefusals, compared, tableAfterCompare}
 use Rattle.clocking.specs.Clock.{answered}
 use Rattle.releasing.specs.Release.{released, tableReleased}
 use Rattle.clock_state.specs.State.{idle}
@@ -37,13 +38,16 @@ use Rattle.clocking.specs.Bytes.{clockOf, stateAfter}
 pub data Event : Type 0 where
   -- a frame's bytes
   Frame : List ℕ → Event
-  -- a position and its codes
-  Load : ℕ → List ℤ → Event
+  -- a position and the codes to store there
+  Store : ℕ → List ℤ → Event
+  -- a position, whose stored cells are compared
+  Compare : ℕ → Event
 
 pub data Seen : Type 0 where
   -- a frame's answer and the bytes of its reply: none where it is refused or no read
   Answered : Answer → List ℕ → Seen
-  LoadAnswered : Loaded → Seen
+  StoreAnswered : Loaded → Seen
+  CompareAnswered : Loaded → Seen
 
 -- the table afterwards, and what was seen, event by event
 pub record Left : Type 0 where
@@ -101,16 +105,19 @@ obeyed c n table frame =
 unfoldable pub ruled : List ℕ → Event → Step
 ruled table (Frame frame) =
     decide (ruleRefusals table frame) (λ r. record { table = table; seen = Answered (Refused r) [] }) (obeyed (commandIn frame) (monitors table) table frame)
-ruled table (Load position codes) =
-    decide (loadRefusals table position codes) (λ r. record { table = table; seen = LoadAnswered (Unloaded r) })
-    (record { table = loadedAt (position - 1) codes table; seen = LoadAnswered Done })
+ruled table (Store position codes) =
+    decide (storeRefusals table position codes) (λ r. record { table = table; seen = StoreAnswered (Unloaded r) })
+    (record { table = changedAt (position - 1) (store codes) table; seen = StoreAnswered Done })
+ruled table (Compare position) =
+    decide (compareRefusals table position) (λ r. record { table = table; seen = CompareAnswered (Unloaded r) })
+    (record { table = changedAt (position - 1) compare table; seen = CompareAnswered Done })
 
 unfoldable pub byRules : List ℕ → List Event → Left
 byRules table [] = record { table = table; seen = [] }
 byRules table (event ∷ events) = saw (ruled table event .seen) (byRules (ruled table event .table) events)
 
--- ---- by whole frames: `chain::handle` promises `answer`, `tableAfter` and `replyAfter`, `loads::load` `loaded` and `tableAfterLoad`. A
--- reply buffer is lent, and lent again as it was left; a reply is its first bytes
+-- ---- by whole frames: `chain::handle` promises `answer`, `tableAfter` and `replyAfter`, `loads::store` `stored` and `tableAfterStore`,
+-- `loads::compare` `compared` and `tableAfterCompare`. A reply buffer is lent, and lent again as it was left; a reply is its first bytes
 
 unfoldable pub byFrames : List ℕ → List ℕ → List Event → Left
 byFrames table buffer [] = record { table = table; seen = [] }
@@ -118,8 +125,9 @@ byFrames table buffer (Frame frame ∷ events) =
     let said = answer table frame (length buffer) in
     let left = replyAfter table frame buffer in
     saw (Answered said (take (replyBytes said) left)) (byFrames (tableAfter table frame (length buffer)) left events)
-byFrames table buffer (Load position codes ∷ events) =
-    saw (LoadAnswered (loaded table position codes)) (byFrames (tableAfterLoad table position codes) buffer events)
+byFrames table buffer (Store position codes ∷ events) =
+    saw (StoreAnswered (stored table position codes)) (byFrames (tableAfterStore table position codes) buffer events)
+byFrames table buffer (Compare position ∷ events) = saw (CompareAnswered (compared table position)) (byFrames (tableAfterCompare table position) buffer events)
 
 -- ---- by clocked bytes: `clocked::start` promises `idle` of the state, `clocked::clock` `stateAfter` and the byte `answered`, and
 -- `clocked::release` `released`, `tableReleased`, and `idle` of the state. A state is lent, and lent again as it was left; a reply is
@@ -147,5 +155,6 @@ byBytes table state (Frame frame ∷ events) =
     let said = released clock table in
     let back = drop 4 (cameBack table frame (started state)) in
     saw (Answered said (take (replyBytes said) back)) (byBytes (tableReleased clock table) idle events)
-byBytes table state (Load position codes ∷ events) =
-    saw (LoadAnswered (loaded table position codes)) (byBytes (tableAfterLoad table position codes) state events)
+byBytes table state (Store position codes ∷ events) =
+    saw (StoreAnswered (stored table position codes)) (byBytes (tableAfterStore table position codes) state events)
+byBytes table state (Compare position ∷ events) = saw (CompareAnswered (compared table position)) (byBytes (tableAfterCompare table position) state events)
