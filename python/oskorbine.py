@@ -307,7 +307,8 @@ def osk_store(table: Writable, position: int, codes: Codes) -> Answer:
 
 def osk_compare(table: Writable, position: int) -> Answer:
     """Compares the stored cells of the monitor at a position, 1 to N, with its thresholds: sets UV for each cell below the lower one and
-    OV for each above the upper one. Cells at -32768 are skipped. Flags are only ever set, and no other byte changes.
+    OV for each above the upper one. Cells at -32768 are skipped. A compare only ever sets flags, and no other byte
+    changes.
 
     No values. Refusals: 1, 7.
     """
@@ -315,7 +316,8 @@ def osk_compare(table: Writable, position: int) -> Answer:
 
 
 def osk_load(table: Writable, position: int, codes: Codes) -> Answer:
-    """Loads 16 codes into the monitor at a position: osk_store and, where that is accepted, osk_compare in one call.
+    """Loads 16 codes of 150 microvolts into the monitor at a position, 1 to N: osk_store and, where that is accepted, osk_compare in one
+    call.
 
     No values. Refusals: 1, 7, 8, 9.
     """

@@ -28,9 +28,9 @@ pub(crate) struct Case {
     pub at_second: u64,
 }
 
-// Of what is given, the code of a frame is 0 in a load.
+// Of what is given, the code is 0 in a load, 4000 in a store and 8000 in a compare; no frame's is a multiple of 4000.
 fn is_load(given: u64) -> bool {
-    given < 0x0001_0000_0000_0000
+    given / 0x0001_0000_0000_0000 % 0x4000 == 0
 }
 
 fn came_of(c: Case, before: Bytes, sent: Bytes) -> Came {
@@ -40,7 +40,8 @@ fn came_of(c: Case, before: Bytes, sent: Bytes) -> Came {
     handled(before, sent, c.sizes)
 }
 
-// The table expected: the bytes at a place of both records, and the counter and byte 69 of both; or after a load the flags.
+// The table expected: the bytes at a place of both records, and the counter and byte 69 of both; or after a load, a store or a
+// compare the flags of one.
 fn wanted(c: Case, before: Bytes) -> Bytes {
     let place = c.sizes / 1000 % 100;
     let count = c.sizes / 10 % 100;
@@ -53,7 +54,7 @@ fn wanted(c: Case, before: Bytes) -> Bytes {
     if is_load(c.given) {
         return lay(
             registers,
-            c.given / 0x1000_0000_0000 * 70 + 2290,
+            c.given / 0x1000_0000_0000 % 16 * 70 + 2290,
             4,
             c.given,
         );
@@ -71,7 +72,7 @@ fn told(c: Case, came: Came) -> bool {
     if number != 0 {
         words(REFUSED, number, 0, 0, 0);
     } else if is_load(c.given) {
-        text(LOADED);
+        text(LOADED + (c.given >> 62));
     } else {
         words(TAKEN, taken, reply, 0, 0);
     }
@@ -108,7 +109,7 @@ fn shown(kind: u64, before: Bytes, after: Bytes, buffer: Bytes) {
 pub(crate) fn tried(c: Case, label: u64) -> bool {
     let kind = c.sizes / 100_000 % 10;
     let end = c.sizes % 10;
-    let before = start(c.sizes / 100_000_000_000_000_000, c.first);
+    let before = start(c.sizes / 100_000_000_000_000_000, c.first, c.given);
     let sent = frame(c.given, kind, c.first, c.second);
     let came = came_of(c, before, sent);
     let after = came.table;

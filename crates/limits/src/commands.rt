@@ -1,4 +1,4 @@
-// Each command on two monitors whose bytes all differ, damaged payloads, the counters at their end, and loads.
+// Each command on two monitors whose bytes all differ, damaged payloads, the counters at their end, and loads, stores and compares.
 use crate::cases::Case;
 use crate::cases::tried;
 use crate::words::CASES;
@@ -6,8 +6,10 @@ use crate::words::CASES;
 // A case is six numbers.
 //
 // 1. What is done. Of a frame, in hexadecimal, code_check_near_far: its code, the bits of its check that are wrong, and the counter and byte
-//    69 that the first and the second monitor end with. Of a load the code is 0, and after it stand one digit for the position, one for
-//    the code (deeds.rt), two for how many codes, and the flags that are expected at that position, status D bytes 0 to 3.
+//    69 that the first and the second monitor end with. Of a load the code is 0, of a store 4000 and of a compare 8000, which no command
+//    has. After it stand one digit for the position, one for the code (deeds.rt), two for how many codes, and the flags that are
+//    expected at that position, status D bytes 0 to 3. A compare takes no codes: there the code and the digit after it say what was
+//    stored before it, and at which position.
 // 2. Its sizes and what is expected, in decimal, begin_monitors_frame_room_refusal_taken_kind_place_count_shown: the table that the case begins
 //    with (starts.rt), its monitors, the bytes of the frame and the room for a reply; then the refusal or 0, how many monitors take it, and
 //    the kind (0 is bare or refused, 1 a read, 2 a write); then the place in a record and the count of the bytes that numbers 5 and 6 are;
@@ -15,7 +17,7 @@ use crate::words::CASES;
 // 3, 4. Of a read, the replies of the first and the second monitor. Of a write, what each is sent: six bytes, the counter bits, and which
 //    bit is wrong, 0 being none and 1 the last.
 // 5, 6. The bytes that are expected at that place of the first and the second record. Every other byte stays as it was.
-const ROWS: [u64; 366] = [
+const ROWS: [u64; 516] = [
     // MUTE on 0, 1, 32 and 33 monitors of 0
     0x0028_0000_0000_0000,
     00_00_004_008_1_00_0_00_00_0,
@@ -425,14 +427,178 @@ const ROWS: [u64; 366] = [
     0x0008_0000_0000_00_00,
     0,
     0,
+    // stores that are refused
+    0x4000_1010_5354_5556,
+    06_02_000_000_1_00_0_00_00_4,
+    0,
+    0,
+    0,
+    0,
+    0x4000_0010_5354_5556,
+    06_02_000_000_1_00_0_00_00_4,
+    0,
+    0,
+    0,
+    0,
+    0x4000_0010_5354_5556,
+    01_02_000_000_7_00_0_00_00_4,
+    0,
+    0,
+    0,
+    0,
+    0x4000_3010_5354_5556,
+    01_02_000_000_7_00_0_00_00_4,
+    0,
+    0,
+    0,
+    0,
+    0x4000_300f_5354_5556,
+    01_02_000_000_7_00_0_00_00_4,
+    0,
+    0,
+    0,
+    0,
+    0x4000_100f_5354_5556,
+    01_02_000_000_8_00_0_00_00_4,
+    0,
+    0,
+    0,
+    0,
+    0x4000_1011_5354_5556,
+    01_02_000_000_8_00_0_00_00_4,
+    0,
+    0,
+    0,
+    0,
+    0x4000_110f_5354_5556,
+    01_02_000_000_8_00_0_00_00_4,
+    0,
+    0,
+    0,
+    0,
+    0x4000_1110_5354_5556,
+    01_02_000_000_9_00_0_00_00_4,
+    0,
+    0,
+    0,
+    0,
+    // VUV 0, VOV 100, code 1601: a store compares nothing
+    0x4000_2310_0000_0000,
+    07_02_000_000_0_00_0_22_08_7,
+    0x0040_0600_0000_00_00,
+    0,
+    0,
+    0x4106_0000_0000_0000,
+    // code -32767, the lowest that is taken
+    0x4000_1710_0000_0000,
+    07_02_000_000_0_00_0_22_08_7,
+    0x0040_0600_0000_00_00,
+    0,
+    0x0180_0000_0000_0000,
+    0,
+    // compares that are refused
+    0x8000_1000_5354_5556,
+    06_02_000_000_1_00_0_00_00_4,
+    0,
+    0,
+    0,
+    0,
+    0x8000_0000_5354_5556,
+    06_02_000_000_1_00_0_00_00_4,
+    0,
+    0,
+    0,
+    0,
+    0x8000_0000_5354_5556,
+    01_02_000_000_7_00_0_00_00_4,
+    0,
+    0,
+    0,
+    0,
+    0x8000_3000_5354_5556,
+    01_02_000_000_7_00_0_00_00_4,
+    0,
+    0,
+    0,
+    0,
+    // VUV 0, VOV 100, code 1600
+    0x8000_2220_0000_0000,
+    10_02_000_000_0_00_0_22_08_7,
+    0x0040_0600_0000_00_00,
+    0,
+    0,
+    0x4006_0000_0000_0000,
+    // code 1601
+    0x8000_2320_0008_0000,
+    10_02_000_000_0_00_0_22_08_7,
+    0x0040_0600_0000_00_00,
+    0,
+    0,
+    0x4106_0000_0000_0000,
+    // VUV -1, VOV 0, code -16
+    0x8000_2420_0000_0000,
+    10_02_000_000_0_00_0_22_08_7,
+    0xff0f_0000_0000_00_00,
+    0,
+    0,
+    0xf0ff_0000_0000_0000,
+    // code -17
+    0x8000_2520_0004_0000,
+    10_02_000_000_0_00_0_22_08_7,
+    0xff0f_0000_0000_00_00,
+    0,
+    0,
+    0xefff_0000_0000_0000,
+    // position 1, VUV 0, VOV 100, code 1601
+    0x8000_1310_0008_0000,
+    10_02_000_000_0_00_0_22_08_7,
+    0x0040_0600_0000_00_00,
+    0,
+    0x4106_0000_0000_0000,
+    0,
+    // code 1601 at position 2 alone: a compare of monitor 1 leaves monitor 2
+    0x8000_1320_0000_0000,
+    10_02_000_000_0_00_0_22_08_7,
+    0x0040_0600_0000_00_00,
+    0,
+    0,
+    0x4106_0000_0000_0000,
+    // VUV 2047, VOV 0: cleared cells are far below, and are skipped
+    0x8000_2000_0000_0000,
+    11_02_000_000_0_00_0_12_32_7,
+    0xff07_0000_0000_00_00,
+    0,
+    0x0080_0080_0080_0080,
+    0x0080_0080_0080_0080,
+    // one cell a step above cleared: it is not skipped
+    0x8000_2000_0004_0000,
+    12_02_000_000_0_00_0_22_08_7,
+    0xff07_0000_0000_00_00,
+    0,
+    0x0080_0080_0080_0080,
+    0x0180_0080_0080_0080,
+    // a cell that has recovered keeps its flag
+    0x8000_2220_0008_0000,
+    13_02_000_000_0_00_0_22_08_7,
+    0,
+    0,
+    0,
+    0x4006_0000_0000_0000,
+    // a second compare changes nothing
+    0x8000_2320_0008_0000,
+    14_02_000_000_0_00_0_22_08_7,
+    0x0040_0600_0000_00_00,
+    0,
+    0,
+    0x4106_0000_0000_0000,
 ];
 
 fn number(k: usize) -> u64 {
-    ROWS[k % 366]
+    ROWS[k % 516]
 }
 
 pub(crate) fn command(i: usize) -> bool {
-    let k = i % 61 * 6;
+    let k = i % 86 * 6;
     let c = Case {
         given: number(k),
         sizes: number(k + 1),
@@ -441,5 +607,5 @@ pub(crate) fn command(i: usize) -> bool {
         at_first: number(k + 4),
         at_second: number(k + 5),
     };
-    tried(c, CASES + (i % 61) as u64)
+    tried(c, CASES + (i % 86) as u64)
 }

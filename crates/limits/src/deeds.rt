@@ -1,4 +1,4 @@
-// What is done to a table: a frame is handled, or codes are loaded.
+// What is done to a table: a frame is handled, or codes are loaded, stored or compared.
 use crate::bench::Bytes;
 use chain::Numbers;
 
@@ -9,8 +9,8 @@ pub(crate) struct Came {
     pub numbers: Numbers,
 }
 
-// The codes that are loaded.
-const CODES: [i16; 7] = [0, -32768, 1600, 1601, -16, -17, 800];
+// The codes that are loaded or stored.
+const CODES: [i16; 8] = [0, -32768, 1600, 1601, -16, -17, 800, -32767];
 
 // A frame handled: of its sizes the monitors of the table, the bytes of the frame, and the room for a reply.
 pub(crate) fn handled(table: Bytes, frame: Bytes, sizes: u64) -> Came {
@@ -31,9 +31,9 @@ pub(crate) fn handled(table: Bytes, frame: Bytes, sizes: u64) -> Came {
     }
 }
 
-// Seventeen codes, one more than a load has: cell 6 has one of its own, the others 0, but all have the last.
+// Seventeen codes, one more than a load has: cell 6 has one of its own, the others 0, but all have 800.
 fn codes_of(which: usize) -> [i16; 17] {
-    let code = CODES[which % 7];
+    let code = CODES[which % 8];
     if which == 6 {
         return [code; 17];
     }
@@ -42,13 +42,18 @@ fn codes_of(which: usize) -> [i16; 17] {
     codes
 }
 
-// Codes loaded into two monitors: of what is given the position, which code it is, and how many.
+// A load, a store or a compare in two monitors: of what is given which of them, the position, which code it is, and how many.
 pub(crate) fn loaded(table: Bytes, given: u64) -> Came {
     let mut after = table;
     let codes = codes_of((given / 0x0100_0000_0000 % 16) as usize);
     let size = (given / 0x0001_0000_0000 % 256 % 18) as usize;
-    let position = (given / 0x1000_0000_0000) as usize;
-    let number = loads::load_number(loads::load(&mut after[0..140], position, &codes[0..size]));
+    let position = (given / 0x1000_0000_0000 % 16) as usize;
+    let came = match given >> 62 {
+        0 => loads::load(&mut after[0..140], position, &codes[0..size]),
+        1 => loads::store(&mut after[0..140], position, &codes[0..size]),
+        _ => loads::compare(&mut after[0..140], position),
+    };
+    let number = loads::load_number(came);
     Came {
         table: after,
         buffer: [0xee; 2310],

@@ -6,7 +6,7 @@ use crate::deeds::handled;
 use crate::deeds::loaded;
 use crate::frames::frame;
 
-// Of the sizes of a case (rows.rt), those of a bare command and of a write to two monitors.
+// Of the sizes of a case (commands.rt), those of a bare command and of a write to two monitors.
 const BARE: u64 = 02_004_000_0_00_0_00_00_0;
 
 const WRITE: u64 = 02_020_000_0_00_2_00_00_0;
@@ -23,11 +23,22 @@ fn load(table: Bytes, given: u64) -> Bytes {
     came.table
 }
 
+// A store of the code that a compare names, at the position that it names.
+fn stored(table: Bytes, compare: u64) -> Bytes {
+    let position = compare >> 36 & 15;
+    let code = compare & 0x0000_0f00_0000_0000;
+    load(table, 0x4000_0010_0000_0000 | position << 44 | code)
+}
+
 fn thresholds(six: u64) -> Bytes {
     after([0u8; 2310], 0x0024, WRITE, six)
 }
 
-pub(crate) fn start(which: u64, six: u64) -> Bytes {
+fn cleared(six: u64) -> Bytes {
+    after(thresholds(six), 0x0711, BARE, 0)
+}
+
+pub(crate) fn start(which: u64, six: u64, given: u64) -> Bytes {
     match which {
         0 => [0u8; 2310],
         1 => two(),
@@ -38,9 +49,18 @@ pub(crate) fn start(which: u64, six: u64) -> Bytes {
         6 => lay(two(), 69, 1, 2),
         7 => thresholds(six),
         8 => load(thresholds(0x0040_0600_0000_0000), 0x0000_2310_0000_0000),
-        _ => load(
+        9 => load(
             load(thresholds(0x0040_0600_0000_0000), 0x0000_2310_0000_0000),
             0x0000_2210_0000_0000,
         ),
+        10 => stored(thresholds(six), given),
+        11 => cleared(six),
+        // cell 6 of monitor 2 is 01 80
+        12 => lay(cleared(six), 92, 1, 0x01),
+        13 => stored(
+            load(thresholds(0x0040_0600_0000_0000), 0x0000_2310_0000_0000),
+            given,
+        ),
+        _ => load(stored(thresholds(six), given), given),
     }
 }

@@ -1,7 +1,7 @@
 // All that is written, in words that are called by their number: a bar stands before each, and the first are 1.
-pub(crate) type Text = [u8; 2477];
+pub(crate) type Text = [u8; 3141];
 
-pub(crate) const SIZE: usize = 2477;
+pub(crate) const SIZE: usize = 3141;
 
 pub(crate) const REFUSED: u64 = 1;
 
@@ -41,47 +41,51 @@ pub(crate) const COUNTERS: u64 = 18;
 
 pub(crate) const LOADS: u64 = 19;
 
-pub(crate) const HOSTS: u64 = 20;
+pub(crate) const STORES: u64 = 20;
 
-pub(crate) const VOLTS: u64 = 21;
+pub(crate) const COMPARES: u64 = 21;
 
-pub(crate) const OF_SIZE: u64 = 22;
+pub(crate) const HOSTS: u64 = 22;
 
-pub(crate) const WITH_BYTE: u64 = 23;
+pub(crate) const VOLTS: u64 = 23;
 
-pub(crate) const NOT_SOUND: u64 = 24;
+pub(crate) const OF_SIZE: u64 = 24;
 
-pub(crate) const IS_SOUND: u64 = 25;
+pub(crate) const WITH_BYTE: u64 = 25;
 
-pub(crate) const STAYS: u64 = 26;
+pub(crate) const NOT_SOUND: u64 = 26;
 
-pub(crate) const OWN: u64 = 34;
+pub(crate) const IS_SOUND: u64 = 27;
 
-pub(crate) const LOADED: u64 = 35;
+pub(crate) const STAYS: u64 = 28;
 
-pub(crate) const FLAGS: u64 = 36;
+pub(crate) const OWN: u64 = 36;
 
-pub(crate) const AND: u64 = 37;
+pub(crate) const LOADED: u64 = 37;
 
-pub(crate) const BUILDS: u64 = 38;
+pub(crate) const FLAGS: u64 = 40;
 
-pub(crate) const LENGTH: u64 = 42;
+pub(crate) const AND: u64 = 41;
 
-pub(crate) const READING: u64 = 43;
+pub(crate) const BUILDS: u64 = 42;
 
-pub(crate) const IS_CLEARED: u64 = 44;
+pub(crate) const LENGTH: u64 = 46;
 
-pub(crate) const CODES: u64 = 45;
+pub(crate) const READING: u64 = 47;
 
-pub(crate) const NONE: u64 = 46;
+pub(crate) const IS_CLEARED: u64 = 48;
 
-pub(crate) const WHOLE: u64 = 47;
+pub(crate) const CODES: u64 = 49;
 
-pub(crate) const MICROVOLTS: u64 = 48;
+pub(crate) const NONE: u64 = 50;
 
-pub(crate) const ORDERED: u64 = 58;
+pub(crate) const WHOLE: u64 = 51;
 
-pub(crate) const CASES: u64 = 77;
+pub(crate) const MICROVOLTS: u64 = 52;
+
+pub(crate) const ORDERED: u64 = 62;
+
+pub(crate) const CASES: u64 = 81;
 
 pub(crate) const WORDS: Text = *b"\
     |: refused #\
@@ -103,6 +107,8 @@ pub(crate) const WORDS: Text = *b"\
     |damaged payloads, after ULRR\n\
     |counters of 62 and 63\n\
     |loads\n\
+    |stores\n\
+    |compares\n\
     |frames of our host\n\
     |voltages, with the bits of the f64\n\
     |table, bytes #\
@@ -119,6 +125,8 @@ pub(crate) const WORDS: Text = *b"\
     |\
     |WRCFGB: taken by #, reply #; monitors that hold their own #\
     |: loaded\
+    |: stored\
+    |: compared\
     |; flags\
     | and\
     |WRCFGB, monitors #, value bytes #, room #\
@@ -221,4 +229,29 @@ pub(crate) const WORDS: Text = *b"\
     |VUV 100, VOV 0, sixteen codes 800\
     |the same cell, code 1600 after 1601\
     |CLOVUV, then\
+    |unsound table\
+    |unsound table, position 0\
+    |position 0\
+    |position 3 of 2\
+    |position 3 of 2, 15 codes\
+    |15 codes\
+    |17 codes\
+    |15 codes, one of them -32768\
+    |a code -32768\
+    |VUV 0, VOV 100, code 1601\
+    |VUV 0, VOV 100, code -32767\
+    |unsound table\
+    |unsound table, position 0\
+    |position 0\
+    |position 3 of 2\
+    |VUV 0, VOV 100, code 1600\
+    |VUV 0, VOV 100, code 1601\
+    |VUV -1, VOV 0, code -16\
+    |VUV -1, VOV 0, code -17\
+    |position 1, VUV 0, VOV 100, code 1601\
+    |position 1, VUV 0, VOV 100, code 1601 at position 2 only\
+    |VUV 2047, VOV 0, after CLRCELL\
+    |VUV 2047, VOV 0, after CLRCELL, one cell -32767\
+    |the same cell, code 1600 after 1601\
+    |VUV 0, VOV 100, code 1601, a second time\
     |";

@@ -40,9 +40,9 @@ fn compare_at(table: &mut [u8], k: usize)
     requires { ⌜ (k < mostMonitors) × (k * recordSize + recordSize ≤ length (now table)) ⌝ }
     ensures { λ _. ⌜ now (table .exit) ≡ changedAt k compare (now (table .entry)) ⌝ }
 {
-    let at = k * RECORD_SIZE;
-    let end = at + RECORD_SIZE;
-    cells::compare(&mut table[at..end]);
+    let start = k * RECORD_SIZE;
+    let end = start + RECORD_SIZE;
+    cells::compare(&mut table[start..end]);
 }
 
 // Stores sixteen codes in the monitor at a position, counted from 1. A refusal changes nothing.

@@ -6,8 +6,8 @@ use Rattle.judging.proofs.Lent.{lent-record, came-back}
 use Rattle.loads.proofs.loads.compare_at.Statement.{statement}
 use Rattle.loads.proofs.loads.compare_at.Tie as tie
 
-mul-at : tie.Need-mul-at
-mul-at c = search needs
+mul-start : tie.Need-mul-start
+mul-start c = search needs
 
 add-end : tie.Need-add-end
 add-end c = search needs
@@ -36,4 +36,4 @@ returns c =
 pub compare-at-spec : {M : Type 1} → statement M
 compare-at-spec =
     tie.close
-    (tie.spec mul-at add-end sub-compare part-compare-start part-compare-end compare-requires same-length returns)
+    (tie.spec mul-start add-end sub-compare part-compare-start part-compare-end compare-requires same-length returns)
