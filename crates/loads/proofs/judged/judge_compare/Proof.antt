@@ -13,9 +13,6 @@ use Rattle.loads.proofs.judged.judge_compare.Tie as tie
 its-sound : (c : tie.Else1) → sound (c .before .before .before .args .table .now) ≡ true
 its-sound c = not-none (c .before .before .before .args .table .now) (c .before .sound-count .ensures) (c .if1 .left)
 
-sound-count-requires : tie.Need-sound-count-requires
-sound-count-requires c κs = search needs
-
 returns : tie.Need-returns
 returns c =
     let a = c .before .before .before .args in
@@ -42,4 +39,4 @@ returns-4 c =
 
 pub judge-compare-spec : {M : Type 1} → statement M
 judge-compare-spec =
-    tie.close (tie.spec sound-count-requires returns returns-2 returns-3 returns-4)
+    tie.close (tie.spec (λ c κs. search needs) returns returns-2 returns-3 returns-4)

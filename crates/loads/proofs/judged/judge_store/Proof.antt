@@ -14,23 +14,11 @@ counted c =
     let placed = sym (c .before .before .before .judge-compare .ensures) ∙ c .before .enum-told .given .1 in
     goes-on (a .codes .now) (a .table .now) (a .position) placed ∙ pass-3 (a .codes .now) (c .if1 .left)
 
-judge-compare-requires : tie.Need-judge-compare-requires
-judge-compare-requires c κs = search needs
-
-enum-known-refusal : tie.Need-enum-known-refusal
-enum-known-refusal c = search needs
-
-enum-told : tie.Need-enum-told
-enum-told c = search needs
-
 returns : tie.Need-returns
 returns c =
     let a = c .before .before .before .before .before .args in
     let placed = sym (c .before .before .before .judge-compare .ensures) ∙ c .before .enum-told .given .1 in
     sym (goes-on (a .codes .now) (a .table .now) (a .position) placed ∙ stop-3 (a .codes .now) (c .if1 .taken))
-
-any-cleared-requires : tie.Need-any-cleared-requires
-any-cleared-requires c κs = search needs
 
 returns-2 : tie.Need-returns-2
 returns-2 c =
@@ -51,11 +39,11 @@ pub judge-store-spec : {M : Type 1} → statement M
 judge-store-spec =
     tie.close
     (tie.spec
-    judge-compare-requires
-    enum-known-refusal
-    enum-told
+    (λ c κs. search needs)
+    (λ c. search needs)
+    (λ c. search needs)
     returns
-    any-cleared-requires
+    (λ c κs. search needs)
     returns-2
     returns-3
     returns-4)

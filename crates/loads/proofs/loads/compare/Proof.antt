@@ -10,15 +10,6 @@ use Rattle.loads.proofs.Place.{Place, done-place, few, fits}
 use Rattle.loads.proofs.loads.compare.Statement.{statement}
 use Rattle.loads.proofs.loads.compare.Tie as tie
 
-judge-compare-requires : tie.Need-judge-compare-requires
-judge-compare-requires c κs = search needs
-
-enum-known-refusal : tie.Need-enum-known-refusal
-enum-known-refusal c = search needs
-
-enum-told : tie.Need-enum-told
-enum-told c = search needs
-
 sub-compare-at : tie.Need-sub-compare-at
 sub-compare-at c =
     let a = c .before .before .before .before .before .before .args in
@@ -31,17 +22,11 @@ compare-at-requires c κs =
     let p = done-place (a .table .now) (a .position) (sym (c .before .before .before .judge-compare .ensures) ∙ c .before .enum-told .given .1) in
     (few (a .table .now) (a .position) p, fits (a .table .now) (a .position) p)
 
-same-length : tie.Need-same-length
-same-length c = search needs
-
 returns : tie.Need-returns
 returns c =
     let a = c .before .before .before .before .before .before .args in
     let e = sym (c .before .before .before .judge-compare .ensures) ∙ c .before .refusal .given .1 in
     (sym e, sym (table-compared (a .table .now) (a .position) e))
-
-same-length-2 : tie.Need-same-length-2
-same-length-2 c = search needs
 
 returns-2 : tie.Need-returns-2
 returns-2 c =
@@ -53,12 +38,12 @@ pub compare-spec : {M : Type 1} → statement M
 compare-spec =
     tie.close
     (tie.spec
-    judge-compare-requires
-    enum-known-refusal
-    enum-told
+    (λ c κs. search needs)
+    (λ c. search needs)
+    (λ c. search needs)
     sub-compare-at
     compare-at-requires
-    same-length
+    (λ c. search needs)
     returns
-    same-length-2
+    (λ c. search needs)
     returns-2)

@@ -17,15 +17,6 @@ use Rattle.loads.proofs.Halves.{place-after, halves}
 use Rattle.loads.proofs.loads.load.Statement.{statement}
 use Rattle.loads.proofs.loads.load.Tie as tie
 
-store-requires : tie.Need-store-requires
-store-requires c κs = search needs
-
-enum-known-refusal : tie.Need-enum-known-refusal
-enum-known-refusal c = search needs
-
-enum-told : tie.Need-enum-told
-enum-told c = search needs
-
 sub-compare-at : tie.Need-sub-compare-at
 sub-compare-at c =
     let a = c .before .before .before .before .before .before .before .before .args in
@@ -40,9 +31,6 @@ compare-at-requires c κs =
     let after = tableAfterStore (a .table .now) (a .position) (a .codes .now) in
     (few after (a .position) p, subst⁻¹ (λ (t : List ℕ). (a .position - 1) * recordSize + recordSize ≤ length t) (c .before .before .before .before .before .store .ensures .1) (fits after (a .position) p))
 
-same-length : tie.Need-same-length
-same-length c = search needs
-
 returns : tie.Need-returns
 returns c =
     let a = c .before .before .before .before .before .before .before .before .args in
@@ -50,9 +38,6 @@ returns c =
     let e = sym (s .ensures .0) ∙ c .before .refusal .given .1 in
     let l = as-stored (a .table .now) (a .position) (a .codes .now) ∙ e in
     (sym l, s .ensures .1 ∙ table-stored (a .table .now) (a .position) (a .codes .now) e ∙ sym (table-loaded (a .table .now) (a .position) (a .codes .now) l))
-
-same-length-2 : tie.Need-same-length-2
-same-length-2 c = search needs
 
 returns-2 : tie.Need-returns-2
 returns-2 c =
@@ -67,12 +52,12 @@ pub load-spec : {M : Type 1} → statement M
 load-spec =
     tie.close
     (tie.spec
-    store-requires
-    enum-known-refusal
-    enum-told
+    (λ c κs. search needs)
+    (λ c. search needs)
+    (λ c. search needs)
     sub-compare-at
     compare-at-requires
-    same-length
+    (λ c. search needs)
     returns
-    same-length-2
+    (λ c. search needs)
     returns-2)

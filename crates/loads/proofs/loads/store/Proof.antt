@@ -8,15 +8,6 @@ use Rattle.loads.proofs.Place.{few, fits, sixteen, store-place, stored-
 use Rattle.loads.proofs.loads.store.Statement.{statement}
 use Rattle.loads.proofs.loads.store.Tie as tie
 
-judge-store-requires : tie.Need-judge-store-requires
-judge-store-requires c κs = search needs
-
-enum-known-refusal : tie.Need-enum-known-refusal
-enum-known-refusal c = search needs
-
-enum-told : tie.Need-enum-told
-enum-told c = search needs
-
 sub-store-at : tie.Need-sub-store-at
 sub-store-at c =
     let a = c .before .before .before .before .before .before .args in
@@ -30,17 +21,11 @@ store-at-requires c κs =
     let p = store-place (a .table .now) (a .position) (a .codes .now) none in
     (few (a .table .now) (a .position) p, fits (a .table .now) (a .position) p, sixteen (a .table .now) (a .position) (a .codes .now) none)
 
-same-length : tie.Need-same-length
-same-length c = search needs
-
 returns : tie.Need-returns
 returns c =
     let a = c .before .before .before .before .before .before .args in
     let e = sym (c .before .before .before .judge-store .ensures) ∙ c .before .refusal .given .1 in
     (sym e, sym (table-stored (a .table .now) (a .position) (a .codes .now) e))
-
-same-length-2 : tie.Need-same-length-2
-same-length-2 c = search needs
 
 returns-2 : tie.Need-returns-2
 returns-2 c =
@@ -52,12 +37,12 @@ pub store-spec : {M : Type 1} → statement M
 store-spec =
     tie.close
     (tie.spec
-    judge-store-requires
-    enum-known-refusal
-    enum-told
+    (λ c κs. search needs)
+    (λ c. search needs)
+    (λ c. search needs)
     sub-store-at
     store-at-requires
-    same-length
+    (λ c. search needs)
     returns
-    same-length-2
+    (λ c. search needs)
     returns-2)

@@ -9,27 +9,6 @@ use Rattle.judging.proofs.Lent.{lent-record, came-back}
 use Rattle.loads.proofs.loads.store_at.Statement.{statement}
 use Rattle.loads.proofs.loads.store_at.Tie as tie
 
-mul-at : tie.Need-mul-at
-mul-at c = search needs
-
-add-end : tie.Need-add-end
-add-end c = search needs
-
-sub-store : tie.Need-sub-store
-sub-store c = search needs
-
-part-store-start : tie.Need-part-store-start
-part-store-start c = search needs
-
-part-store-end : tie.Need-part-store-end
-part-store-end c = search needs
-
-store-requires : tie.Need-store-requires
-store-requires c κs = search needs
-
-same-length : tie.Need-same-length
-same-length c = search needs
-
 returns : tie.Need-returns
 returns c =
     let start = c .before .before .before .before .before in
@@ -39,4 +18,4 @@ returns c =
 pub store-at-spec : {M : Type 1} → statement M
 store-at-spec =
     tie.close
-    (tie.spec mul-at add-end sub-store part-store-start part-store-end store-requires same-length returns)
+    (tie.spec (λ c. search needs) (λ c. search needs) (λ c. search needs) (λ c. search needs) (λ c. search needs) (λ c κs. search needs) (λ c. search needs) returns)
