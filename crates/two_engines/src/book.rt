@@ -30,18 +30,18 @@ pub(crate) const COMMAND_COUNT: usize = 22;
 // How many frames came to each number by hand, 0 to 6.
 pub(crate) const NUMBERS_BY_HAND: usize = 36;
 
-// Of looks and of loads, and after each of those that were refused.
+// Of looks; and of stores, compares and loads, by their kind: and after each of those that were refused.
 pub(crate) const LOOKS: usize = 43;
 
 pub(crate) const LOADS: usize = 45;
 
-pub(crate) const DIFFERENCES: usize = 47;
+pub(crate) const DIFFERENCES: usize = 51;
 
-pub(crate) type Book = [usize; 48];
+pub(crate) type Book = [usize; 52];
 
 // No count here comes near the largest number.
 pub(crate) fn count(mut w: World, place: usize, more: usize) -> World
-    requires { ⌜ place < 48 ⌝ }
+    requires { ⌜ place < 52 ⌝ }
 {
     w.book[place] = wrapping_add_usize(w.book[place], more);
     w
@@ -49,7 +49,7 @@ pub(crate) fn count(mut w: World, place: usize, more: usize) -> World
 
 // One more that came to a number, from the place of 0 on. The last place has all the greater numbers.
 pub(crate) fn numbered(w: World, from: usize, last: usize, number: u8) -> World
-    requires { ⌜ from + last < 48 ⌝ }
+    requires { ⌜ from + last < 52 ⌝ }
 {
     let more = number as usize;
     if more < last {

@@ -1,5 +1,6 @@
 // Both engines on the same generated frames, for 1, 2, 3, 31 and 32 monitors: good frames of every command, frames damaged in every
-// way that has a number, loads between. Printed: what became of the frames, how much differed, and digests of every table and reply.
+// way that has a number; stores, compares and loads between. Printed: what became of the frames, how much differed, and digests of
+// every table and reply.
 // What that must be is worked out by tools/two-engines-model, from the paper alone.
 mod book;
 mod by_hand;
@@ -82,7 +83,7 @@ fn main() {
         whole: 1,
         clocked: 1,
         by_hand: 1,
-        book: [0; 48],
+        book: [0; 52],
         table: [0; REPLY + REPLY_ROOM],
         state,
         back: BEFORE,

@@ -35,7 +35,7 @@ pub(crate) fn counts(book: Book) {
         \x20 writes taken by # of # monitors\n\
         \x20 accepted of each command: # # # # # # # # # # # # # # # # # # # # # #\n\
         \x20 by hand: accepted #, refused 1: #, 2: #, 3: #, 4: #, 5: #, 6: #; looks #, refused #\n\
-        \x20 loads #, refused #\n\
+        \x20 stores #, refused #; compares #, refused #; loads #, refused #\n\
         \x20 differences: #\n",
         &book,
     );

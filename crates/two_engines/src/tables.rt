@@ -17,7 +17,7 @@ use crate::world::World;
 // Where the first record has its counter, and its lock after it.
 const COUNTER: usize = TABLE + 68;
 
-// Codes to load: sixteen that follow one another are taken. One near the end is the cleared code, which no load takes.
+// Codes to store or load: sixteen that follow one another are taken. One near the end is the cleared code, which neither takes.
 const CODES: [i16; 32] = [
     0,
     1,
@@ -47,11 +47,18 @@ const CODES: [i16; 32] = [
     -20000,
     24576,
     -28000,
+    -32768,
     30000,
     32767,
-    -32768,
     -32767,
 ];
+
+// What may come between two frames, by its kind: a store, a compare, or a load.
+const STORE: usize = 0;
+
+const COMPARE: usize = 1;
+
+const KINDS: usize = 3;
 
 // Every counter and every lock anew: so counters come to their end, and retentions are found unlocked. What luck is left is answered.
 fn stir(table: &mut [u8], luck: usize) -> usize
@@ -91,7 +98,7 @@ pub(crate) fn new(mut w: World, n: usize) -> World {
     let mut table = [0; REPLY + REPLY_ROOM];
     w.luck = fill(&mut table[TABLE..REPLY], w.luck);
     w.table = table;
-    w.book = [0; 48];
+    w.book = [0; 52];
     count(stirred(w), MONITORS, n)
 }
 
@@ -153,42 +160,68 @@ pub(crate) fn spoil(whole: Outcome, n: usize, luck: usize) -> Lent
     }
 }
 
-// What came of a load.
+// What came of a store, a compare or a load.
 struct Came {
     table: Outcome,
     number: u8,
 }
 
-// A load of sixteen codes into a chain of n.
-fn loaded(before: Outcome, n: usize, position: usize, from: usize) -> Came
-    requires { ⌜ (n ≤ 32) × (from < 17) ⌝ }
-{
-    let mut table = before;
-    let end = TABLE + 70 * n;
-    let codes = CODES;
-    let to = from + 16;
-    let came = loads::load(&mut table[TABLE..end], position, &codes[from..to]);
-    Came {
-        table,
-        number: loads::load_number(came),
+// The number that one of a kind comes to.
+fn number_of(kind: usize, table: &mut [u8], position: usize, codes: &[i16]) -> u8 {
+    if kind == STORE {
+        return loads::load_number(loads::store(table, position, codes));
     }
+    if kind == COMPARE {
+        return loads::load_number(loads::compare(table, position));
+    }
+    loads::load_number(loads::load(table, position, codes))
 }
 
-// Now and then a load, at times of no monitor of the chain.
+// One of a kind, with so many bytes of the table and a part of the codes.
+fn loaded(
+    before: Outcome,
+    size: usize,
+    kind: usize,
+    position: usize,
+    from: usize,
+    to: usize,
+) -> Came
+    requires { ⌜ (size ≤ 2241) × (from ≤ to) × (to ≤ 32) ⌝ }
+{
+    let mut table = before;
+    let end = TABLE + size;
+    let codes = CODES;
+    let number = number_of(kind, &mut table[TABLE..end], position, &codes[from..to]);
+    Came { table, number }
+}
+
+// Now and then a store, a compare or a load; at times of no monitor of the chain, with a byte too many in the table, or with a code
+// too few or too many. One at most, so that what is stored lies there when the next frame comes, and is compared after it.
 pub(crate) fn now_and_then_loaded(mut w: World, n: usize) -> World
     requires { ⌜ n ≤ 32 ⌝ }
 {
-    let chance = draw(w.luck, 3);
+    let chance = draw(w.luck, 5);
     w.luck = chance.luck;
-    if chance.number != 0 {
+    let kind = chance.number;
+    if KINDS <= kind {
         return w;
     }
-    let position = draw(w.luck, n + 2);
-    let from = draw(position.luck, 17);
-    w.luck = from.luck;
+    let place = draw(w.luck, n + 2);
+    let position = place.number;
+    let what = draw(place.luck, 16);
+    let start = draw(what.luck, 16);
+    w.luck = start.luck;
+    let from = start.number;
+    let size = 70 * n;
     let before = w.table;
-    let came = loaded(before, n, position.number, from.number);
+    let way = what.number;
+    let came = match way {
+        0 => loaded(before, size + 1, kind, position, from, from + 16),
+        1 => loaded(before, size, kind, position, from, from + 15),
+        2 => loaded(before, size, kind, position, from, from + 17),
+        _ => loaded(before, size, kind, position, from, from + 16),
+    };
     let table = came.table;
     w.table = table;
-    numbered(w, LOADS, 1, came.number)
+    numbered(w, LOADS + 2 * kind, 1, came.number)
 }
