@@ -59,8 +59,9 @@ osk_answer osk_frame(uint8_t *table, size_t table_length, const uint8_t *frame, 
  */
 osk_answer osk_store(uint8_t *table, size_t table_length, size_t position, const int16_t *codes, size_t codes_length);
 
-/* Compares the stored cells of the monitor at a position, 1 to N, with its thresholds: sets UV for each cell below the lower one and OV
- * for each above the upper one. Cells at -32768 are skipped. A compare only ever sets flags, and no other byte changes.
+/* Compares the stored cells of the monitor at a position, 1 to N, with its thresholds VUV and VOV (configuration B, 16 codes a step): sets
+ * in status D UV for each cell below the lower one and OV for each above the upper one. Cells at -32768 are skipped. A compare only ever
+ * sets flags, and no other byte changes.
  * Refusals: 1, 7.
  */
 osk_answer osk_compare(uint8_t *table, size_t table_length, size_t position);

@@ -306,9 +306,9 @@ def osk_store(table: Writable, position: int, codes: Codes) -> Answer:
 
 
 def osk_compare(table: Writable, position: int) -> Answer:
-    """Compares the stored cells of the monitor at a position, 1 to N, with its thresholds: sets UV for each cell below the lower one and
-    OV for each above the upper one. Cells at -32768 are skipped. A compare only ever sets flags, and no other byte
-    changes.
+    """Compares the stored cells of the monitor at a position, 1 to N, with its thresholds VUV and VOV (configuration B, 16 codes a step):
+    sets in status D UV for each cell below the lower one and OV for each above the upper one. Cells at -32768 are skipped. A compare
+    only ever sets flags, and no other byte changes.
 
     No values. Refusals: 1, 7.
     """

@@ -5,3 +5,4 @@ pub mod Examples
 pub mod Codes
 pub mod Repeated
 pub mod OwnFlags
+pub mod OwnCodes

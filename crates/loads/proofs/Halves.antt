@@ -1,17 +1,15 @@
 -- A load is its two halves: where a store is done the compare after it is, and the two leave the table that the load leaves. Of two
--- stores the second counts; a compare after a compare changes nothing. By two changes of one record, which are one.
+-- stores the second counts; a compare after a compare changes nothing; and each is judged as if it were the only one. By two changes of one
+-- record, which are one.
 -- Assumes nothing.
 use mathlib.Core.Path.{_≡_, refl, sym, ap, _∙_, subst⁻¹}
-use mathlib.Core.Bool.{true}
 use mathlib.Core.List.{List, _++_}
 use Prim.Native.Nat.{ℕ, _+_, _-_, _*_, _≤_}
 use lib.IntN.{ℤ}
 use lib.ListN.{length, take, drop}
 use Rattle.laws.specs.Rows.{rowAt}
-use Rattle.refusals.specs.declared.Refusal.{Refusal}
-use Rattle.refusals.proofs.Deciding.{Passed, passes}
 use Rattle.records.specs.Record.{recordSize}
-use Rattle.judging.specs.Table.{monitors, sound, changedAt}
+use Rattle.judging.specs.Table.{changedAt}
 use Rattle.judging.proofs.Lent.{lent-length}
 use Rattle.judging.proofs.Keeps.{Keeps}
 use Rattle.judging.proofs.Changed.{changed-twice}
@@ -20,7 +18,7 @@ use Rattle.cells.proofs.Loaded.{length-store, length-compare}
 use Rattle.cells.proofs.Repeated.{store-store, compare-compare}
 use Rattle.loads.specs.declared.loads.Loaded.{Loaded}
 use Rattle.loads.specs.declared.loads.Loaded.the-variants.{Unloaded, Done}
-use Rattle.loads.specs.Load.{storeRefusals, stored, tableAfterStore, compared, tableAfterCompare, loaded, tableAfterLoad}
+use Rattle.loads.specs.Load.{stored, tableAfterStore, compared, tableAfterCompare, tableAfterLoad}
 use Rattle.loads.proofs.Judging.{as-stored, goes-on}
 use Rattle.loads.proofs.Refused.{table-compared, table-stored, table-loaded}
 use Rattle.loads.proofs.Place.{Place, done-place, compare-done, fits, store-place, stored-passed}
@@ -62,36 +60,43 @@ module _ (table : List ℕ) (position : ℕ) where
     pub store-and-compare : tableAfterCompare (tableAfterStore table position codes) position ≡ tableAfterLoad table position codes
     store-and-compare = table-compared (tableAfterStore table position codes) position compare-after-store ∙ halves
 
-  -- where a load is refused so is its store, and by the same refusal
-  pub load-refused : (codes : List ℤ) (r : Refusal) → loaded table position codes ≡ Unloaded r → stored table position codes ≡ Unloaded r
-  load-refused codes r e = sym (as-stored table position codes) ∙ e
+  -- ---- two stores, the first done or refused: the second is judged as if it were the only one, and counts
 
-  -- ---- two stores: the first may be any, refused too
+  pub second-judged : (first second : List ℤ) → stored (tableAfterStore table position first) position second ≡ stored table position second
+  second-judged first second = by (stored table position first) refl
+    where
+      by : (l : Loaded) → stored table position first ≡ l → stored (tableAfterStore table position first) position second ≡ stored table position second
+      by (Unloaded r) e = ap (λ (t : List ℕ). stored t position second) (table-stored table position first e)
+      by Done e =
+          goes-on second (tableAfterStore table position first) position (compare-after-store first e)
+          ∙ sym (goes-on second table position (compare-done table position (its-place first e)))
 
   pub second-counts : (first second : List ℤ) → stored table position second ≡ Done
       → tableAfterStore (tableAfterStore table position first) position second ≡ tableAfterStore table position second
   second-counts first second done = by (stored table position first) refl
     where
-      place : Place table position
-      place = its-place second done
-
-      again : stored (tableAfterStore table position first) position second ≡ Done
-      again =
-          let kept = kept-place position (store-keeps table position (place .its-sound) first) place in
-          goes-on second (tableAfterStore table position first) position (compare-done (tableAfterStore table position first) position kept)
-          ∙ sym (goes-on second table position (compare-done table position place))
-          ∙ done
-
       by : (l : Loaded) → stored table position first ≡ l
           → tableAfterStore (tableAfterStore table position first) position second ≡ tableAfterStore table position second
       by (Unloaded r) e = ap (λ (t : List ℕ). tableAfterStore t position second) (table-stored table position first e)
       by Done e =
-          table-stored (tableAfterStore table position first) position second again
+          table-stored (tableAfterStore table position first) position second (second-judged first second ∙ done)
           ∙ ap (changedAt (position - 1) (store second)) (table-stored table position first e)
-          ∙ two-changes (position - 1) table (fits table position place) (store first) (store second) (store second) (length-store first) (store-store first second)
+          ∙ two-changes (position - 1) table (fits table position (its-place first e)) (store first) (store second) (store second) (length-store first) (store-store first second)
           ∙ sym (table-stored table position second done)
 
   -- ---- two compares, done or refused
+
+  compare-stays-done : compared table position ≡ Done → compared (tableAfterCompare table position) position ≡ Done
+  compare-stays-done e =
+      let place = done-place table position e in
+      compare-done (tableAfterCompare table position) position (kept-place position (compare-keeps table position (place .its-sound)) place)
+
+  pub second-compared : compared (tableAfterCompare table position) position ≡ compared table position
+  second-compared = by (compared table position) refl
+    where
+      by : (l : Loaded) → compared table position ≡ l → compared (tableAfterCompare table position) position ≡ compared table position
+      by (Unloaded r) e = ap (λ (t : List ℕ). compared t position) (table-compared table position e)
+      by Done e = compare-stays-done e ∙ sym e
 
   pub compare-again : tableAfterCompare (tableAfterCompare table position) position ≡ tableAfterCompare table position
   compare-again = by (compared table position) refl
@@ -99,9 +104,7 @@ module _ (table : List ℕ) (position : ℕ) where
       by : (l : Loaded) → compared table position ≡ l → tableAfterCompare (tableAfterCompare table position) position ≡ tableAfterCompare table position
       by (Unloaded r) e = ap (λ (t : List ℕ). tableAfterCompare t position) (table-compared table position e)
       by Done e =
-          let place = done-place table position e in
-          table-compared (tableAfterCompare table position) position
-          (compare-done (tableAfterCompare table position) position (kept-place position (compare-keeps table position (place .its-sound)) place))
+          table-compared (tableAfterCompare table position) position (compare-stays-done e)
           ∙ ap (changedAt (position - 1) compare) (table-compared table position e)
-          ∙ two-changes (position - 1) table (fits table position place) compare compare compare length-compare compare-compare
+          ∙ two-changes (position - 1) table (fits table position (done-place table position e)) compare compare compare length-compare compare-compare
           ∙ sym (table-compared table position e)

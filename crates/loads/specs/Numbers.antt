@@ -1,4 +1,4 @@
--- Document 01, "Numbers that come back": the paper's number for each outcome of a load. A load that is done has no number: 0.
+-- Document 01, "Numbers that come back": the paper's number for each outcome of a store, a compare or a load. One that is done has no number: 0.
 -- Assumes nothing.
 use Prim.Native.Nat.{ℕ}
 use Rattle.refusals.specs.Numbers.{numberOf}

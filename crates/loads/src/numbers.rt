@@ -1,4 +1,4 @@
-// The paper's number for what comes of a load.
+// The paper's number for what comes of a store, a compare or a load.
 ghost use mathlib.Core.Path.{_≡_};
 ghost use Rattle.loads.specs.Numbers.{loadNumber};
 use crate::loads::Loaded;

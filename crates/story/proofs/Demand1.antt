@@ -120,7 +120,7 @@ pub record Promises : Type 2 where
   reply-all : Promised replying.reply_all.Statement.statement replying.reply_all.Reads.Asked
   judge-head : Promised judging.judge_head.Statement.statement judging.judge_head.Reads.Asked
   handle : Promised chain.handle.Statement.statement chain.handle.Reads.Asked
-  -- the load
+  -- store, compare and load
   codes-of : Promised thresholds.codes_of.Statement.statement thresholds.codes_of.Reads.Asked
   over-threshold : Promised thresholds.over_threshold.Statement.statement thresholds.over_threshold.Reads.Asked
   under-threshold : Promised thresholds.under_threshold.Statement.statement thresholds.under_threshold.Reads.Asked

@@ -8,8 +8,10 @@ use mathlib.Core.List.{List, [], _∷_, _++_, map, reverse}
 use Prim.Native.Nat.{ℕ, suc, _-_, _*_, _≤_, _<_}
 use lib.Bits.{bitOr}
 use lib.Dec.{eqb, ltb, leb}
-use lib.IntN.{ℤ}
+use lib.IntN.{ℤ, pos, negsuc}
 use lib.ListN.{length, take, drop, getD}
+use mir.Syntax.{w16}
+use mir.Val.{SFits}
 use Rattle.laws.specs.Counts.{all, count}
 use Rattle.laws.specs.Rows.{rows, rowAt}
 use Rattle.pec.specs.Words.{seal, commandRight, payloadRight}
@@ -19,6 +21,7 @@ use Rattle.refusals.specs.declared.Refusal.the-variants.{TableNotSound, FrameSh
 use Rattle.refusals.specs.Order.{_gives_}
 use Rattle.refusals.proofs.Deciding.{Passed}
 use Rattle.records.specs.declared.commands.Bare.{Bare}
+use Rattle.records.specs.declared.commands.Bare.the-variants.{Clrcell}
 use Rattle.records.specs.declared.commands.Command.the-variants.{Reads, Writes, Bares}
 use Rattle.records.specs.declared.commands.Write.{Write}
 use Rattle.records.specs.declared.commands.Write.the-variants.{Wrcfgb}
@@ -36,13 +39,16 @@ use Rattle.serving.specs.Served.{payloadsIn}
 use Rattle.chain.specs.Frame.{frameRefusals, answer, tableAfter, replyAfter}
 use Rattle.judging.proofs.Keeps.{Keeps}
 use Rattle.chain.proofs.FrameKeeps.{frame-keeps}
-use Rattle.cells.specs.Cells.{store, codeAt, isCleared, flagsOf, compare, flagsIn, load}
+use Rattle.thresholds.specs.Thresholds.{vuv, vov, codesOf}
+use Rattle.cells.specs.Cells.{store, codeAt, isCleared, flagsFor, flagsOf, compare, flagsIn, load}
 use Rattle.cells.proofs.OwnFlags.{own-flags, cleared-skipped}
-use Rattle.loads.specs.declared.loads.Loaded.the-variants.{Unloaded, Done}
+use Rattle.cells.proofs.OwnCodes.{own-code, load-flags}
+use Rattle.loads.specs.declared.loads.Loaded.the-variants.{Done}
 use Rattle.loads.specs.Load.{storeRefusals, stored, tableAfterStore, compareRefusals, compared, tableAfterCompare, loadRefusals, loaded, tableAfterLoad}
 use Rattle.loads.proofs.Keeps.{store-keeps, compare-keeps, load-keeps}
 use Rattle.loads.proofs.Bytes.{store-as-long, store-only-cells, compare-as-long, compare-only-flags, compare-only-sets}
-use Rattle.loads.proofs.Halves.{compare-after-store, store-and-compare, load-refused, second-counts, compare-again}
+use Rattle.loads.proofs.Judging.{as-stored}
+use Rattle.loads.proofs.Halves.{compare-after-store, store-and-compare, second-judged, second-counts, second-compared, compare-again}
 use Rattle.host.specs.declared.frames.Built.the-variants.{Length}
 use Rattle.host.specs.Frames.{dataSize, sealed, frameFor, buildRefusals, built, bufferAfter}
 use Rattle.ports.specs.Ports.{partA}
@@ -52,6 +58,7 @@ use Rattle.story.proofs.Accepted.{frame-refused, write-answer, read-ans
 use Rattle.story.proofs.OurHost.{own-six, write-taken-by-all, bare-taken-by-all, each-keeps-its-own, reply-right, read-taken-by-all, each-reply-its-own, each-reply-right}
 use Rattle.story.proofs.ReadBack.{written-and-read-back}
 use Rattle.story.proofs.BothEnds.{the-replies, handed-from-a, handed-from-b}
+use Rattle.story.proofs.Cleared.{clrcell-clears}
 use Rattle.story.proofs.EitherSide.{EitherSide, either-side}
 
 pub record Demand2 : Type 0 where
@@ -131,31 +138,43 @@ pub record Demand2 : Type 0 where
   store-stays-sound : (table : List ℕ) (position : ℕ) (codes : List ℤ) → sound table ≡ true → Keeps table (tableAfterStore table position codes)
   compare-stays-sound : (table : List ℕ) (position : ℕ) → sound table ≡ true → Keeps table (tableAfterCompare table position)
   load-stays-sound : (table : List ℕ) (position : ℕ) (codes : List ℤ) → sound table ≡ true → Keeps table (tableAfterLoad table position codes)
-  -- a store changes only the cells of that monitor, done or refused: the table stays as long, and every byte beside them stays
+  -- a store changes only the cells of the monitor at the position, done or refused: the table stays as long, and every byte beside them stays
   store-as-long : (table : List ℕ) (position : ℕ) (codes : List ℤ) → length (tableAfterStore table position codes) ≡ length table
-  store-only-cells : (table : List ℕ) (position : ℕ) (codes : List ℤ) (i : ℕ) → Beside cells (position - 1) i
+  store-only-cells : (table : List ℕ) (position : ℕ) (codes : List ℤ) (i : ℕ) → (1 ≤ position → Beside cells (position - 1) i)
       → getD (tableAfterStore table position codes) i 0 ≡ getD table i 0
-  -- a compare changes only the flags of that monitor, bytes 0 to 3 of status D, and only sets them: a bit that was set is set
+  -- cell c of that record then holds the code given for it, where that is one of 16 bits
+  own-code : (codes : List ℤ) (r : List ℕ) → length r ≡ recordSize → (c : ℕ) → c < cellCount → SFits w16 (getD codes c (pos 0))
+      → codeAt (store codes r) c ≡ record { 0 = getD codes c (pos 0) }
+  -- a compare changes only the flags of the monitor at the position, bytes 0 to 3 of status D, and only sets them: a bit that was set is set
   compare-as-long : (table : List ℕ) (position : ℕ) → length (tableAfterCompare table position) ≡ length table
-  compare-only-flags : (table : List ℕ) (position i : ℕ) → Beside flags (position - 1) i → getD (tableAfterCompare table position) i 0 ≡ getD table i 0
+  compare-only-flags : (table : List ℕ) (position i : ℕ) → (1 ≤ position → Beside flags (position - 1) i)
+      → getD (tableAfterCompare table position) i 0 ≡ getD table i 0
   compare-only-sets : (table : List ℕ) (position i : ℕ)
       → bitOr (getD table i 0) (getD (tableAfterCompare table position) i 0) ≡ getD (tableAfterCompare table position) i 0
   -- a cell's two flags become what they were with those of its own code raised; those of a cell at -32768 stay
   own-flags : (r : List ℕ) → length r ≡ recordSize → (c : ℕ) → c < cellCount → flagsIn (compare r) c ≡ bitOr (flagsIn r c) (flagsOf r c)
   cleared-skipped : (r : List ℕ) → length r ≡ recordSize → (c : ℕ) → c < cellCount → isCleared (codeAt r c .0) ≡ true
       → flagsIn (compare r) c ≡ flagsIn r c
-  -- compare twice is compare once; of two stores the second counts
+  -- which CLRCELL leaves in every cell
+  clrcell-clears : (r : List ℕ) → length r ≡ recordSize → (c : ℕ) → c < cellCount → codeAt (done Clrcell r) c ≡ record { 0 = negsuc 32767 }
+  -- compare twice is compare once; of two stores the second counts; the second is answered as it would have been without the first
   compare-again : (table : List ℕ) (position : ℕ) → tableAfterCompare (tableAfterCompare table position) position ≡ tableAfterCompare table position
+  second-compared : (table : List ℕ) (position : ℕ) → compared (tableAfterCompare table position) position ≡ compared table position
+  second-judged : (table : List ℕ) (position : ℕ) (first second : List ℤ)
+      → stored (tableAfterStore table position first) position second ≡ stored table position second
   second-counts : (table : List ℕ) (position : ℕ) (first second : List ℤ) → stored table position second ≡ Done
       → tableAfterStore (tableAfterStore table position first) position second ≡ tableAfterStore table position second
-  -- a load is a store and a compare: where the store is done so is the compare after it, and both leave the load's table; where the load
-  -- is refused so is the store, by the same refusal
+  -- a load is a store and a compare: it is answered as its store is, refused by the same number or done; where the store is done so is the
+  -- compare after it, and both leave the load's table
+  load-as-store : (table : List ℕ) (position : ℕ) (codes : List ℤ) → loaded table position codes ≡ stored table position codes
   compare-after-store : (table : List ℕ) (position : ℕ) (codes : List ℤ) → stored table position codes ≡ Done
       → compared (tableAfterStore table position codes) position ≡ Done
   store-and-compare : (table : List ℕ) (position : ℕ) (codes : List ℤ) → stored table position codes ≡ Done
       → tableAfterCompare (tableAfterStore table position codes) position ≡ tableAfterLoad table position codes
-  load-refused : (table : List ℕ) (position : ℕ) (codes : List ℤ) (r : Refusal) → loaded table position codes ≡ Unloaded r
-      → stored table position codes ≡ Unloaded r
+  -- and document 01's load, which skips nothing: a cell's flags become what they were with those of the code given for it raised
+  load-flags : (codes : List ℤ) (r : List ℕ) → length r ≡ recordSize → (c : ℕ) → c < cellCount → SFits w16 (getD codes c (pos 0))
+      → isCleared (getD codes c (pos 0)) ≡ false
+      → flagsIn (load codes r) c ≡ bitOr (flagsIn r c) (flagsFor (record { 0 = getD codes c (pos 0) }) (codesOf (vuv r)) (codesOf (vov r)))
   -- ---- our host: `host::build`, and the chain that its frames come to
 
   -- the frame goes to the start of the buffer, and the bytes past it stay
@@ -243,16 +262,21 @@ demand-2 =
       load-stays-sound = λ table position codes s. load-keeps table position s codes;
       store-as-long = store-as-long;
       store-only-cells = store-only-cells;
+      own-code = own-code;
       compare-as-long = compare-as-long;
       compare-only-flags = compare-only-flags;
       compare-only-sets = compare-only-sets;
       own-flags = own-flags;
       cleared-skipped = cleared-skipped;
+      clrcell-clears = clrcell-clears;
       compare-again = compare-again;
+      second-compared = second-compared;
+      second-judged = second-judged;
       second-counts = second-counts;
+      load-as-store = as-stored;
       compare-after-store = compare-after-store;
       store-and-compare = store-and-compare;
-      load-refused = load-refused;
+      load-flags = load-flags;
       host-writes = host-writes;
       own-six = own-six;
       all-take = write-taken-by-all;

@@ -34,7 +34,7 @@ use Rattle.loads.specs.Load.{stored, tableAfterStore, tableAfterCompare, loaded
 use Rattle.loads.proofs.Judging.{stop-1 as cells-stop-1, refused-before, as-stored}
 use Rattle.loads.proofs.Refused.{table-stored, refused-store, table-compared, refused-load}
 use Rattle.loads.proofs.Keeps.{store-keeps, compare-keeps}
-use Rattle.loads.proofs.Halves.{compare-after-store, store-and-compare, load-refused}
+use Rattle.loads.proofs.Halves.{compare-after-store, store-and-compare}
 use Rattle.clocking.specs.Clock.{Clock, chainedBy, clocked}
 use Rattle.releasing.specs.Release.{released}
 use Rattle.clock_state.specs.State.{stateSize, idle}
@@ -154,7 +154,7 @@ module _ (table : List ℕ) (position : ℕ) (codes : List ℤ) (events : List E
       → byRules table (Store position codes ∷ events) ≡ saw (StoreAnswered (Unloaded r)) (byRules (tableAfterLoad table position codes) events)
   unfolding byRules
   refused-by-rules r e =
-      let refused = load-refused table position codes r e in
+      let refused = sym (as-stored table position codes) ∙ e in
       sym (along-rules events (store-step table position codes) refl)
       ∙ ap₂ (λ (a : Loaded) (t : List ℕ). saw (StoreAnswered a) (byRules t events)) refused
       (refused-store table position codes r refused ∙ sym (refused-load table position codes r e))

@@ -13,3 +13,4 @@ pub mod ByteFour
 pub mod Demand3
 pub mod SurfaceNumbers
 pub mod Surface
+pub mod Cleared

@@ -155,7 +155,7 @@ pub record OneOutcome : Type 0 where
       (λ κ a. leaves (cond (repliesInto (a .1 .0) (now (a .0)) (length (now (a .1 .1 .0)))) (replyLength (a .1 .0) (monitors (now (a .0)))) 0) (cond (repliesInto (a .1 .0) (now (a .0)) (length (now (a .1 .1 .0)))) (replied (a .1 .0) (monitors (now (a .0))) (now (a .0)) (now (a .1 .1 .0))) (now (a .1 .1 .0)) ∷ []))
   handle : Settles chain.handle.Reads.Post (λ κ z e. leaves z (now (e .0) ∷ now (e .1 .1 .0) ∷ []))
       (λ κ a. leaves (answer (now (a .0)) (now (a .1 .0)) (length (now (a .1 .1 .0)))) (tableAfter (now (a .0)) (now (a .1 .0)) (length (now (a .1 .1 .0))) ∷ replyAfter (now (a .0)) (now (a .1 .0)) (now (a .1 .1 .0)) ∷ []))
-  -- the load
+  -- store, compare and load
   codes-of : Settles thresholds.codes_of.Reads.Post (λ κ z e. leaves z []) (λ κ a. leaves (codesOf (a .0)) [])
   over-threshold : Settles thresholds.over_threshold.Reads.Post (λ κ z e. leaves z []) (λ κ a. leaves (vov (now (a .0))) [])
   under-threshold : Settles thresholds.under_threshold.Reads.Post (λ κ z e. leaves z []) (λ κ a. leaves (vuv (now (a .0))) [])

@@ -1,5 +1,5 @@
 -- A refusal changes nothing: where the answer is a refusal, every lent buffer is as it was. The answer and the buffer go by the same
--- refusals, and an accepted answer is no refusal. What of a whole frame and a load is in `chain`.
+-- refusals, and an accepted answer is no refusal. That of a whole frame is in `chain`, that of a store, a compare and a load in `loads`.
 -- Assumes nothing.
 use mathlib.Core.Path.{_≡_, ap, _∙_}
 use mathlib.Core.List.{List, []}
