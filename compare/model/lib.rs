@@ -1,4 +1,4 @@
-//! Document 01 (paper/01-scope.md), with request L1 of document 02, written once more from the papers alone: one file for each section.
+//! Document 01, with request L1 of document 02, written once more from the papers alone: one file for each section.
 //!
 //! It shares nothing with the proved code, so that a difference between the two shows a mistake in one of them. Each public function
 //! stands beside a function of include/oskorbine.h and packs its answer the same way. Nothing here allocates.
