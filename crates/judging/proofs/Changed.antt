@@ -74,10 +74,13 @@ module _ (k : ℕ) (f : List ℕ → List ℕ) (as-long : (r : List ℕ) → len
       ∙ ap (drop recordSize) dropped
       ∙ drop-at (f (rowAt recordSize k table)) (drop (k * recordSize + recordSize) table) recordSize new-length
 
-  pub changed-twice : (g : List ℕ → List ℕ) → changedAt k g (changedAt k f table) ≡ changedAt k (λ r. g (f r)) table
-  changed-twice g =
+  -- changed again: what both make of the record is what a third makes
+  pub changed-twice : (g h : List ℕ → List ℕ) → ((r : List ℕ) → length r ≡ recordSize → g (f r) ≡ h r)
+      → changedAt k g (changedAt k f table) ≡ changedAt k h table
+  changed-twice g h same =
       ap₂ (λ (front rest : List ℕ). front ++ g (rowAt recordSize k (changedAt k f table)) ++ rest) front-stays rest-stays
-      ∙ ap (λ (r : List ℕ). take (k * recordSize) table ++ g r ++ drop (k * recordSize + recordSize) table) changed-record
+      ∙ ap (λ (r : List ℕ). take (k * recordSize) table ++ r ++ drop (k * recordSize + recordSize) table)
+      (ap g changed-record ∙ same (rowAt recordSize k table) (lent-length k table fits))
 
   -- ---- byte by byte
 

@@ -3,14 +3,10 @@
 -- record, which are one.
 -- Assumes nothing.
 use mathlib.Core.Path.{_≡_, refl, sym, ap, _∙_, subst⁻¹}
-use mathlib.Core.List.{List, _++_}
-use Prim.Native.Nat.{ℕ, _+_, _-_, _*_, _≤_}
+use mathlib.Core.List.{List}
+use Prim.Native.Nat.{ℕ, _-_, _≤_}
 use lib.IntN.{ℤ}
-use lib.ListN.{length, take, drop}
-use Rattle.laws.specs.Rows.{rowAt}
-use Rattle.records.specs.Record.{recordSize}
 use Rattle.judging.specs.Table.{changedAt}
-use Rattle.judging.proofs.Lent.{lent-length}
 use Rattle.judging.proofs.Keeps.{Keeps}
 use Rattle.judging.proofs.Changed.{changed-twice}
 use Rattle.cells.specs.Cells.{store, compare, load}
@@ -29,14 +25,6 @@ kept-place : {table after : List ℕ} (position : ℕ) → Keeps table after →
 kept-place position keeps p =
     record { its-sound = keeps .sound-after; first = p .first; last = subst⁻¹ (λ (n : ℕ). position ≤ n) (keeps .monitors-after) (p .last) }
 
--- two changes of one record, the second of which makes what a third makes of it
-module _ (k : ℕ) (table : List ℕ) (whole : k * recordSize + recordSize ≤ length table) where
-  two-changes : (f g h : List ℕ → List ℕ) → ((r : List ℕ) → length (f r) ≡ length r) → ((r : List ℕ) → length r ≡ recordSize → g (f r) ≡ h r)
-      → changedAt k g (changedAt k f table) ≡ changedAt k h table
-  two-changes f g h as-long same =
-      changed-twice k f as-long table whole g
-      ∙ ap (λ (r : List ℕ). take (k * recordSize) table ++ r ++ drop (k * recordSize + recordSize) table) (same (rowAt recordSize k table) (lent-length k table whole))
-
 module _ (table : List ℕ) (position : ℕ) where
   -- ---- a store and a compare
 
@@ -44,21 +32,17 @@ module _ (table : List ℕ) (position : ℕ) where
     its-place : Place table position
     its-place = store-place table position codes (stored-passed table position codes done)
 
-    pub place-after : Place (tableAfterStore table position codes) position
-    place-after = kept-place position (store-keeps table position (its-place .its-sound) codes) its-place
-
     pub compare-after-store : compared (tableAfterStore table position codes) position ≡ Done
-    compare-after-store = compare-done (tableAfterStore table position codes) position place-after
-
-    pub halves : changedAt (position - 1) compare (tableAfterStore table position codes) ≡ tableAfterLoad table position codes
-    unfolding load
-    halves =
-        ap (changedAt (position - 1) compare) (table-stored table position codes done)
-        ∙ two-changes (position - 1) table (fits table position its-place) (store codes) compare (load codes) (length-store codes) (λ r l. refl)
-        ∙ sym (table-loaded table position codes (as-stored table position codes ∙ done))
+    compare-after-store =
+        compare-done (tableAfterStore table position codes) position (kept-place position (store-keeps table position (its-place .its-sound) codes) its-place)
 
     pub store-and-compare : tableAfterCompare (tableAfterStore table position codes) position ≡ tableAfterLoad table position codes
-    store-and-compare = table-compared (tableAfterStore table position codes) position compare-after-store ∙ halves
+    unfolding load
+    store-and-compare =
+        table-compared (tableAfterStore table position codes) position compare-after-store
+        ∙ ap (changedAt (position - 1) compare) (table-stored table position codes done)
+        ∙ changed-twice (position - 1) (store codes) (length-store codes) table (fits table position its-place) compare (load codes) (λ r l. refl)
+        ∙ sym (table-loaded table position codes (as-stored table position codes ∙ done))
 
   -- ---- two stores, the first done or refused: the second is judged as if it were the only one, and counts
 
@@ -81,7 +65,7 @@ module _ (table : List ℕ) (position : ℕ) where
       by Done e =
           table-stored (tableAfterStore table position first) position second (second-judged first second ∙ done)
           ∙ ap (changedAt (position - 1) (store second)) (table-stored table position first e)
-          ∙ two-changes (position - 1) table (fits table position (its-place first e)) (store first) (store second) (store second) (length-store first) (store-store first second)
+          ∙ changed-twice (position - 1) (store first) (length-store first) table (fits table position (its-place first e)) (store second) (store second) (store-store first second)
           ∙ sym (table-stored table position second done)
 
   -- ---- two compares, done or refused
@@ -106,5 +90,5 @@ module _ (table : List ℕ) (position : ℕ) where
       by Done e =
           table-compared (tableAfterCompare table position) position (compare-stays-done e)
           ∙ ap (changedAt (position - 1) compare) (table-compared table position e)
-          ∙ two-changes (position - 1) table (fits table position (done-place table position e)) compare compare compare length-compare compare-compare
+          ∙ changed-twice (position - 1) compare length-compare table (fits table position (done-place table position e)) compare compare compare-compare
           ∙ sym (table-compared table position e)

@@ -5,7 +5,7 @@ ghost use lib.ListN.{length};
 ghost use Rattle.records.specs.Record.{recordSize, cellCount};
 ghost use Rattle.records.specs.Commands.{mostMonitors};
 ghost use Rattle.judging.specs.Table.{changedAt};
-ghost use Rattle.cells.specs.Cells.{store, compare};
+ghost use Rattle.cells.specs.Cells.{store, compare, load};
 ghost use Rattle.loads.specs.Load.{
   stored,
   tableAfterStore,
@@ -45,6 +45,15 @@ fn compare_at(table: &mut [u8], k: usize)
     cells::compare(&mut table[start..end]);
 }
 
+// Loads the codes into the monitor at k: stores them and then compares.
+fn load_at(table: &mut [u8], k: usize, codes: &[i16])
+    requires { ⌜ (k < mostMonitors) × (k * recordSize + recordSize ≤ length (now table)) × (length (now codes) ≡ cellCount) ⌝ }
+    ensures { λ _. ⌜ now (table .exit) ≡ changedAt k (load (now (codes .entry))) (now (table .entry)) ⌝ }
+{
+    store_at(table, k, codes);
+    compare_at(table, k);
+}
+
 // Stores sixteen codes in the monitor at a position, counted from 1. A refusal changes nothing.
 pub fn store(table: &mut [u8], position: usize, codes: &[i16]) -> Loaded
     ensures { λ r. ⌜ r ≡ stored (now (table .entry)) position (now (codes .entry)) ⌝ }
@@ -73,16 +82,15 @@ pub fn compare(table: &mut [u8], position: usize) -> Loaded
     }
 }
 
-// Loads sixteen codes into the monitor at a position: stores them and then compares. A refusal changes nothing.
+// Loads sixteen codes into the monitor at a position. A refusal changes nothing.
 pub fn load(table: &mut [u8], position: usize, codes: &[i16]) -> Loaded
     ensures { λ r. ⌜ r ≡ loaded (now (table .entry)) position (now (codes .entry)) ⌝ }
     ensures { λ _. ⌜ now (table .exit) ≡ tableAfterLoad (now (table .entry)) position (now (codes .entry)) ⌝ }
 {
-    match store(table, position, codes) {
+    match judge_store(table, position, codes) {
         Loaded::Unloaded(refusal) => Loaded::Unloaded(refusal),
         Loaded::Done => {
-            // What was stored is judged already.
-            compare_at(table, position - 1);
+            load_at(table, position - 1, codes);
             Loaded::Done
         }
     }

@@ -8,19 +8,6 @@ use Rattle.loads.proofs.Place.{few, fits, sixteen, store-place, stored-
 use Rattle.loads.proofs.loads.store.Statement.{statement}
 use Rattle.loads.proofs.loads.store.Tie as tie
 
-sub-store-at : tie.Need-sub-store-at
-sub-store-at c =
-    let a = c .before .before .before .before .before .before .args in
-    let none = stored-passed (a .table .now) (a .position) (a .codes .now) (sym (c .before .before .before .judge-store .ensures) ∙ c .before .enum-told .given .1) in
-    omega (arith, store-place (a .table .now) (a .position) (a .codes .now) none .first)
-
-store-at-requires : tie.Need-store-at-requires
-store-at-requires c κs =
-    let a = c .before .before .before .before .before .before .args in
-    let none = stored-passed (a .table .now) (a .position) (a .codes .now) (sym (c .before .before .before .judge-store .ensures) ∙ c .before .enum-told .given .1) in
-    let p = store-place (a .table .now) (a .position) (a .codes .now) none in
-    (few (a .table .now) (a .position) p, fits (a .table .now) (a .position) p, sixteen (a .table .now) (a .position) (a .codes .now) none)
-
 returns : tie.Need-returns
 returns c =
     let a = c .before .before .before .before .before .before .args in
@@ -31,7 +18,7 @@ returns-2 : tie.Need-returns-2
 returns-2 c =
     let a = c .before .before .before .before .before .before .before .before .before .args in
     let e = sym (c .before .before .before .before .before .before .judge-store .ensures) ∙ c .before .before .before .before .enum-told .given .1 in
-    (sym e, c .before .before .store-at .ensures ∙ sym (table-stored (a .table .now) (a .position) (a .codes .now) e))
+    (sym e, search needs ∙ sym (table-stored (a .table .now) (a .position) (a .codes .now) e))
 
 pub store-spec : {M : Type 1} → statement M
 store-spec =
@@ -40,8 +27,15 @@ store-spec =
     (λ c κs. search needs)
     (λ c. search needs)
     (λ c. search needs)
-    sub-store-at
-    store-at-requires
+    (λ c.
+    let a = c .before .before .before .before .before .before .args in
+    let none = stored-passed (a .table .now) (a .position) (a .codes .now) (sym (c .before .before .before .judge-store .ensures) ∙ c .before .enum-told .given .1) in
+    omega (arith, store-place (a .table .now) (a .position) (a .codes .now) none .first))
+    (λ c κs.
+    let a = c .before .before .before .before .before .before .args in
+    let none = stored-passed (a .table .now) (a .position) (a .codes .now) (sym (c .before .before .before .judge-store .ensures) ∙ c .before .enum-told .given .1) in
+    let p = store-place (a .table .now) (a .position) (a .codes .now) none in
+    (few (a .table .now) (a .position) p, fits (a .table .now) (a .position) p, sixteen (a .table .now) (a .position) (a .codes .now) none))
     (λ c. search needs)
     returns
     (λ c. search needs)

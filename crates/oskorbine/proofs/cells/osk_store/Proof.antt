@@ -1,8 +1,14 @@
 -- `oskorbine::cells::osk_store` meets its contract: the store's answer is packed.
 -- Assumes nothing.
+use mathlib.Core.Path.{ap, _∙_}
 use borrow.Author.Needs.{needs}
+use Rattle.loads.specs.declared.loads.Loaded.{Loaded}
+use Rattle.oskorbine.specs.Packed.{packed, loadParts}
 use Rattle.oskorbine.proofs.cells.osk_store.Statement.{statement}
 use Rattle.oskorbine.proofs.cells.osk_store.Tie as tie
 
+returns : tie.Need-returns
+returns c = (c .load-answer .ensures ∙ ap (λ (l : Loaded). packed (loadParts l)) (c .before .before .before .store .ensures .0), search needs)
+
 pub osk-store-spec : {M : Type 1} → statement M
-osk-store-spec = tie.close (tie.spec (λ c κs. search needs) (λ c κs. search needs) (λ c. search needs) (λ c. (cc, search needs)))
+osk-store-spec = tie.close (tie.spec (λ c κs. search needs) (λ c κs. search needs) (λ c. search needs) returns)
