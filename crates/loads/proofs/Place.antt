@@ -67,3 +67,11 @@ module _ (table : List ℕ) (position : ℕ) where
     pub stored-passed : stored table position codes ≡ Done → Passed (storeRefusals table position codes)
     unfolding stored
     stored-passed e = has-passed (storeRefusals table position codes) Unloaded Done Done done-apart e
+
+    -- what is needed to store in the record
+    pub stored-first : stored table position codes ≡ Done → 1 ≤ position
+    stored-first e = store-place (stored-passed e) .first
+
+    pub stored-ready : stored table position codes ≡ Done
+        → (position - 1 < mostMonitors) × ((position - 1) * recordSize + recordSize ≤ length table) × (length codes ≡ cellCount)
+    stored-ready e = let p = store-place (stored-passed e) in (few p, fits p, sixteen (stored-passed e))

@@ -4,7 +4,7 @@ use mathlib.Core.Path.{sym, _∙_}
 use native.Mathlib.Omega.{arith}
 use borrow.Author.Needs.{needs}
 use Rattle.loads.proofs.Refused.{table-stored}
-use Rattle.loads.proofs.Place.{few, fits, sixteen, store-place, stored-passed}
+use Rattle.loads.proofs.Place.{stored-first, stored-ready}
 use Rattle.loads.proofs.loads.store.Statement.{statement}
 use Rattle.loads.proofs.loads.store.Tie as tie
 
@@ -27,15 +27,8 @@ store-spec =
     (λ c κs. search needs)
     (λ c. search needs)
     (λ c. search needs)
-    (λ c.
-    let a = c .before .before .before .before .before .before .args in
-    let none = stored-passed (a .table .now) (a .position) (a .codes .now) (sym (c .before .before .before .judge-store .ensures) ∙ c .before .enum-told .given .1) in
-    omega (arith, store-place (a .table .now) (a .position) (a .codes .now) none .first))
-    (λ c κs.
-    let a = c .before .before .before .before .before .before .args in
-    let none = stored-passed (a .table .now) (a .position) (a .codes .now) (sym (c .before .before .before .judge-store .ensures) ∙ c .before .enum-told .given .1) in
-    let p = store-place (a .table .now) (a .position) (a .codes .now) none in
-    (few (a .table .now) (a .position) p, fits (a .table .now) (a .position) p, sixteen (a .table .now) (a .position) (a .codes .now) none))
+    (λ c. omega (arith, stored-first _ _ _ (sym (c .before .before .before .judge-store .ensures) ∙ c .before .enum-told .given .1)))
+    (λ c κs. stored-ready _ _ _ (sym (c .before .before .before .judge-store .ensures) ∙ c .before .enum-told .given .1))
     (λ c. search needs)
     returns
     (λ c. search needs)
