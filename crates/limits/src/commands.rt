@@ -17,7 +17,7 @@ use crate::words::CASES;
 // 3, 4. Of a read, the replies of the first and the second monitor. Of a write, what each is sent: six bytes, the counter bits, and which
 //    bit is wrong, 0 being none and 1 the last.
 // 5, 6. The bytes that are expected at that place of the first and the second record. Every other byte stays as it was.
-const ROWS: [u64; 516] = [
+const ROWS: [u64; 528] = [
     // MUTE on 0, 1, 32 and 33 monitors of 0
     0x0028_0000_0000_0000,
     00_00_004_008_1_00_0_00_00_0,
@@ -496,6 +496,13 @@ const ROWS: [u64; 516] = [
     0,
     0x0180_0000_0000_0000,
     0,
+    // after ULRR: a store is no command, so it counts nothing and locks nothing
+    0x4000_1610_0000_0000,
+    15_02_000_000_0_00_0_12_32_7,
+    0,
+    0,
+    0x2003_2003_2003_2003,
+    0,
     // compares that are refused
     0x8000_1000_5354_5556,
     06_02_000_000_1_00_0_00_00_4,
@@ -591,14 +598,21 @@ const ROWS: [u64; 516] = [
     0,
     0,
     0x4106_0000_0000_0000,
+    // after ULRR, cells 1 to 16 of monitor 1 being 2e2d to 4c4b, all above 16 times 0292: nor is a compare a command
+    0x8000_1000_fbfe_fffe,
+    03_02_000_000_0_00_0_00_00_7,
+    0,
+    0,
+    0,
+    0,
 ];
 
 fn number(k: usize) -> u64 {
-    ROWS[k % 516]
+    ROWS[k % 528]
 }
 
 pub(crate) fn command(i: usize) -> bool {
-    let k = i % 86 * 6;
+    let k = i % 88 * 6;
     let c = Case {
         given: number(k),
         sizes: number(k + 1),
@@ -607,5 +621,5 @@ pub(crate) fn command(i: usize) -> bool {
         at_first: number(k + 4),
         at_second: number(k + 5),
     };
-    tried(c, CASES + (i % 86) as u64)
+    tried(c, CASES + (i % 88) as u64)
 }

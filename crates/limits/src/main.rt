@@ -70,8 +70,8 @@ fn main() {
     let t = run(t, words::DAMAGE, COMMAND, 39, 43);
     let t = run(t, words::COUNTERS, COMMAND, 43, 45);
     let t = run(t, words::LOADS, COMMAND, 45, 61);
-    let t = run(t, words::STORES, COMMAND, 61, 72);
-    let t = run(t, words::COMPARES, COMMAND, 72, 86);
+    let t = run(t, words::STORES, COMMAND, 61, 73);
+    let t = run(t, words::COMPARES, COMMAND, 73, 88);
     let t = run(t, words::HOSTS, BUILD, 0, 16);
     let t = run(t, words::VOLTS, VOLTS, 0, 5);
     let t = run(t, 0, PACK, 0, 5);

@@ -61,6 +61,7 @@ pub(crate) fn start(which: u64, six: u64, given: u64) -> Bytes {
             load(thresholds(0x0040_0600_0000_0000), 0x0000_2310_0000_0000),
             given,
         ),
-        _ => load(stored(thresholds(six), given), given),
+        14 => load(stored(thresholds(six), given), given),
+        _ => after([0u8; 2310], 0x0038, BARE, 0),
     }
 }

@@ -1,7 +1,7 @@
 // All that is written, in words that are called by their number: a bar stands before each, and the first are 1.
-pub(crate) type Text = [u8; 3141];
+pub(crate) type Text = [u8; 3194];
 
-pub(crate) const SIZE: usize = 3141;
+pub(crate) const SIZE: usize = 3194;
 
 pub(crate) const REFUSED: u64 = 1;
 
@@ -240,6 +240,7 @@ pub(crate) const WORDS: Text = *b"\
     |a code -32768\
     |VUV 0, VOV 100, code 1601\
     |VUV 0, VOV 100, code -32767\
+    |after ULRR, sixteen codes 800\
     |unsound table\
     |unsound table, position 0\
     |position 0\
@@ -254,4 +255,5 @@ pub(crate) const WORDS: Text = *b"\
     |VUV 2047, VOV 0, after CLRCELL, one cell -32767\
     |the same cell, code 1600 after 1601\
     |VUV 0, VOV 100, code 1601, a second time\
+    |after ULRR, position 1\
     |";

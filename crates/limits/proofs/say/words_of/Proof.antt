@@ -8,7 +8,7 @@ abbrev Inv-loop : tie.InvT-loop
 Inv-loop k a b c d all left₀ first₀ second₀ third₀ i₀ left first second third i = Unit {0}
 
 abbrev μ-loop : tie.MeasureT-loop
-μ-loop k a b c d all left₀ first₀ second₀ third₀ i₀ left first second third i = 3141 - i
+μ-loop k a b c d all left₀ first₀ second₀ third₀ i₀ left first second third i = 3194 - i
 
 loop-holds : tie.Need-loop-holds Inv-loop μ-loop
 loop-holds c = search needs
