@@ -39,13 +39,17 @@ enum {
     OSK_CODE_NOT_LISTED = 4, /* code not listed */
     OSK_LENGTH_WRONG = 5,    /* length not the one for this command and N; a reply or payload of the wrong length */
     OSK_NO_ROOM = 6,         /* the buffer to be written is too small */
-    OSK_POSITION_WRONG = 7,  /* N not 1 to 32, or position not 1 to N */
+    OSK_POSITION_WRONG = 7,  /* N not 1 to 32, position not 1 to N, or phase not 0 to 14 */
     OSK_COUNT_WRONG = 8,     /* wrong number of codes or value bytes */
     OSK_CODE_CLEARED = 9,    /* a code to store or load is -32768 */
     OSK_NEITHER_RIGHT = 10   /* neither port's bytes are right */
 };
 
-/* ---- the chain: a table of N records of 70 bytes, nearest monitor first, laid out as document 01 has it. Zero bytes are a sound table */
+/* ---- the chain: a table of N records, nearest monitor first, each laid out as document 01 has it, with the groups PWM A and PWM B of six
+ * bytes each behind its byte 69. Zero bytes are a sound table */
+
+/* The bytes of one monitor's record. */
+#define OSK_RECORD_SIZE 82
 
 /* Handles a frame. The table becomes what the monitors keep of it; the reply to a read, nearest monitor first, goes to the start of
  * `reply`, and bytes past it stay.
@@ -70,6 +74,26 @@ osk_answer osk_compare(uint8_t *table, size_t table_length, size_t position);
  * Refusals: 1, 7, 8, 9.
  */
 osk_answer osk_load(uint8_t *table, size_t table_length, size_t position, const int16_t *codes, size_t codes_length);
+
+/* ---- discharge */
+
+/* What goes on at the monitor while its outputs are asked for, added up. Bits above these are not looked at. */
+enum {
+    OSK_EVENT_SHUTDOWN = 1,    /* thermal shutdown */
+    OSK_EVENT_MEASUREMENT = 2, /* a measurement that pauses discharge */
+    OSK_EVENT_WRCFGB = 4,      /* configuration B is being written */
+    OSK_EVENT_WRPWM = 8        /* a PWM group is being written */
+};
+
+/* Added to an output's row where the output is on. */
+#define OSK_OUTPUT_ON 0x80
+
+/* Which of the sixteen discharge outputs of the monitor at a position, 1 to N, are on in a phase of the PWM, 0 to 14, and which row of the
+ * sheet's Table 27 decided each: out[c - 1] is the row, 1 to 7, that decided the output of cell c, with OSK_OUTPUT_ON added where it is on;
+ * bytes past the sixteenth stay. The table is only read.
+ * First: how many are on. Refusals: 1, 7 (the position, or a phase above 14), 6 (`out` under sixteen).
+ */
+osk_answer osk_discharge(const uint8_t *table, size_t table_length, size_t position, uint8_t events, uint8_t phase, uint8_t *out, size_t out_length);
 
 /* ---- the host */
 

@@ -17,10 +17,6 @@ use Rattle.cells.specs.Cells.{codeAt, isCleared, flagsFor, flagsOf, flag
 
 -- ---- two flags as a number
 
-pub flag-at-most-one : (b : Bool) → boolByte b ≤ 1
-flag-at-most-one true = omega arith
-flag-at-most-one false = omega arith
-
 pub both-flags : (a b : Bool) → boolByte a + boolByte b * 2 ≡ cond a 1 0 + cond b 2 0
 both-flags true true = refl
 both-flags true false = refl

@@ -3,6 +3,7 @@
 -- Assumes nothing.
 use mathlib.Core.Path.{_≡_, ap, _∙_}
 use mathlib.Core.List.{List}
+use mathlib.Core.Logic.{inl}
 use Prim.Native.Nat.{ℕ, _+_, _≤_, _<_}
 use native.Mathlib.Omega.{arith}
 use lib.Bits.{bitOr}
@@ -48,7 +49,7 @@ module _ (codes : List ℤ) (r : List ℕ) where
 
   pub sound-store : recordSound (store codes r) ≡ recordSound r
   unfolding store onBytes
-  sound-store = sound-elsewhere _ (cells .at) (cells .size) r (omega arith)
+  sound-store = sound-elsewhere _ (cells .at) (cells .size) r (inl (omega arith)) (inl (omega arith))
 
 -- ---- compare
 
@@ -84,7 +85,7 @@ module _ (r : List ℕ) where
 
   pub sound-compare : recordSound (compare r) ≡ recordSound r
   unfolding compare onBytes
-  sound-compare = sound-elsewhere _ (flags .at) (flags .size) r (omega arith)
+  sound-compare = sound-elsewhere _ (flags .at) (flags .size) r (inl (omega arith)) (inl (omega arith))
 
 -- ---- load
 

@@ -5,3 +5,4 @@ pub mod Decided
 pub mod Judging
 pub mod Keeps
 pub mod Changed
+pub mod Place

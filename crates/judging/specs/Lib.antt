@@ -1,3 +1,4 @@
 pub mod Table
 pub mod Refusals
 pub mod Heads
+pub mod Places

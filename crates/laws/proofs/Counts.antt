@@ -1,13 +1,15 @@
--- Counting and testing along a list: one element more, and one element that fails.
+-- Counting and testing along a list: one element more, and one element that fails. A flag, as the code counts it.
 -- Assumes nothing.
 use mathlib.Core.Path.{_≡_, refl, sym, ap, ap₂, _∙_}
 use mathlib.Core.Bool.{Bool, true, false, cond, _&&_}
 use mathlib.Core.List.{List, [], _∷_, _++_}
-use Prim.Native.Nat.{ℕ, zero, suc, _+_, _<_}
+use Prim.Native.Nat.{ℕ, zero, suc, _+_, _≤_, _<_}
 use native.Mathlib.Nat.{add-zero, zero-add, add-assoc}
 use native.Mathlib.Numerals.{one-add}
 use native.Mathlib.Omega.{arith}
+use lib.Dec.{lit≤}
 use lib.ListN.{length, getD}
+use mir.Val.{boolByte}
 use Rattle.laws.specs.Counts.{all, count}
 
 pub and-true : (b : Bool) → b && true ≡ b
@@ -43,3 +45,13 @@ module _ {A : Type 0} (test : A → Bool) where
   unfolding count
   count-all h [] = refl
   count-all h (x ∷ xs) = ap₂ _+_ (ap (λ (b : Bool). cond b 1 0) (h x)) (count-all h xs) ∙ one-add (length xs)
+
+-- ---- a flag
+
+pub flag-counts : (b : Bool) → boolByte b ≡ cond b 1 0
+flag-counts true = refl
+flag-counts false = refl
+
+pub flag-at-most-one : (b : Bool) → boolByte b ≤ 1
+flag-at-most-one true = lit≤ tt
+flag-at-most-one false = lit≤ tt

@@ -10,4 +10,5 @@ pub mod Filling
 pub mod LentParts
 pub mod Counts
 pub mod Or
+pub mod BitAt
 pub mod Places

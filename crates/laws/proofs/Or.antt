@@ -13,7 +13,7 @@ max-below x y hx hy = omega arith
 max-again : (x y : ℕ) → max x (max x y) ≡ max x y
 max-again x y = omega arith
 
-last-or : (a b : ℕ) → bitOr a b % 2 ≡ max (a % 2) (b % 2)
+pub last-or : (a b : ℕ) → bitOr a b % 2 ≡ max (a % 2) (b % 2)
 last-or a b =
     ap (λ (n : ℕ). n % 2) (or-step a b)
     ∙ digits-mod (bitOr (a / 2) (b / 2)) (max-below (a % 2) (b % 2) (mod-lt a (omega arith)) (mod-lt b (omega arith)))

@@ -15,6 +15,10 @@ a ⊕ b = bitXor a b
 unfoldable pub odd : ℕ → Bool
 odd n = eqb (n % 2) 1
 
+-- the bit of a number at a place, the lowest at 0
+unfoldable pub bitAt : ℕ → ℕ → Bool
+bitAt k n = odd (n / 2 ^ k)
+
 -- the k low bits of a number, most significant first
 unfoldable pub bitsOf : ℕ → ℕ → List Bool
 bitsOf zero n = []

@@ -17,7 +17,8 @@ use Rattle.cells.specs.Cells.{store, compare}
 use Rattle.cells.proofs.Loaded.{length-store, store-below, store-above, length-compare, compare-below, compare-above}
 use Rattle.cells.proofs.OwnFlags.{only-sets}
 use Rattle.loads.specs.Load.{storeRefusals, tableAfterStore, compareRefusals, tableAfterCompare}
-use Rattle.loads.proofs.Place.{Place, place, fits, store-place}
+use Rattle.judging.proofs.Place.{Place, fits}
+use Rattle.loads.proofs.Place.{compare-place, store-place}
 
 module _ (table : List ℕ) (position : ℕ) where
   abbrev k : ℕ
@@ -47,7 +48,7 @@ module _ (table : List ℕ) (position : ℕ) where
   after-compare : (P : List ℕ → Type 0) → P table → (Place table position → P (changedAt k compare table)) → P (tableAfterCompare table position)
   unfolding tableAfterCompare
   after-compare P stays changed =
-      by-passing P (compareRefusals table position) (λ n. table) (changedAt k compare table) (λ r. stays) (λ none. changed (place table position none))
+      by-passing P (compareRefusals table position) (λ n. table) (changedAt k compare table) (λ r. stays) (λ none. changed (compare-place table position none))
 
   pub compare-as-long : length (tableAfterCompare table position) ≡ length table
   compare-as-long = after-compare (λ after. length after ≡ length table) refl (λ p. length-changed k compare length-compare table (fits table position p))

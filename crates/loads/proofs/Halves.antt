@@ -2,12 +2,11 @@
 -- stores the second counts; a compare after a compare changes nothing; and each is judged as if it were the only one. By two changes of one
 -- record, which are one.
 -- Assumes nothing.
-use mathlib.Core.Path.{_≡_, refl, sym, ap, _∙_, subst⁻¹}
+use mathlib.Core.Path.{_≡_, refl, sym, ap, _∙_}
 use mathlib.Core.List.{List}
-use Prim.Native.Nat.{ℕ, _-_, _≤_}
+use Prim.Native.Nat.{ℕ, _-_}
 use lib.IntN.{ℤ}
 use Rattle.judging.specs.Table.{changedAt}
-use Rattle.judging.proofs.Keeps.{Keeps}
 use Rattle.judging.proofs.Changed.{changed-twice}
 use Rattle.cells.specs.Cells.{store, compare, load}
 use Rattle.cells.proofs.Loaded.{length-store, length-compare}
@@ -17,13 +16,9 @@ use Rattle.loads.specs.declared.loads.Loaded.the-variants.{Unloaded, Don
 use Rattle.loads.specs.Load.{stored, tableAfterStore, compared, tableAfterCompare, tableAfterLoad}
 use Rattle.loads.proofs.Judging.{as-stored, goes-on}
 use Rattle.loads.proofs.Refused.{table-compared, table-stored, table-loaded}
-use Rattle.loads.proofs.Place.{Place, done-place, compare-done, fits, store-place, stored-passed}
+use Rattle.judging.proofs.Place.{Place, fits, kept-place}
+use Rattle.loads.proofs.Place.{done-place, compare-done, store-place, stored-passed}
 use Rattle.loads.proofs.Keeps.{store-keeps, compare-keeps}
-
--- a place in a table that kept its monitors
-kept-place : {table after : List ℕ} (position : ℕ) → Keeps table after → Place table position → Place after position
-kept-place position keeps p =
-    record { its-sound = keeps .sound-after; first = p .first; last = subst⁻¹ (λ (n : ℕ). position ≤ n) (keeps .monitors-after) (p .last) }
 
 module _ (table : List ℕ) (position : ℕ) where
   -- ---- a store and a compare

@@ -17,7 +17,8 @@ use Rattle.judging.proofs.Changed.{changed-keeps}
 use Rattle.cells.specs.Cells.{store, compare, load}
 use Rattle.cells.proofs.Loaded.{length-store, sound-store, length-compare, sound-compare, length-load, sound-load}
 use Rattle.loads.specs.Load.{storeRefusals, tableAfterStore, compareRefusals, tableAfterCompare, loadRefusals, tableAfterLoad}
-use Rattle.loads.proofs.Place.{place, there, store-place}
+use Rattle.judging.proofs.Place.{there}
+use Rattle.loads.proofs.Place.{compare-place, store-place}
 
 keeps : (rows : List Row) (k : ℕ) (f : List ℕ → List ℕ) → ((r : List ℕ) → length (f r) ≡ length r) → ((r : List ℕ) → recordSound (f r) ≡ recordSound r)
     → (table : List ℕ) → sound table ≡ true → (Passed rows → k < monitors table) → Keeps table (decide rows (λ n. table) (changedAt k f table))
@@ -28,7 +29,7 @@ module _ (table : List ℕ) (position : ℕ) (s : sound table ≡ true) where
   pub compare-keeps : Keeps table (tableAfterCompare table position)
   unfolding tableAfterCompare
   compare-keeps =
-      keeps (compareRefusals table position) (position - 1) compare length-compare sound-compare table s (λ none. there table position (place table position none))
+      keeps (compareRefusals table position) (position - 1) compare length-compare sound-compare table s (λ none. there table position (compare-place table position none))
 
   module _ (codes : List ℤ) where
     has : Passed (storeRefusals table position codes) → position - 1 < monitors table

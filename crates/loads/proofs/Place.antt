@@ -1,54 +1,31 @@
--- What no refusal stops has its place: the table is sound, the position is one of its monitors', and their record lies whole in the table.
+-- What no refusal stops has its place: a compare exactly where there is one, and a store, which then has sixteen codes.
 -- Assumes nothing.
-use mathlib.Core.Path.{_≡_, sym, ap, _∙_, subst⁻¹}
-use mathlib.Core.Bool.{true, _&&_}
+use mathlib.Core.Path.{_≡_, ap, _∙_}
 use mathlib.Core.List.{List}
 use Prim.Native.Nat.{ℕ, _+_, _-_, _*_, _≤_, _<_}
-use native.Mathlib.Nat.{le-trans}
-use native.Mathlib.Omega.{arith}
-use lib.Dec.{leb}
 use lib.IntN.{ℤ}
 use lib.ListN.{length}
-use borrow.Author.Tests.{leb-true, eqb-true, not-false}
-use Rattle.laws.proofs.Rows.{row-fits}
-use Rattle.refusals.proofs.Deciding.{Passed, passes, has-passed}
+use borrow.Author.Tests.{eqb-true, not-false}
+use Rattle.refusals.proofs.Deciding.{Passed, has-passed}
 use Rattle.records.specs.Record.{recordSize, cellCount}
 use Rattle.records.specs.Commands.{mostMonitors}
-use Rattle.judging.specs.Table.{monitors, sound}
-use Rattle.judging.proofs.Soundness.{both, is-sound}
+use Rattle.judging.specs.Places.{placeRefusals}
+use Rattle.judging.proofs.Place.{by-place, Place, place, is-placed, few, fits}
 use Rattle.loads.specs.declared.loads.Loaded.the-variants.{Unloaded, Done}
 use Rattle.loads.specs.Load.{storeRefusals, stored, compareRefusals, compared}
-use Rattle.loads.proofs.Judging.{done-apart, stop-1, pass-1, pass-2}
+use Rattle.loads.proofs.Judging.{done-apart, compared-placed}
 
 module _ (table : List ℕ) (position : ℕ) where
-  pub record Place : Type 0 where
-    pub its-sound : sound table ≡ true
-    pub first : 1 ≤ position
-    pub last : position ≤ monitors table
+  pub compare-place : Passed (compareRefusals table position) → Place table position
+  unfolding compareRefusals placeRefusals
+  compare-place none = place table position none
 
-  pub place : Passed (compareRefusals table position) → Place
-  unfolding compareRefusals
-  place none =
-      let ends = both (leb 1 position) (leb position (monitors table)) (not-false _ (none .1 .0)) in
-      record { its-sound = not-false (sound table) (none .0); first = leb-true 1 position (ends .0); last = leb-true position (monitors table) (ends .1) }
-
-  pub done-place : compared table position ≡ Done → Place
+  pub done-place : compared table position ≡ Done → Place table position
   unfolding compared
-  done-place e = place (has-passed (compareRefusals table position) Unloaded Done Done done-apart e)
+  done-place e = compare-place (has-passed (compareRefusals table position) Unloaded Done Done done-apart e)
 
-  pub compare-done : Place → compared table position ≡ Done
-  compare-done p = pass-1 table position (p .its-sound) ∙ pass-2 table position (p .first) (p .last)
-
-  -- ---- what it gives
-
-  pub there : Place → position - 1 < monitors table
-  there p = omega (arith, p .first, p .last)
-
-  pub few : Place → position - 1 < mostMonitors
-  few p = omega (arith, there p, is-sound table (p .its-sound) .few)
-
-  pub fits : Place → (position - 1) * recordSize + recordSize ≤ length table
-  fits p = row-fits recordSize (there p) (omega (arith, is-sound table (p .its-sound) .whole))
+  pub compare-done : Place table position → compared table position ≡ Done
+  compare-done p = compared-placed table position ∙ ap (by-place Unloaded Done) (is-placed table position p)
 
   -- ---- a store has it too, and sixteen codes
 
@@ -61,8 +38,8 @@ module _ (table : List ℕ) (position : ℕ) where
     unfolding storeRefusals
     sixteen none = eqb-true _ _ (not-false _ (none .1 .1 .0))
 
-    pub store-place : Passed (storeRefusals table position codes) → Place
-    store-place none = place (both-passed none)
+    pub store-place : Passed (storeRefusals table position codes) → Place table position
+    store-place none = compare-place (both-passed none)
 
     pub stored-passed : stored table position codes ≡ Done → Passed (storeRefusals table position codes)
     unfolding stored
@@ -74,4 +51,4 @@ module _ (table : List ℕ) (position : ℕ) where
 
     pub stored-ready : stored table position codes ≡ Done
         → (position - 1 < mostMonitors) × ((position - 1) * recordSize + recordSize ≤ length table) × (length codes ≡ cellCount)
-    stored-ready e = let p = store-place (stored-passed e) in (few p, fits p, sixteen (stored-passed e))
+    stored-ready e = let p = store-place (stored-passed e) in (few table position p, fits table position p, sixteen (stored-passed e))

@@ -5,7 +5,8 @@ ghost use Rattle.laws.specs.Counts.{all};
 ghost use Rattle.cells.specs.Cells.{isCleared};
 ghost use Rattle.loads.specs.Load.{stored, compared};
 use crate::loads::Loaded;
-use judging::sound_count;
+use judging::Placed;
+use judging::place_of;
 use records::CELL_COUNT;
 use refusals::Refusal;
 
@@ -30,17 +31,10 @@ fn any_cleared(codes: &[i16]) -> bool
 pub(crate) fn judge_compare(table: &[u8], position: usize) -> Loaded
     ensures { λ r. ⌜ r ≡ compared (now (table .entry)) position ⌝ }
 {
-    let n = sound_count(table);
-    if n == 0 {
-        return Loaded::Unloaded(Refusal::TableNotSound);
+    match place_of(table, position) {
+        Placed::Nowhere(refusal) => Loaded::Unloaded(refusal),
+        Placed::At(_) => Loaded::Done,
     }
-    if position < 1 {
-        return Loaded::Unloaded(Refusal::PositionWrong);
-    }
-    if n < position {
-        return Loaded::Unloaded(Refusal::PositionWrong);
-    }
-    Loaded::Done
 }
 
 // A store's: a compare's, and after them those of the codes.

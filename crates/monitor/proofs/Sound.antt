@@ -4,6 +4,7 @@
 use mathlib.Core.Path.{_≡_, refl, sym, ap, ap₂, _∙_, subst⁻¹}
 use mathlib.Core.Bool.{Bool, true, false, cond, _&&_, false≢true}
 use mathlib.Core.List.{List}
+use mathlib.Core.Logic.{inl, inr}
 use Prim.Native.Nat.{ℕ, _+_, _≤_, _<_}
 use native.Mathlib.Omega.{arith}
 use lib.Dec.{leb, ltb, lit<, lit≤}
@@ -11,23 +12,24 @@ use lib.ListN.{length, getD}
 use borrow.Author.Tests.{leb-true, le-leb, ltb-true}
 use Rattle.pec.specs.Words.{payloadRight}
 use Rattle.records.specs.declared.commands.Write.{Write}
-use Rattle.records.specs.declared.commands.Write.the-variants.{Wrcfga, Wrcfgb, Wrrr, Clrflag, Clovuv}
+use Rattle.records.specs.declared.commands.Write.the-variants.{Wrcfga, Wrcfgb, Wrrr, Clrflag, Clovuv, Wrpwma, Wrpwmb}
 use Rattle.records.specs.declared.commands.Bare.{Bare}
 use Rattle.records.specs.declared.commands.Bare.the-variants.{Mute, Unmute, Rstcc, Ulrr, Clrcell}
 use Rattle.records.specs.declared.commands.Command.{Command}
 use Rattle.records.specs.declared.commands.Command.the-variants.{Reads, Writes, Bares, Unlisted}
-use Rattle.records.specs.Record.{cells, counter, unlocked, recordSize, byteOf, anew, onBytes, recordSound}
+use Rattle.records.specs.Record.{cells, counter, unlocked, statusBits, recordSize, byteOf, anew, onBytes, recordSound}
 use Rattle.writes.specs.Writes.{rulesOf, byRules, opens, written}
 use Rattle.monitor.specs.Effects.{locked, nextCount, counted, done, keeps}
 use Rattle.records.proofs.Anew.{length-anew, anew-below, anew-above, anew-inside}
+use Rattle.records.proofs.Parts.{Outside, outside-byte}
 
 -- ---- lengths
 
-length-locked : (r : List ℕ) → length (locked r) ≡ length r
+pub length-locked : (r : List ℕ) → length (locked r) ≡ length r
 unfolding locked onBytes
 length-locked r = length-anew _ _ _ r
 
-length-counted : (r : List ℕ) → length (counted r) ≡ length r
+pub length-counted : (r : List ℕ) → length (counted r) ≡ length r
 unfolding counted onBytes
 length-counted r = length-anew _ _ _ r
 
@@ -65,13 +67,12 @@ record Fine (r : List ℕ) : Type 0 where
   lock : byteOf unlocked r ≤ 1
 
 -- a change elsewhere leaves both
-elsewhere : (f : ℕ → ℕ → ℕ) (at n : ℕ) (r : List ℕ) → at + n ≤ counter .at → Fine r → Fine (anew f at n r)
-unfolding byteOf
+elsewhere : (f : ℕ → ℕ → ℕ) (at n : ℕ) (r : List ℕ) → Outside counter at n × Outside unlocked at n → Fine r → Fine (anew f at n r)
 elsewhere f at n r h s =
     record {
       whole = length-anew f at n r ∙ s .whole;
-      count = subst⁻¹ (λ (x : ℕ). x ≤ 63) (anew-above f at n r {j = counter .at} h) (s .count);
-      lock = subst⁻¹ (λ (x : ℕ). x ≤ 1) (anew-above f at n r {j = unlocked .at} (omega arith)) (s .lock);
+      count = subst⁻¹ (λ (x : ℕ). x ≤ 63) (outside-byte counter f at n r (lit≤ tt) (h .0)) (s .count);
+      lock = subst⁻¹ (λ (x : ℕ). x ≤ 1) (outside-byte unlocked f at n r (lit≤ tt) (h .1)) (s .lock);
     }
 
 fine-lock : (v : ℕ) (r : List ℕ) → v ≤ 1 → Fine r → Fine (onBytes unlocked (λ i old. v) r)
@@ -108,12 +109,21 @@ fine-counted : (r : List ℕ) → Fine r → Fine (counted (locked r))
 unfolding counted
 fine-counted r s = fine-count (λ i old. nextCount old) (locked r) next-fine (fine-locked r s)
 
-rules-elsewhere : (w : Write) → rulesOf w .at + 6 ≤ counter .at
-rules-elsewhere Wrcfga = lit≤ tt
-rules-elsewhere Wrcfgb = lit≤ tt
-rules-elsewhere Wrrr = lit≤ tt
-rules-elsewhere Clrflag = lit≤ tt
-rules-elsewhere Clovuv = lit≤ tt
+-- before both, or behind both
+before-both : (at n : ℕ) → at + n ≤ counter .at → Outside counter at n × Outside unlocked at n
+before-both at n h = (inl h, inl (omega arith))
+
+behind-both : (at n : ℕ) → unlocked .at + 1 ≤ at → Outside counter at n × Outside unlocked at n
+behind-both at n h = (inr (omega arith), inr h)
+
+rules-elsewhere : (w : Write) → Outside counter (rulesOf w .at) 6 × Outside unlocked (rulesOf w .at) 6
+rules-elsewhere Wrcfga = before-both _ 6 (lit≤ tt)
+rules-elsewhere Wrcfgb = before-both _ 6 (lit≤ tt)
+rules-elsewhere Wrrr = before-both _ 6 (lit≤ tt)
+rules-elsewhere Clrflag = before-both _ 6 (lit≤ tt)
+rules-elsewhere Clovuv = before-both _ 6 (lit≤ tt)
+rules-elsewhere Wrpwma = behind-both _ 6 (lit≤ tt)
+rules-elsewhere Wrpwmb = behind-both _ 6 (lit≤ tt)
 
 fine-cond : (b : Bool) (xs ys : List ℕ) → Fine xs → Fine ys → Fine (cond b xs ys)
 fine-cond true xs ys h k = h
@@ -125,11 +135,11 @@ fine-written c was sent r s = fine-cond (opens (rulesOf c) was) _ r (elsewhere _
 
 fine-done : (c : Bare) (r : List ℕ) → Fine r → Fine (done c r)
 unfolding done onBytes
-fine-done Mute r s = elsewhere _ 5 1 r (lit≤ tt) s
-fine-done Unmute r s = elsewhere _ 5 1 r (lit≤ tt) s
+fine-done Mute r s = elsewhere _ (statusBits .at) 1 r (before-both _ 1 (lit≤ tt)) s
+fine-done Unmute r s = elsewhere _ (statusBits .at) 1 r (before-both _ 1 (lit≤ tt)) s
 fine-done Rstcc r s = fine-count (λ i old. 0) r (λ n. lit≤ tt) s
 fine-done Ulrr r s = fine-lock 1 r (lit≤ tt) s
-fine-done Clrcell r s = elsewhere _ (cells .at) (cells .size) r (lit≤ tt) s
+fine-done Clrcell r s = elsewhere _ (cells .at) (cells .size) r (before-both _ (cells .size) (lit≤ tt)) s
 
 fine-keeps : (c : Command) (eight r : List ℕ) → Fine r → Fine (keeps c eight r)
 unfolding keeps

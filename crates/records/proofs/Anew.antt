@@ -1,15 +1,16 @@
 -- Bytes of a list made anew: the length stays, the bytes outside stay, each byte inside is what the function says of what it
--- was. The step of a loop that makes them so, one after the other; and bytes made anew twice, which are made anew once by both.
+-- was; what lies behind stays there. The step of a loop that makes them so, one after the other; and bytes made anew twice, which are made
+-- anew once by both.
 -- Assumes nothing.
 use mathlib.Core.Path.{_≡_, refl, sym, ap, ap₂, _∙_}
-use mathlib.Core.List.{List}
+use mathlib.Core.List.{List, _++_}
 use mathlib.Core.Logic.{⊎-elim}
 use Prim.Native.Nat.{ℕ, zero, suc, _+_, _≤_, _<_}
 use native.Mathlib.Nat.{eq-or-lt-of-le, le-of-suc-le-suc}
 use native.Mathlib.Numerals.{add-one}
 use native.Mathlib.Omega.{arith}
-use lib.ListN.{length, length-set, getD, set}
-use lib.Seq.{getD-set-same, getD-set-other, set-set, set-comm}
+use lib.ListN.{length, length-set, getD, set, List·getD-append}
+use lib.Seq.{getD-set-same, getD-set-other, set-append-left, set-set, set-comm}
 use Rattle.records.specs.Record.{anew}
 
 module _ (f : ℕ → ℕ → ℕ) (at : ℕ) where
@@ -56,6 +57,16 @@ unfolding anew
 anew-same f g at zero r h = refl
 anew-same f g at (suc n) r h =
     ap₂ (λ (l : List ℕ) (v : ℕ). set l (at + n) v) (anew-same f g at n r (λ i k. h i (omega arith))) (h n (omega arith))
+
+-- ---- of a list that goes on behind them
+
+pub anew-front : (f : ℕ → ℕ → ℕ) (at n : ℕ) (front rest : List ℕ) → at + n ≤ length front → anew f at n (front ++ rest) ≡ anew f at n front ++ rest
+unfolding anew
+anew-front f at zero front rest h = refl
+anew-front f at (suc n) front rest h =
+    ap₂ (λ (l : List ℕ) (v : ℕ). set l (at + n) v) (anew-front f at n front rest (omega arith))
+    (ap (f n) (List·getD-append front rest 0 (at + n) (omega arith)))
+    ∙ set-append-left (anew f at n front) rest (at + n) (f n (getD front (at + n) 0)) (rw (length-anew f at n front) (omega arith))
 
 -- ---- twice
 

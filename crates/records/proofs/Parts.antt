@@ -1,23 +1,24 @@
--- What a part of a record holds: its byte i is the record's at the part's beginning and i. Bytes made anew beside a part leave
--- what it holds, and before the counter they leave a record as sound as it was.
+-- What a part of a record holds: its byte i is the record's at the part's beginning and i. Bytes made anew outside a part leave
+-- what it holds, and outside the counter and the retention byte they leave a record as sound as it was.
 -- Assumes nothing.
 use mathlib.Core.Path.{_≡_, refl, sym, ap, ap₂, _∙_}
 use mathlib.Core.Bool.{_&&_}
 use mathlib.Core.List.{List}
+use mathlib.Core.Logic.{_⊎_, inl, inr}
 use Prim.Native.Nat.{ℕ, zero, suc, _+_, _-_, _≤_, _<_}
 use native.Mathlib.Omega.{arith}
-use lib.Dec.{leb}
+use lib.Dec.{leb, lit≤}
 use lib.ListN.{take, drop, getD, set}
 use lib.Seq.{getD-take, getD-drop, take-set-le, drop-set-lt, drop-set-add}
 use Rattle.records.specs.declared.record.Part.{Part}
 use Rattle.records.specs.Record.{counter, unlocked, bytesOf, byteOf, anew, recordSound}
-use Rattle.records.proofs.Anew.{anew-above}
+use Rattle.records.proofs.Anew.{anew-below, anew-above}
 
 pub byte-of-part : (p : Part) (r : List ℕ) {i : ℕ} → i < p .size → getD (bytesOf p r) i 0 ≡ getD r (p .at + i) 0
 unfolding bytesOf
 byte-of-part p r {i} h = getD-take (p .size) (drop (p .at) r) i 0 h ∙ getD-drop (p .at) r i 0
 
--- ---- bytes made anew beside a part
+-- ---- bytes made anew outside a part
 
 before-set : (p : Part) (r : List ℕ) (i v : ℕ) → p .at + p .size ≤ i → bytesOf p (set r i v) ≡ bytesOf p r
 unfolding bytesOf
@@ -42,8 +43,23 @@ module _ (p : Part) (f : ℕ → ℕ → ℕ) (at : ℕ) where
   after-anew zero r h = refl
   after-anew (suc n) r h = after-set p (anew f at n r) (at + n) (f n (getD r (at + n) 0)) (omega arith) ∙ after-anew n r (omega arith)
 
--- a change of bytes before the counter leaves a record as sound as it was
-pub sound-elsewhere : (f : ℕ → ℕ → ℕ) (at n : ℕ) (r : List ℕ) → at + n ≤ counter .at → recordSound (anew f at n r) ≡ recordSound r
-unfolding recordSound byteOf
-sound-elsewhere f at n r h =
-    ap₂ (λ (x y : ℕ). leb x 63 && leb y 1) (anew-above f at n r {j = counter .at} h) (anew-above f at n r {j = unlocked .at} (omega arith))
+-- n bytes from a place on are none of a part's
+abbrev pub Outside : Part → ℕ → ℕ → Type 0
+Outside p at n = (at + n ≤ p .at) ⊎ (p .at + p .size ≤ at)
+
+module _ (p : Part) (f : ℕ → ℕ → ℕ) (at n : ℕ) (r : List ℕ) where
+  pub outside-anew : Outside p at n → bytesOf p (anew f at n r) ≡ bytesOf p r
+  outside-anew (inl h) = after-anew p f at n r h
+  outside-anew (inr h) = before-anew p f at n r h
+
+  -- of a part that has a byte, the first
+  pub outside-byte : 1 ≤ p .size → Outside p at n → byteOf p (anew f at n r) ≡ byteOf p r
+  unfolding byteOf
+  outside-byte some (inl h) = anew-above f at n r {j = p .at} h
+  outside-byte some (inr h) = anew-below f at n r {j = p .at} (omega arith)
+
+pub sound-elsewhere : (f : ℕ → ℕ → ℕ) (at n : ℕ) (r : List ℕ) → Outside counter at n → Outside unlocked at n
+    → recordSound (anew f at n r) ≡ recordSound r
+unfolding recordSound
+sound-elsewhere f at n r h k =
+    ap₂ (λ (x y : ℕ). leb x 63 && leb y 1) (outside-byte counter f at n r (lit≤ tt) h) (outside-byte unlocked f at n r (lit≤ tt) k)

@@ -1,15 +1,15 @@
--- Document 01, "Commands": the list of commands, their kinds, the length that a frame must have and the length of a reply.
+-- Document 01, "Commands", and document 02, L2: the list of commands, their kinds, the length that a frame must have and the length of a reply.
 -- Assumes nothing.
 use mathlib.Core.Bool.{Bool, true, false, cond}
 use mathlib.Core.List.{List, [], _∷_}
 use Prim.Native.Nat.{ℕ, _+_, _*_}
 use lib.Dec.{eqb}
-use Rattle.records.specs.declared.commands.Write.the-variants.{Wrcfga, Wrcfgb, Wrrr, Clrflag, Clovuv}
+use Rattle.records.specs.declared.commands.Write.the-variants.{Wrcfga, Wrcfgb, Wrrr, Clrflag, Clovuv, Wrpwma, Wrpwmb}
 use Rattle.records.specs.declared.commands.Bare.the-variants.{Mute, Unmute, Rstcc, Ulrr, Clrcell}
 use Rattle.records.specs.declared.commands.Command.{Command}
 use Rattle.records.specs.declared.commands.Command.the-variants.{Reads, Writes, Bares, Unlisted}
 use Rattle.records.specs.declared.record.Part.{Part}
-use Rattle.records.specs.Record.{configurationA, configurationB, threeCells, cell16, statusC, statusD, serialId, retention}
+use Rattle.records.specs.Record.{configurationA, configurationB, threeCells, cell16, statusC, statusD, serialId, retention, pwmA, pwmB}
 
 -- the part of the record that each read shows
 abbrev pub rdcfga : Part
@@ -48,6 +48,12 @@ rdsid = serialId
 abbrev pub rdrr : Part
 rdrr = retention
 
+abbrev pub rdpwma : Part
+rdpwma = pwmA
+
+abbrev pub rdpwmb : Part
+rdpwmb = pwmB
+
 -- a code, and the command that it stands for
 pub record Row : Type 0 where
   pub code : ℕ
@@ -71,11 +77,15 @@ commands =
     ∷ row 0x0033 (Reads rdstatd)
     ∷ row 0x002C (Reads rdsid)
     ∷ row 0x003A (Reads rdrr)
+    ∷ row 0x0022 (Reads rdpwma)
+    ∷ row 0x0023 (Reads rdpwmb)
     ∷ row 0x0001 (Writes Wrcfga)
     ∷ row 0x0024 (Writes Wrcfgb)
     ∷ row 0x0039 (Writes Wrrr)
     ∷ row 0x0717 (Writes Clrflag)
     ∷ row 0x0715 (Writes Clovuv)
+    ∷ row 0x0020 (Writes Wrpwma)
+    ∷ row 0x0021 (Writes Wrpwmb)
     ∷ row 0x0028 (Bares Mute)
     ∷ row 0x0029 (Bares Unmute)
     ∷ row 0x002E (Bares Rstcc)

@@ -1,4 +1,4 @@
--- Document 01, "The table": one monitor's record, its parts by name. Sizes and offsets stand here and nowhere else.
+-- Document 01, "The table", and document 02, L2: one monitor's record, its parts by name. Sizes and offsets stand here and nowhere else.
 -- Assumes nothing.
 use mathlib.Core.Bool.{Bool, _&&_}
 use mathlib.Core.List.{List}
@@ -43,14 +43,26 @@ counter = part 68 1
 abbrev pub unlocked : Part
 unlocked = part 69 1
 
+-- the duties of cells 1 to 12
+abbrev pub pwmA : Part
+pwmA = part 70 6
+
+-- the duties of cells 13 to 16
+abbrev pub pwmB : Part
+pwmB = part 76 6
+
 abbrev pub recordSize : ℕ
-recordSize = 70
+recordSize = 82
 
 -- ---- parts of parts
 
 -- byte 5 of configuration A, with SNAP_ST at bit 5 and MUTE_ST at bit 4
 abbrev pub statusBits : Part
 statusBits = part (configurationA .at + 5) 1
+
+-- bytes 4 and 5 of configuration B, with the DCC bits of cells 1 to 8 and of cells 9 to 16
+abbrev pub dccBits : Part
+dccBits = part (configurationB .at + 4) 2
 
 -- the bytes of status D that hold the cells' flags
 abbrev pub flags : Part

@@ -12,6 +12,8 @@ use crate::record::RDCVC;
 use crate::record::RDCVD;
 use crate::record::RDCVE;
 use crate::record::RDCVF;
+use crate::record::RDPWMA;
+use crate::record::RDPWMB;
 use crate::record::RDRR;
 use crate::record::RDSID;
 use crate::record::RDSTATC;
@@ -23,6 +25,8 @@ pub enum Write {
     Wrrr,
     Clrflag,
     Clovuv,
+    Wrpwma,
+    Wrpwmb,
 }
 
 pub enum Bare {
@@ -59,11 +63,15 @@ pub fn command_of(code: u16) -> Command
         0x0033 => Command::Reads(RDSTATD),
         0x002c => Command::Reads(RDSID),
         0x003a => Command::Reads(RDRR),
+        0x0022 => Command::Reads(RDPWMA),
+        0x0023 => Command::Reads(RDPWMB),
         0x0001 => Command::Writes(Write::Wrcfga),
         0x0024 => Command::Writes(Write::Wrcfgb),
         0x0039 => Command::Writes(Write::Wrrr),
         0x0717 => Command::Writes(Write::Clrflag),
         0x0715 => Command::Writes(Write::Clovuv),
+        0x0020 => Command::Writes(Write::Wrpwma),
+        0x0021 => Command::Writes(Write::Wrpwmb),
         0x0028 => Command::Bares(Bare::Mute),
         0x0029 => Command::Bares(Bare::Unmute),
         0x002e => Command::Bares(Bare::Rstcc),

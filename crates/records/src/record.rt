@@ -4,13 +4,17 @@ ghost use mathlib.Core.Bool.{_&&_};
 ghost use lib.ListN.{getD};
 ghost use Rattle.records.specs.Record.{isRecord, recordSound};
 
-pub const RECORD_SIZE: usize = 70;
+pub const RECORD_SIZE: usize = 82;
 
 pub const CONFIGURATION_A: usize = 0;
 // Byte 5 of configuration A, with SNAP_ST at bit 5 and MUTE_ST at bit 4.
 pub const STATUS_BITS: usize = CONFIGURATION_A + 5;
 
 pub const CONFIGURATION_B: usize = 6;
+
+// Bytes 4 and 5 of configuration B, with the DCC bits of cells 1 to 8 and of cells 9 to 16.
+pub const DCC_BITS: usize = CONFIGURATION_B + 4;
+
 // Cells 1 to 16, two bytes each, low byte first.
 pub const CELLS: usize = 12;
 
@@ -32,6 +36,12 @@ pub(crate) const SERIAL_ID: usize = 62;
 pub const COUNTER: usize = 68;
 
 pub const UNLOCKED: usize = 69;
+
+// The duties of cells 1 to 12.
+pub const PWM_A: usize = 70;
+
+// The duties of cells 13 to 16.
+pub const PWM_B: usize = 76;
 
 // Where a part of the record begins, and how many bytes it has. In bytes, so that a command is three of them: the compiler copies a
 // larger one in pieces that wait for each other.
@@ -98,6 +108,16 @@ pub(crate) const RDSID: Part = Part {
 
 pub(crate) const RDRR: Part = Part {
     at: RETENTION as u8,
+    size: 6,
+};
+
+pub(crate) const RDPWMA: Part = Part {
+    at: PWM_A as u8,
+    size: 6,
+};
+
+pub(crate) const RDPWMB: Part = Part {
+    at: PWM_B as u8,
     size: 6,
 };
 

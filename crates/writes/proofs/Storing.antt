@@ -1,4 +1,4 @@
--- A write that stores all six bytes as they are sent: by its rules every bit is stored and none kept, so a byte becomes as sent.
+-- A write that stores all six bytes as they are sent: by its rules every bit is stored, none kept and none made 1, so a byte becomes as sent.
 -- Assumes nothing.
 use mathlib.Core.Path.{_≡_, refl, sym, ap, ap₂, _∙_}
 use mathlib.Core.Bool.{Bool, true, false≢true}
@@ -8,7 +8,8 @@ use native.Mathlib.Omega.{arith}
 use lib.Bits.{bitAnd, bitOr, and-zero-l, and-zero-r, or-zero-r, and-mask}
 use lib.ListN.{getD}
 use Rattle.records.specs.declared.commands.Write.{Write}
-use Rattle.records.specs.declared.commands.Write.the-variants.{Wrcfga, Wrcfgb, Wrrr, Clrflag, Clovuv}
+use Rattle.records.specs.declared.commands.Write.the-variants.{Wrcfga, Wrcfgb, Wrrr, Clrflag, Clovuv, Wrpwma, Wrpwmb}
+use Rattle.writes.specs.declared.writes.Rules.{Rules}
 use Rattle.records.specs.Record.{anew}
 use Rattle.writes.specs.Writes.{rulesOf, storesWhole, changed, byRules}
 use Rattle.records.proofs.Anew.{anew-same}
@@ -26,21 +27,27 @@ each n (suc (suc (suc (suc zero)))) h = refl
 each n (suc (suc (suc (suc (suc zero))))) h = refl
 each n (suc (suc (suc (suc (suc (suc i)))))) h = absurd (omega arith)
 
-as-sent : (clearable sent : List ℕ) (i old : ℕ) → i < 6 → getD sent i 0 % 256 ≡ changed (six 255) (six 0) clearable sent i old
+each-of : (n i : ℕ) → i < 6 → {bytes : List ℕ} → bytes ≡ six n → getD bytes i 0 ≡ n
+each-of n i h e = ap (λ (bytes : List ℕ). getD bytes i 0) e ∙ each n i h
+
+as-sent : (rules : Rules) → rules .stored ≡ six 255 → rules .kept ≡ six 0 → rules .ones ≡ six 0
+    → (sent : List ℕ) (i old : ℕ) → i < 6 → getD sent i 0 % 256 ≡ changed rules sent i old
 unfolding changed
-as-sent clearable sent i old h =
+as-sent rules stored kept ones sent i old h =
     let s = getD sent i 0 in
-    let mask = 255 - bitAnd s (getD clearable i 0) in
+    let mask = 255 - bitAnd s (getD (rules .clearable) i 0) in
     sym
-    (ap₂ (λ (x y : ℕ). bitOr (bitAnd s x) (bitAnd old (bitAnd y mask))) (each 255 i h) (each 0 i h)
-    ∙ ap₂ bitOr (and-mask s 8) (ap (bitAnd old) (and-zero-l mask) ∙ and-zero-r old)
+    (ap₂ (λ (x y : ℕ). bitOr (bitOr (bitAnd s x) (bitAnd old (bitAnd y mask))) (getD (rules .ones) i 0)) (each-of 255 i h stored) (each-of 0 i h kept)
+    ∙ ap₂ bitOr (ap₂ bitOr (and-mask s 8) (ap (bitAnd old) (and-zero-l mask) ∙ and-zero-r old) ∙ or-zero-r (s % 256)) (each-of 0 i h ones)
     ∙ or-zero-r (s % 256))
 
 pub stored-whole : (what : Write) → storesWhole what ≡ true → (sent r : List ℕ)
     → anew (λ i old. getD sent i 0 % 256) (rulesOf what .at) 6 r ≡ byRules (rulesOf what) sent r
 unfolding byRules
 stored-whole Wrcfga e sent r = absurd (false≢true e)
-stored-whole Wrcfgb e sent r = anew-same _ _ _ 6 r (λ i h. as-sent (six 0) sent i _ h)
-stored-whole Wrrr e sent r = anew-same _ _ _ 6 r (λ i h. as-sent (six 0) sent i _ h)
+stored-whole Wrcfgb e sent r = anew-same _ _ _ 6 r (λ i h. as-sent (rulesOf Wrcfgb) refl refl refl sent i _ h)
+stored-whole Wrrr e sent r = anew-same _ _ _ 6 r (λ i h. as-sent (rulesOf Wrrr) refl refl refl sent i _ h)
 stored-whole Clrflag e sent r = absurd (false≢true e)
 stored-whole Clovuv e sent r = absurd (false≢true e)
+stored-whole Wrpwma e sent r = anew-same _ _ _ 6 r (λ i h. as-sent (rulesOf Wrpwma) refl refl refl sent i _ h)
+stored-whole Wrpwmb e sent r = absurd (false≢true e)

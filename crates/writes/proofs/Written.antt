@@ -9,7 +9,7 @@ use lib.Dec.{eqb, leb, lit≤}
 use lib.ListN.{length}
 use borrow.Author.Tests.{le-leb, lt-leb}
 use Rattle.records.specs.declared.commands.Write.{Write}
-use Rattle.records.specs.declared.commands.Write.the-variants.{Wrcfga, Wrcfgb, Wrrr, Clrflag, Clovuv}
+use Rattle.records.specs.declared.commands.Write.the-variants.{Wrcfga, Wrcfgb, Wrrr, Clrflag, Clovuv, Wrpwma, Wrpwmb}
 use Rattle.writes.specs.declared.writes.Rules.{Rules}
 use Rattle.records.specs.Record.{recordSize, isRecord}
 use Rattle.writes.specs.Writes.{rulesOf, opens, written}
@@ -21,6 +21,8 @@ rules-fit Wrcfgb = lit≤ tt
 rules-fit Wrrr = lit≤ tt
 rules-fit Clrflag = lit≤ tt
 rules-fit Clovuv = lit≤ tt
+rules-fit Wrpwma = lit≤ tt
+rules-fit Wrpwmb = lit≤ tt
 
 module _ (rules : Rules) (was : ℕ) where
   pub opens-unlocked : rules .«only_unlocked» ≡ true → opens rules was ≡ eqb was 1

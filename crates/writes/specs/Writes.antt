@@ -1,4 +1,4 @@
--- Document 01, "Effects": what a taken write does to its six bytes. It depends on the write, on what was sent, on the record and on
+-- Document 01, "Effects", and document 02, L2: what a taken write does to its six bytes. It depends on the write, on what was sent, on the record and on
 -- the retention byte before the command.
 -- Assumes nothing.
 use mathlib.Core.Bool.{Bool, true, false, cond, not, _||_}
@@ -8,9 +8,9 @@ use lib.Bits.{bitAnd, bitOr}
 use lib.Dec.{eqb}
 use lib.ListN.{getD}
 use Rattle.records.specs.declared.commands.Write.{Write}
-use Rattle.records.specs.declared.commands.Write.the-variants.{Wrcfga, Wrcfgb, Wrrr, Clrflag, Clovuv}
+use Rattle.records.specs.declared.commands.Write.the-variants.{Wrcfga, Wrcfgb, Wrrr, Clrflag, Clovuv, Wrpwma, Wrpwmb}
 use Rattle.writes.specs.declared.writes.Rules.{Rules}
-use Rattle.records.specs.Record.{configurationA, configurationB, statusC, statusD, retention, anew}
+use Rattle.records.specs.Record.{configurationA, configurationB, statusC, statusD, retention, pwmA, pwmB, anew}
 
 -- six bytes of 1s, and of 0s
 abbrev all : List ℕ
@@ -20,14 +20,16 @@ abbrev none : List ℕ
 none = 0 ∷ 0 ∷ 0 ∷ 0 ∷ 0 ∷ 0 ∷ []
 
 -- where a write's six bytes go, and what it does to each bit there: `stored` bits become as sent, `kept` bits stay as they
--- were, but for those that are `clearable` and sent as 1; every other bit becomes 0. WRRR does so only where the retention was
--- unlocked
+-- were, but for those that are `clearable` and sent as 1, `ones` become 1; every other bit becomes 0. WRRR does so only where the
+-- retention was unlocked
 abbrev pub rulesOf : Write → Rules
-rulesOf Wrcfga = record { «only_unlocked» = false; at = configurationA .at; stored = 0x87 ∷ 0xFF ∷ 0xF8 ∷ 0xFF ∷ 0x03 ∷ 0x0F ∷ []; kept = 0 ∷ 0 ∷ 0 ∷ 0 ∷ 0 ∷ 0x30 ∷ []; clearable = none }
-rulesOf Wrcfgb = record { «only_unlocked» = false; at = configurationB .at; stored = all; kept = none; clearable = none }
-rulesOf Wrrr = record { «only_unlocked» = true; at = retention .at; stored = all; kept = none; clearable = none }
-rulesOf Clrflag = record { «only_unlocked» = false; at = statusC .at; stored = none; kept = all; clearable = 0xFF ∷ 0xFF ∷ 0 ∷ 0 ∷ 0xFF ∷ 0xDF ∷ [] }
-rulesOf Clovuv = record { «only_unlocked» = false; at = statusD .at; stored = none; kept = all; clearable = 0xFF ∷ 0xFF ∷ 0xFF ∷ 0xFF ∷ 0 ∷ 0 ∷ [] }
+rulesOf Wrcfga = record { «only_unlocked» = false; at = configurationA .at; stored = 0x87 ∷ 0xFF ∷ 0xF8 ∷ 0xFF ∷ 0x03 ∷ 0x0F ∷ []; kept = 0 ∷ 0 ∷ 0 ∷ 0 ∷ 0 ∷ 0x30 ∷ []; clearable = none; ones = none }
+rulesOf Wrcfgb = record { «only_unlocked» = false; at = configurationB .at; stored = all; kept = none; clearable = none; ones = none }
+rulesOf Wrrr = record { «only_unlocked» = true; at = retention .at; stored = all; kept = none; clearable = none; ones = none }
+rulesOf Clrflag = record { «only_unlocked» = false; at = statusC .at; stored = none; kept = all; clearable = 0xFF ∷ 0xFF ∷ 0 ∷ 0 ∷ 0xFF ∷ 0xDF ∷ []; ones = none }
+rulesOf Clovuv = record { «only_unlocked» = false; at = statusD .at; stored = none; kept = all; clearable = 0xFF ∷ 0xFF ∷ 0xFF ∷ 0xFF ∷ 0 ∷ 0 ∷ []; ones = none }
+rulesOf Wrpwma = record { «only_unlocked» = false; at = pwmA .at; stored = all; kept = none; clearable = none; ones = none }
+rulesOf Wrpwmb = record { «only_unlocked» = false; at = pwmB .at; stored = 0xFF ∷ 0xFF ∷ 0 ∷ 0 ∷ 0 ∷ 0 ∷ []; kept = none; clearable = none; ones = 0 ∷ 0 ∷ 0xFF ∷ 0xFF ∷ 0xFF ∷ 0xFF ∷ [] }
 
 -- the writes that store all six bytes as they are sent
 abbrev pub storesWhole : Write → Bool
@@ -36,16 +38,20 @@ storesWhole Wrcfgb = true
 storesWhole Wrrr = true
 storesWhole Clrflag = false
 storesWhole Clovuv = false
+storesWhole Wrpwma = true
+storesWhole Wrpwmb = false
 
--- byte i by three such masks, from what was sent and what it was
-unfoldable pub changed : List ℕ → List ℕ → List ℕ → List ℕ → ℕ → ℕ → ℕ
-changed stored kept clearable sent i old =
-    bitOr (bitAnd (getD sent i 0) (getD stored i 0))
-    (bitAnd old (bitAnd (getD kept i 0) (255 - bitAnd (getD sent i 0) (getD clearable i 0))))
+-- byte i by such rules, from what was sent and what it was
+unfoldable pub changed : Rules → List ℕ → ℕ → ℕ → ℕ
+changed rules sent i old =
+    bitOr
+    (bitOr (bitAnd (getD sent i 0) (getD (rules .stored) i 0))
+    (bitAnd old (bitAnd (getD (rules .kept) i 0) (255 - bitAnd (getD sent i 0) (getD (rules .clearable) i 0)))))
+    (getD (rules .ones) i 0)
 
 -- the six bytes by a write's rules
 unfoldable pub byRules : Rules → List ℕ → List ℕ → List ℕ
-byRules rules sent r = anew (changed (rules .stored) (rules .kept) (rules .clearable) sent) (rules .at) 6 r
+byRules rules sent r = anew (changed rules sent) (rules .at) 6 r
 
 -- a write changes something, by the retention byte before the command
 unfoldable pub opens : Rules → ℕ → Bool

@@ -8,6 +8,8 @@ ghost use Rattle.records.specs.Record.{isRecord, anew};
 ghost use Rattle.writes.specs.Writes.{rulesOf, storesWhole, changed, byRules, opens, written};
 use records::CONFIGURATION_A;
 use records::CONFIGURATION_B;
+use records::PWM_A;
+use records::PWM_B;
 use records::RECORD_SIZE;
 use records::RETENTION;
 use records::STATUS_C;
@@ -15,7 +17,7 @@ use records::STATUS_D;
 use records::Write;
 
 // Where a write's six bytes go, and what it does to each bit there: stored bits become as sent, kept bits stay as they were,
-// but for those that are clearable and sent as 1; every other bit becomes 0. Only WRRR asks that the
+// but for those that are clearable and sent as 1, ones become 1; every other bit becomes 0. Only WRRR asks that the
 // retention was unlocked.
 pub struct Rules {
     pub only_unlocked: bool,
@@ -23,6 +25,7 @@ pub struct Rules {
     pub stored: [u8; 6],
     pub kept: [u8; 6],
     pub clearable: [u8; 6],
+    pub ones: [u8; 6],
 }
 
 const ALL: [u8; 6] = [0xff; 6];
@@ -39,6 +42,7 @@ fn rules_of(what: Write) -> Rules
             stored: [0x87, 0xff, 0xf8, 0xff, 0x03, 0x0f],
             kept: [0, 0, 0, 0, 0, 0x30],
             clearable: NONE,
+            ones: NONE,
         },
         Write::Wrcfgb => Rules {
             only_unlocked: false,
@@ -46,6 +50,7 @@ fn rules_of(what: Write) -> Rules
             stored: ALL,
             kept: NONE,
             clearable: NONE,
+            ones: NONE,
         },
         Write::Wrrr => Rules {
             only_unlocked: true,
@@ -53,6 +58,7 @@ fn rules_of(what: Write) -> Rules
             stored: ALL,
             kept: NONE,
             clearable: NONE,
+            ones: NONE,
         },
         Write::Clrflag => Rules {
             only_unlocked: false,
@@ -60,6 +66,7 @@ fn rules_of(what: Write) -> Rules
             stored: NONE,
             kept: ALL,
             clearable: [0xff, 0xff, 0, 0, 0xff, 0xdf],
+            ones: NONE,
         },
         Write::Clovuv => Rules {
             only_unlocked: false,
@@ -67,6 +74,23 @@ fn rules_of(what: Write) -> Rules
             stored: NONE,
             kept: ALL,
             clearable: [0xff, 0xff, 0xff, 0xff, 0, 0],
+            ones: NONE,
+        },
+        Write::Wrpwma => Rules {
+            only_unlocked: false,
+            at: PWM_A,
+            stored: ALL,
+            kept: NONE,
+            clearable: NONE,
+            ones: NONE,
+        },
+        Write::Wrpwmb => Rules {
+            only_unlocked: false,
+            at: PWM_B,
+            stored: [0xff, 0xff, 0, 0, 0, 0],
+            kept: NONE,
+            clearable: NONE,
+            ones: [0, 0, 0xff, 0xff, 0xff, 0xff],
         },
     }
 }
@@ -74,10 +98,11 @@ fn rules_of(what: Write) -> Rules
 // One of the six bytes by a write's rules, from what was sent and what it was.
 fn changed_byte(rules: Rules, sent: &[u8], i: usize, old: u8) -> u8
     requires { ⌜ (i < 6) × (6 ≤ length (now sent)) ⌝ }
-    ensures { λ r. ⌜ r ≡ changed (rules .stored) (rules .kept) (rules .clearable) (now (sent .entry)) i old ⌝ }
+    ensures { λ r. ⌜ r ≡ changed rules (now (sent .entry)) i old ⌝ }
 {
     let byte = sent[i];
-    (byte & rules.stored[i]) | (old & (rules.kept[i] & !(byte & rules.clearable[i])))
+    ((byte & rules.stored[i]) | (old & (rules.kept[i] & !(byte & rules.clearable[i]))))
+        | rules.ones[i]
 }
 
 // The six bytes that a write changes, by its rules.
@@ -116,6 +141,8 @@ fn stores_whole(what: Write) -> bool
         Write::Wrrr => true,
         Write::Clrflag => false,
         Write::Clovuv => false,
+        Write::Wrpwma => true,
+        Write::Wrpwmb => false,
     }
 }
 

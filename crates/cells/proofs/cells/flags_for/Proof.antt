@@ -11,7 +11,8 @@ use mir.Syntax.{w32}
 use mir.Val.{toZ, ofZ}
 use mir.ValLaws.{toZ-ofZ}
 use Rattle.cells.specs.Cells.{flagsFor}
-use Rattle.cells.proofs.Flags.{flag-at-most-one, both-flags}
+use Rattle.laws.proofs.Counts.{flag-at-most-one}
+use Rattle.cells.proofs.Flags.{both-flags}
 use Rattle.cells.proofs.cells.flags_for.Statement.{statement}
 use Rattle.cells.proofs.cells.flags_for.Tie as tie
 

@@ -1,42 +1,28 @@
--- `loads::judged::judge_compare` meets its contract: each test is the condition of a refusal, in their order.
+-- `loads::judged::judge_compare` meets its contract: what has its place is done, and what has none is refused as it is.
 -- Assumes nothing.
-use mathlib.Core.Path.{_≡_, sym, _∙_, subst}
-use mathlib.Core.Bool.{true}
-use Prim.Native.Nat.{ℕ, _≤_, _<_}
-use Rattle.judging.specs.Table.{monitors, sound}
-use Rattle.judging.proofs.Judging.{not-none, none, count-is}
-use Rattle.loads.proofs.Judging.{stop-1, pass-1, stop-2-low, stop-2-high, pass-2}
+use mathlib.Core.Path.{_≡_, sym, ap, _∙_}
+use mathlib.Core.List.{List}
+use Prim.Native.Nat.{ℕ}
 use borrow.Author.Needs.{needs}
+use Rattle.judging.specs.declared.places.Placed.{Placed}
+use Rattle.judging.specs.Places.{placed}
+use Rattle.loads.specs.declared.loads.Loaded.the-variants.{Unloaded, Done}
+use Rattle.loads.specs.Load.{compared}
+use Rattle.judging.proofs.Place.{by-place}
+use Rattle.loads.proofs.Judging.{compared-placed}
 use Rattle.loads.proofs.judged.judge_compare.Statement.{statement}
 use Rattle.loads.proofs.judged.judge_compare.Tie as tie
 
-its-sound : (c : tie.Else1) → sound (c .before .before .before .args .table .now) ≡ true
-its-sound c = not-none (c .before .before .before .args .table .now) (c .before .sound-count .ensures) (c .if1 .left)
+-- what came of the place, as the code matched it
+matched : (table : List ℕ) (position : ℕ) {came told : Placed} → came ≡ placed table position → came ≡ told → by-place Unloaded Done told ≡ compared table position
+matched table position e t = ap (by-place Unloaded Done) (sym t ∙ e) ∙ sym (compared-placed table position)
 
 returns : tie.Need-returns
-returns c =
-    let a = c .before .before .before .args in
-    sym (stop-1 (a .table .now) (a .position) (none (a .table .now) (c .before .sound-count .ensures) (c .if1 .taken)))
+returns c = matched _ _ (c .before .before .before .place-of .ensures) (c .before .refusal .given .1)
 
 returns-2 : tie.Need-returns-2
-returns-2 c =
-    let a = c .before .before .before .before .args in
-    sym (pass-1 (a .table .now) (a .position) (its-sound (c .before)) ∙ stop-2-low (a .table .now) (a .position) (c .if2 .taken))
-
-returns-3 : tie.Need-returns-3
-returns-3 c =
-    let a = c .before .before .before .before .before .args in
-    let s = its-sound (c .before .before) in
-    let high = subst (λ (n : ℕ). n < a .position) (count-is (a .table .now) (c .before .before .before .sound-count .ensures) s) (c .if3 .taken) in
-    sym (pass-1 (a .table .now) (a .position) s ∙ stop-2-high (a .table .now) (a .position) high)
-
-returns-4 : tie.Need-returns-4
-returns-4 c =
-    let a = c .before .before .before .before .before .args in
-    let s = its-sound (c .before .before) in
-    let last = subst (λ (n : ℕ). a .position ≤ n) (count-is (a .table .now) (c .before .before .before .sound-count .ensures) s) (c .if3 .left) in
-    sym (pass-1 (a .table .now) (a .position) s ∙ pass-2 (a .table .now) (a .position) (c .before .if2 .left) last)
+returns-2 c = matched _ _ (c .before .before .place-of .ensures) (c .enum-told .given .1)
 
 pub judge-compare-spec : {M : Type 1} → statement M
 judge-compare-spec =
-    tie.close (tie.spec (λ c κs. search needs) returns returns-2 returns-3 returns-4)
+    tie.close (tie.spec (λ c κs. search needs) (λ c. search needs) (λ c. search needs) returns returns-2)

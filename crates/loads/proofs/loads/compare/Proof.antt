@@ -6,7 +6,8 @@ use borrow.Author.Needs.{needs}
 use Rattle.loads.specs.declared.loads.Loaded.the-variants.{Done}
 use Rattle.loads.specs.Load.{compared}
 use Rattle.loads.proofs.Refused.{table-compared}
-use Rattle.loads.proofs.Place.{Place, done-place, few, fits}
+use Rattle.judging.proofs.Place.{Place, few, fits}
+use Rattle.loads.proofs.Place.{done-place}
 use Rattle.loads.proofs.loads.compare.Statement.{statement}
 use Rattle.loads.proofs.loads.compare.Tie as tie
 

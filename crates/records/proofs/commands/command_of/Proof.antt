@@ -34,4 +34,8 @@ command-of-spec =
     (λ c. in-row (c .match .keys20))
     (λ c. in-row (c .match .keys21))
     (λ c. in-row (c .match .keys22))
+    (λ c. in-row (c .match .keys23))
+    (λ c. in-row (c .match .keys24))
+    (λ c. in-row (c .match .keys25))
+    (λ c. in-row (c .match .keys26))
     (λ c. sym (in-no-row (c .before .args .code) commands Unit (c .match .rest) .1)))

@@ -8,7 +8,7 @@ use Rattle.writes.proofs.writes.change.Statement.{statement}
 use Rattle.writes.proofs.writes.change.Tie as tie
 
 abbrev Inv-loop : tie.InvT-loop
-Inv-loop rec₀ rules sent at i₀ rec i = Making (changed (rules .stored) (rules .kept) (rules .clearable) sent) at 6 rec₀ rec i
+Inv-loop rec₀ rules sent at i₀ rec i = Making (changed rules sent) at 6 rec₀ rec i
 
 abbrev μ-loop : tie.MeasureT-loop
 μ-loop rec₀ rules sent at i₀ rec i = 6 - i

@@ -18,6 +18,9 @@ element-copy-out-result-2 c = search needs
 element-copy-out-result-3 : tie.Need-element-copy-out-result-3
 element-copy-out-result-3 c = search needs
 
+element-copy-out-result-4 : tie.Need-element-copy-out-result-4
+element-copy-out-result-4 c = search needs
+
 returns : tie.Need-returns
 unfolding changed
 returns c = refl
@@ -30,4 +33,5 @@ changed-byte-spec =
     element-copy-out-result
     element-copy-out-result-2
     element-copy-out-result-3
+    element-copy-out-result-4
     returns)

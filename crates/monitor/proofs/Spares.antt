@@ -1,0 +1,136 @@
+-- What a command leaves: every part of a record that lies outside what the command may change. And a record that goes on behind all that a
+-- command may change: the command does to the front what it does without the rest, and leaves the rest.
+-- Assumes nothing.
+use mathlib.Core.Path.{_≡_, refl, sym, ap, ap₂, _∙_}
+use mathlib.Core.Bool.{Bool, true, false, cond}
+use mathlib.Core.List.{List, _++_}
+use Prim.Native.Nat.{ℕ, _+_, _≤_, _<_}
+use native.Mathlib.Omega.{arith}
+use lib.ListN.{length, List·getD-append}
+use Rattle.pec.specs.Words.{payloadRight}
+use Rattle.records.specs.declared.commands.Bare.{Bare}
+use Rattle.records.specs.declared.commands.Bare.the-variants.{Mute, Unmute, Rstcc, Ulrr, Clrcell}
+use Rattle.records.specs.declared.commands.Command.{Command}
+use Rattle.records.specs.declared.commands.Command.the-variants.{Reads, Writes, Bares, Unlisted}
+use Rattle.records.specs.declared.commands.Write.{Write}
+use Rattle.records.specs.declared.record.Part.{Part}
+use Rattle.records.specs.Record.{cells, counter, unlocked, statusBits, bytesOf, byteOf, anew, onBytes}
+use Rattle.writes.specs.Writes.{rulesOf, byRules, opens, written}
+use Rattle.monitor.specs.Effects.{locked, counted, done, keeps}
+use Rattle.records.proofs.Anew.{length-anew, anew-front}
+use Rattle.records.proofs.Parts.{Outside, outside-anew}
+use Rattle.monitor.proofs.Sound.{length-locked, length-counted}
+
+-- ---- what a command may change, beside the counter and the retention byte
+
+abbrev pub sixOf : Write → Part
+sixOf c = record { at = rulesOf c .at; size = 6 }
+
+abbrev pub partOf : Bare → Part
+partOf Mute = statusBits
+partOf Unmute = statusBits
+partOf Rstcc = counter
+partOf Ulrr = unlocked
+partOf Clrcell = cells
+
+-- a part that has no byte of another
+abbrev pub Apart : Part → Part → Type 0
+Apart p q = Outside p (q .at) (q .size)
+
+-- a part that has no byte of what a command may change
+abbrev pub Spares : Command → Part → Type 0
+Spares (Reads q) p = Apart p unlocked
+Spares (Writes c) p = Apart p unlocked × (Apart p counter × Apart p (sixOf c))
+Spares (Bares c) p = Apart p unlocked × (Apart p counter × Apart p (partOf c))
+Spares Unlisted p = Unit {0}
+
+-- ---- such a part stays
+
+module _ (p : Part) where
+  either : (b : Bool) (xs ys r : List ℕ) → bytesOf p xs ≡ bytesOf p r → bytesOf p ys ≡ bytesOf p r → bytesOf p (cond b xs ys) ≡ bytesOf p r
+  either true xs ys r h k = h
+  either false xs ys r h k = k
+
+  locked-spares : (r : List ℕ) → Apart p unlocked → bytesOf p (locked r) ≡ bytesOf p r
+  unfolding locked onBytes
+  locked-spares r h = outside-anew p _ (unlocked .at) (unlocked .size) r h
+
+  counted-spares : (r : List ℕ) → Apart p unlocked → Apart p counter → bytesOf p (counted (locked r)) ≡ bytesOf p r
+  unfolding counted onBytes
+  counted-spares r h k = outside-anew p _ (counter .at) (counter .size) (locked r) k ∙ locked-spares r h
+
+  written-spares : (c : Write) (was : ℕ) (sent r : List ℕ) → Apart p (sixOf c) → bytesOf p (written c was sent r) ≡ bytesOf p r
+  unfolding written byRules
+  written-spares c was sent r h = either (opens (rulesOf c) was) _ r r (outside-anew p _ (rulesOf c .at) 6 r h) refl
+
+  done-spares : (c : Bare) (r : List ℕ) → Apart p (partOf c) → bytesOf p (done c r) ≡ bytesOf p r
+  unfolding done onBytes
+  done-spares Mute r h = outside-anew p _ _ _ r h
+  done-spares Unmute r h = outside-anew p _ _ _ r h
+  done-spares Rstcc r h = outside-anew p _ _ _ r h
+  done-spares Ulrr r h = outside-anew p _ _ _ r h
+  done-spares Clrcell r h = outside-anew p _ _ _ r h
+
+  pub keeps-spares : (c : Command) (eight r : List ℕ) → Spares c p → bytesOf p (keeps c eight r) ≡ bytesOf p r
+  unfolding keeps
+  keeps-spares (Reads q) eight r h = locked-spares r h
+  keeps-spares (Writes c) eight r h =
+      either (payloadRight eight) _ _ r
+      (written-spares c (byteOf unlocked r) eight (counted (locked r)) (h .1 .1) ∙ counted-spares r (h .0) (h .1 .0))
+      (locked-spares r (h .0))
+  keeps-spares (Bares c) eight r h = done-spares c (counted (locked r)) (h .1 .1) ∙ counted-spares r (h .0) (h .1 .0)
+  keeps-spares Unlisted eight r h = refl
+
+-- ---- a record that goes on
+
+-- what a command may change lies before a place
+abbrev pub Before : Command → ℕ → Type 0
+Before (Reads q) n = Unit {0}
+Before (Writes c) n = sixOf c .at + sixOf c .size ≤ n
+Before (Bares c) n = partOf c .at + partOf c .size ≤ n
+Before Unlisted n = Unit {0}
+
+module _ (front rest : List ℕ) (long : unlocked .at + 1 ≤ length front) where
+  either-front : (b : Bool) (xs' ys' : List ℕ) {xs ys : List ℕ} → xs ≡ xs' ++ rest → ys ≡ ys' ++ rest → cond b xs ys ≡ cond b xs' ys' ++ rest
+  either-front true xs' ys' h k = h
+  either-front false xs' ys' h k = k
+
+  locked-front : locked (front ++ rest) ≡ locked front ++ rest
+  unfolding locked onBytes
+  locked-front = anew-front _ (unlocked .at) 1 front rest long
+
+  counted-front : counted (locked (front ++ rest)) ≡ counted (locked front) ++ rest
+  unfolding counted onBytes
+  counted-front = ap counted locked-front ∙ anew-front _ (counter .at) 1 (locked front) rest (omega (arith, length-locked front))
+
+  -- how long what is counted is
+  same : length (counted (locked front)) ≡ length front
+  same = length-counted (locked front) ∙ length-locked front
+
+  was-front : byteOf unlocked (front ++ rest) ≡ byteOf unlocked front
+  unfolding byteOf
+  was-front = List·getD-append front rest 0 (unlocked .at) (omega arith)
+
+  written-front : (c : Write) (was : ℕ) (sent r : List ℕ) → sixOf c .at + sixOf c .size ≤ length r
+      → written c was sent (r ++ rest) ≡ written c was sent r ++ rest
+  unfolding written byRules
+  written-front c was sent r h = either-front (opens (rulesOf c) was) _ r (anew-front _ (rulesOf c .at) 6 r rest h) refl
+
+  done-front : (c : Bare) (r : List ℕ) → partOf c .at + partOf c .size ≤ length r → done c (r ++ rest) ≡ done c r ++ rest
+  unfolding done onBytes
+  done-front Mute r h = anew-front _ _ _ r rest h
+  done-front Unmute r h = anew-front _ _ _ r rest h
+  done-front Rstcc r h = anew-front _ _ _ r rest h
+  done-front Ulrr r h = anew-front _ _ _ r rest h
+  done-front Clrcell r h = anew-front _ _ _ r rest h
+
+  pub keeps-front : (c : Command) (eight : List ℕ) → Before c (length front) → keeps c eight (front ++ rest) ≡ keeps c eight front ++ rest
+  unfolding keeps
+  keeps-front (Reads q) eight h = locked-front
+  keeps-front (Writes c) eight h =
+      either-front (payloadRight eight) _ (locked front)
+      (ap₂ (λ (was : ℕ) (r : List ℕ). written c was eight r) was-front counted-front
+      ∙ written-front c (byteOf unlocked front) eight (counted (locked front)) (omega (arith, same)))
+      locked-front
+  keeps-front (Bares c) eight h = ap (done c) counted-front ∙ done-front c (counted (locked front)) (omega (arith, same))
+  keeps-front Unlisted eight h = refl

@@ -1,0 +1,4 @@
+pub mod Rows
+pub mod Deciding
+pub mod Cells
+pub mod Putting

@@ -1,0 +1,3 @@
+pub mod Switches
+pub mod Table27
+pub mod Outputs
