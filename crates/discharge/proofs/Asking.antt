@@ -23,7 +23,7 @@ use Rattle.judging.proofs.Place.{by-place, as-placed, its-index}
 use Rattle.priorities.specs.declared.outputs.Events.{Events}
 use Rattle.priorities.specs.Outputs.{outputs, countOn}
 use Rattle.discharge.specs.declared.question.Discharged.the-variants.{Refused, On}
-use Rattle.discharge.specs.Question.{lastPhase, phaseRow, outRow, dischargeRefusals, discharged, outAfter}
+use Rattle.discharge.specs.Question.{lastPhase, phaseRow, outRow, dischargeRefusals, discharged, outputsAfter}
 
 module _ {A : Type 0} (table : List ℕ) (position phase room : ℕ) (refused : Refusal → A) (accepted : A) where
   -- what the refusals after the place say
@@ -75,8 +75,8 @@ module _ (table : List ℕ) (position : ℕ) (events : Events) (phase : ℕ) (ou
       ∙ sym (answered table position phase (length out) Refused _ e h room)
 
   pub outputs-put : {after : List ℕ} → after ≡ cond (leb cellCount (length out)) (outputs events phase (lent k table) ++ drop cellCount out) out
-      → after ≡ outAfter table position events phase out
-  unfolding outAfter
+      → after ≡ outputsAfter table position events phase out
+  unfolding outputsAfter
   outputs-put a =
       a
       ∙ ap (λ (b : Bool). cond b (outputs events phase (lent k table) ++ drop cellCount out) out) (le-leb cellCount (length out) room)

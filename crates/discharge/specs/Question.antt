@@ -38,7 +38,7 @@ discharged table position events phase room =
     decide (dischargeRefusals table position phase room) Refused (On (countOn events phase (rowAt recordSize (position - 1) table)))
 
 -- the outputs at the start of a buffer, cell 1's first; bytes past them stay
-unfoldable pub outAfter : List ℕ → ℕ → Events → ℕ → List ℕ → List ℕ
-outAfter table position events phase out =
+unfoldable pub outputsAfter : List ℕ → ℕ → Events → ℕ → List ℕ → List ℕ
+outputsAfter table position events phase out =
     decide (dischargeRefusals table position phase (length out)) (λ n. out)
     (outputs events phase (rowAt recordSize (position - 1) table) ++ drop cellCount out)

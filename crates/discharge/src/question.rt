@@ -1,7 +1,7 @@
 // The question: which outputs of one monitor are on, and which row of Table 27 decided each?
 ghost use mathlib.Core.Path.{_≡_};
 ghost use lib.ListN.{length};
-ghost use Rattle.discharge.specs.Question.{discharged, outAfter};
+ghost use Rattle.discharge.specs.Question.{discharged, outputsAfter};
 use judging::Placed;
 use judging::place_of;
 use priorities::Events;
@@ -29,7 +29,7 @@ pub fn discharge(
     out: &mut [u8],
 ) -> Discharged
     ensures { λ r. ⌜ r ≡ discharged (now (table .entry)) position events phase (length (now (out .entry))) ⌝ }
-    ensures { λ _. ⌜ now (out .exit) ≡ outAfter (now (table .entry)) position events phase (now (out .entry)) ⌝ }
+    ensures { λ _. ⌜ now (out .exit) ≡ outputsAfter (now (table .entry)) position events phase (now (out .entry)) ⌝ }
 {
     match place_of(table, position) {
         Placed::Nowhere(refusal) => Discharged::Refused(refusal),

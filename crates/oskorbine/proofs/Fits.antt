@@ -1,5 +1,5 @@
 -- The parts of every answer fit their bits: a chain has at most 32 monitors, so at most 32 take a frame, no reply has more than 256
--- bytes and no frame more than 260; a window has at most 8, and a summary at most 512 cells. A refusal's number is at most 10. What a
+-- bytes and no frame more than 260; a window has at most 8, a monitor 16 outputs, and a summary at most 512 cells. A refusal's number is at most 10. What a
 -- byte clocked answers is FF or a byte of the state.
 -- Each is shown where no refusal holds, by what the refusals then say.
 -- Assumes nothing.
@@ -14,14 +14,17 @@ use lib.ListN.{length, getD, take, drop, length-take}
 use lib.Seq.{getD-drop}
 use borrow.Author.Tests.{leb-true, not-false}
 use Rattle.laws.specs.Counts.{count}
+use Rattle.laws.specs.Rows.{rowAt}
+use Rattle.laws.specs.Tables.{tabulate}
 use Rattle.refusals.specs.declared.Refusal.{Refusal}
 use Rattle.refusals.specs.declared.Refusal.the-variants.{TableNotSound, FrameShort, CommandWrong, CodeNotListed, LengthWrong, NoRoom, PositionWrong, CountWrong, CodeCleared, NeitherRight}
 use Rattle.refusals.specs.Numbers.{numberOf}
-use Rattle.refusals.specs.Order.{Row, decide}
+use Rattle.refusals.specs.Order.{Row}
 use Rattle.refusals.proofs.Deciding.{Passed}
 use Rattle.wire.proofs.Order.{length-writePayloads}
 use Rattle.records.specs.declared.commands.Command.{Command}
 use Rattle.records.specs.declared.commands.Command.the-variants.{Reads, Writes, Bares, Unlisted}
+use Rattle.records.specs.Record.{recordSize}
 use Rattle.records.specs.Commands.{commands, commandOf, mostMonitors, payloadSize, frameLength}
 use Rattle.monitor.specs.Effects.{takes}
 use Rattle.chain.specs.declared.frames.Answer.the-variants.{Refused}
@@ -32,6 +35,11 @@ use Rattle.judging.specs.Refusals.{commandIn}
 use Rattle.serving.specs.Served.{payloadsIn, takenBy}
 use Rattle.chain.specs.Frame.{frameRefusals, answer}
 use Rattle.judging.proofs.Soundness.{both, is-sound}
+use Rattle.judging.proofs.Decided.{by-passing}
+use Rattle.priorities.specs.declared.outputs.Events.{Events}
+use Rattle.priorities.specs.Outputs.{theCells, countOn}
+use Rattle.discharge.specs.declared.question.Discharged.the-variants.{Refused as Unasked}
+use Rattle.discharge.specs.Question.{dischargeRefusals, discharged}
 use Rattle.releasing.specs.declared.looks.Looked.the-variants.{Refused as Unseen}
 use Rattle.clock_state.specs.declared.state.Kind.{Kind}
 use Rattle.clock_state.specs.declared.state.Kind.the-variants.{Fills, Drains, Still}
@@ -55,7 +63,7 @@ use Rattle.readings.specs.declared.pack_summary.Pack.the-variants.{Refused as U
 use Rattle.readings.specs.Readings.{mostCodes, measured, wholeOf, summaryOf}
 use Rattle.readings.proofs.Sizes.{cells-at-most-codes}
 use Rattle.readings.proofs.Summaries.{cellsOf}
-use Rattle.oskorbine.specs.Packed.{Fit, refused, accepted, frameParts, loadParts, builtParts, checkedParts, portParts, lookedParts}
+use Rattle.oskorbine.specs.Packed.{Fit, refused, accepted, frameParts, loadParts, dischargedParts, builtParts, checkedParts, portParts, lookedParts}
 use Rattle.oskorbine.specs.Volts.{roomRow, summaryParts}
 
 -- ---- of any answer
@@ -79,17 +87,6 @@ refused-fits r = record { number-fits = at-most-ten r; first-fits = omega arith;
     at-most-ten CodeCleared = omega arith
     at-most-ten NeitherRight = omega arith
 
--- what holds of every refusal, and of what is accepted where none holds, holds of the outcome
-decided : {A : Type 0} (P : A → Type 0) (rows : List Row) (refuses : Refusal → A) (a : A) → ((r : Refusal) → P (refuses r)) → (Passed rows → P a)
-    → P (decide rows refuses a)
-unfolding decide
-decided P [] refuses a h k = k tt
-decided P (row ∷ rows) refuses a h k = by (row .holds) refl (λ e. decided P rows refuses a h (λ p. k (e, p)))
-  where
-    by : (x : Bool) → row .holds ≡ x → (row .holds ≡ false → P (decide rows refuses a)) → P (cond x (refuses (row .refusal)) (decide rows refuses a))
-    by true e rest = h (row .refusal)
-    by false e rest = rest e
-
 -- ---- a frame and a release
 
 -- no more are counted than there are
@@ -109,9 +106,21 @@ few-taken c n frame = omega (arith, count-most (takes c) (payloadsIn frame n), l
 pub frame-fits : (table frame : List ℕ) (room : ℕ) → Fit (frameParts (answer table frame room))
 unfolding answer frameRefusals
 frame-fits table frame room =
-    decided (λ x. Fit (frameParts x)) (frameRefusals table frame room) Refused _ refused-fits
+    by-passing (λ x. Fit (frameParts x)) (frameRefusals table frame room) Refused _ refused-fits
     (λ none. let few = is-sound table (not-false (sound table) (none .0)) .few in
     accepted-fits _ _ (omega (arith, few, few-taken (commandIn frame) (monitors table) frame)) (omega (arith, few, reply-short (commandIn frame) (monitors table))))
+
+-- ---- the discharge outputs
+
+few-on : (events : Events) (phase : ℕ) (r : List ℕ) → countOn events phase r ≤ 16
+unfolding countOn theCells tabulate
+few-on events phase r = count-most _ theCells
+
+pub discharge-fits : (table : List ℕ) (position : ℕ) (events : Events) (phase room : ℕ) → Fit (dischargedParts (discharged table position events phase room))
+unfolding discharged
+discharge-fits table position events phase room =
+    by-passing (λ x. Fit (dischargedParts x)) (dischargeRefusals table position phase room) Unasked _ refused-fits
+    (λ none. accepted-fits _ _ (omega (arith, few-on events phase (rowAt recordSize (position - 1) table))) (omega arith))
 
 -- neither of the two holds
 neither : (a b : Bool) → a || b ≡ false → a ≡ false
@@ -121,7 +130,7 @@ neither false b e = refl
 pub release-fits : (s table : List ℕ) → Fit (frameParts (released (clockOf s) table))
 unfolding released releaseRefusals takenOf clockOf
 release-fits s table =
-    decided (λ x. Fit (frameParts x)) (releaseRefusals (clockOf s) table) Refused _ refused-fits
+    by-passing (λ x. Fit (frameParts x)) (releaseRefusals (clockOf s) table) Refused _ refused-fits
     (λ none. let few = is-sound table (not-false (sound table) (neither _ _ (none .0))) .few in
     let taken = count-most (takes (commandIn (clockOf s .head))) (clockOf s .windows) in
     accepted-fits _ _ (omega (arith, taken, chained-few s, length-windows (kindIn s) (seenIn s) (chainedIn s) (registerIn (chainedIn s) s)))
@@ -144,7 +153,7 @@ long Unlisted n = omega arith
 pub built-fits : (code n : ℕ) (values : List ℕ) (room : ℕ) → Fit (builtParts (built code n values room))
 unfolding built buildRefusals
 built-fits code n values room =
-    decided (λ x. Fit (builtParts x)) (buildRefusals code n values room) Unbuilt _ refused-fits
+    by-passing (λ x. Fit (builtParts x)) (buildRefusals code n values room) Unbuilt _ refused-fits
     (λ none. let few = leb-true n mostMonitors (both (leb 1 n) (leb n mostMonitors) (not-false _ (none .1 .0)) .1) in
     accepted-fits 0 _ (omega arith) (omega (arith, few, long (commandOf code commands) n)))
 
@@ -175,7 +184,7 @@ short Still seen n k s h = omega (arith, ap length (still-at seen n k (registerI
 pub look-fits : (s : List ℕ) (position room : ℕ) → Fit (lookedParts (looked (clockOf s) position room))
 unfolding looked lookRefusals windowOf clockOf
 look-fits s position room =
-    decided (λ x. Fit (lookedParts x)) (lookRefusals (clockOf s) position room) Unseen _ refused-fits
+    by-passing (λ x. Fit (lookedParts x)) (lookRefusals (clockOf s) position room) Unseen _ refused-fits
     (λ none. let there = both (leb 1 position) (leb position (chainedIn s)) (not-false _ (none .0)) in
     let first = leb-true 1 position (there .0) in
     let last = leb-true position (chainedIn s) (there .1) in
@@ -217,7 +226,7 @@ whole-cells (m ∷ ms) = refl
 pub few-cells : (codes : List ℤ) → cellsOf (summaryOf codes) ≤ mostCodes
 unfolding summaryOf
 few-cells codes =
-    decided (λ p. cellsOf p ≤ mostCodes) _ Unsummed _ (λ r. omega arith)
+    by-passing (λ p. cellsOf p ≤ mostCodes) _ Unsummed _ (λ r. omega arith)
     (λ none. let few = leb-true (length codes) mostCodes (both (leb 1 (length codes)) _ (not-false _ (none .0)) .1) in
     omega (arith, few, cells-at-most-codes codes, whole-cells (measured codes)))
 
@@ -226,5 +235,5 @@ summary-fits codes room = by (summaryOf codes) (few-cells codes)
   where
     by : (p : Pack) → cellsOf p ≤ mostCodes → Fit (summaryParts p room)
     by (Unsummed r) few = refused-fits r
-    by Nothing few = decided Fit (roomRow room ∷ []) refused _ refused-fits (λ none. accepted-fits 0 0 (omega arith) (omega arith))
-    by (Whole s) few = decided Fit (roomRow room ∷ []) refused _ refused-fits (λ none. accepted-fits 1 (s .cells) (omega arith) (omega arith))
+    by Nothing few = by-passing Fit (roomRow room ∷ []) refused _ refused-fits (λ none. accepted-fits 0 0 (omega arith) (omega arith))
+    by (Whole s) few = by-passing Fit (roomRow room ∷ []) refused _ refused-fits (λ none. accepted-fits 1 (s .cells) (omega arith) (omega arith))

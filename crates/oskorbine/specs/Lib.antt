@@ -1,2 +1,3 @@
 pub mod Packed
+pub mod Events
 pub mod Volts

@@ -13,6 +13,8 @@ use Rattle.chain.specs.declared.frames.Answer.{Answer}
 use Rattle.chain.specs.declared.frames.Answer.the-variants.{Refused, Accepted}
 use Rattle.loads.specs.declared.loads.Loaded.{Loaded}
 use Rattle.loads.specs.Numbers.{loadNumber}
+use Rattle.discharge.specs.declared.question.Discharged.{Discharged}
+use Rattle.discharge.specs.declared.question.Discharged.the-variants.{Refused as Unasked, On}
 use Rattle.releasing.specs.declared.looks.Looked.{Looked}
 use Rattle.releasing.specs.declared.looks.Looked.the-variants.{Refused as Unseen, Holds}
 use Rattle.host.specs.declared.frames.Built.{Built}
@@ -61,6 +63,11 @@ frameParts (Accepted taken reply) = accepted taken reply
 -- a store, a compare and a load have no values
 abbrev pub loadParts : Loaded → Parts
 loadParts l = record { number = loadNumber l; first = 0; second = 0 }
+
+-- the discharge outputs: how many are on
+abbrev pub dischargedParts : Discharged → Parts
+dischargedParts (Unasked r) = refused r
+dischargedParts (On outputs) = accepted outputs 0
 
 -- a host's frame: its length
 abbrev pub builtParts : Built → Parts

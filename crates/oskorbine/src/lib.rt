@@ -2,6 +2,7 @@
 // holds the refusal number and two values (specs/Packed).
 mod cells;
 mod clocks;
+mod discharges;
 mod frames;
 mod hosts;
 mod packing;
@@ -14,6 +15,7 @@ pub use clocks::osk_clock_byte;
 pub use clocks::osk_clock_release;
 pub use clocks::osk_clock_start;
 pub use clocks::osk_clock_window;
+pub use discharges::osk_discharge;
 pub use frames::osk_frame;
 pub use hosts::osk_check;
 pub use hosts::osk_host_frame;

@@ -8,7 +8,7 @@ use Rattle.judging.specs.declared.places.Placed.the-variants.{At}
 use Rattle.judging.specs.Places.{placed}
 use Rattle.judging.proofs.Place.{at-few, at-fits}
 use Rattle.discharge.specs.declared.question.Discharged.the-variants.{Refused}
-use Rattle.discharge.specs.Question.{discharged, outAfter}
+use Rattle.discharge.specs.Question.{discharged, outputsAfter}
 use Rattle.discharge.proofs.Asking.{no-place, phase-wrong, no-room, so-many-on, outputs-put}
 use Rattle.discharge.proofs.question.discharge.Statement.{statement}
 use Rattle.discharge.proofs.question.discharge.Tie as tie
@@ -18,7 +18,7 @@ found : (c : tie.Else2) → placed (c .before .before .before .before .before .b
 found c = sym (c .before .before .before .before .before .place-of .ensures) ∙ c .before .before .before .k .given .1
 
 returns : tie.Need-returns
-unfolding discharged outAfter
+unfolding discharged outputsAfter
 returns c =
     let a = c .before .before .before .before .before .before .before .args in
     let e = sym (c .before .before .before .before .place-of .ensures) ∙ c .before .before .k .given .1 in (
@@ -27,7 +27,7 @@ returns c =
     )
 
 returns-2 : tie.Need-returns-2
-unfolding discharged outAfter
+unfolding discharged outputsAfter
 returns-2 c =
     let a = c .before .before .before .before .before .before .before .before .args in
     let e = sym (c .before .before .before .before .before .place-of .ensures) ∙ c .before .before .before .k .given .1 in (
@@ -45,7 +45,7 @@ part-put-outputs-end : tie.Need-part-put-outputs-end
 part-put-outputs-end c = at-fits _ _ (found c)
 
 returns-3 : tie.Need-returns-3
-unfolding discharged outAfter
+unfolding discharged outputsAfter
 returns-3 c =
     let a = c .before .before .before .before .before .before .args in
     let e = sym (c .before .before .before .place-of .ensures) ∙ c .before .refusal .given .1 in (

@@ -1,0 +1,66 @@
+-- `oskorbine::discharges::osk_discharge` meets its contract, answer by answer: at most sixteen outputs are on.
+-- Assumes nothing.
+use mathlib.Core.Path.{_≡_, sym, ap, _∙_, subst}
+use mathlib.Core.List.{List}
+use Prim.Native.Nat.{ℕ}
+use native.Mathlib.Omega.{arith}
+use lib.ListN.{length}
+use borrow.Author.Needs.{needs}
+use Rattle.priorities.specs.declared.outputs.Events.{Events}
+use Rattle.discharge.specs.declared.question.Discharged.{Discharged}
+use Rattle.discharge.specs.Question.{discharged, outputsAfter}
+use Rattle.oskorbine.specs.Packed.{packed, dischargedParts, Fit}
+use Rattle.oskorbine.proofs.Fits.{discharge-fits}
+use Rattle.oskorbine.proofs.discharges.osk_discharge.Statement.{statement}
+use Rattle.oskorbine.proofs.discharges.osk_discharge.Tie as tie
+
+accepted-requires : tie.Need-accepted-requires
+accepted-requires c κs =
+    let call = c .before .before .before .before .before in
+    let a = call .before .before .before .before .before .args in
+    let fit = subst (λ (x : Discharged). Fit (dischargedParts x)) (sym (call .discharge .ensures .0) ∙ c .before .outputs .given .1) (discharge-fits (a .table .now) (a .position) (call .before .before .events-in .result) (a .phase) (length (a .out .now))) in
+    (fit .first-fits, omega arith)
+
+-- the question as the byte of events asks it
+module _ (table : List ℕ) (position phase : ℕ) (out : List ℕ) {given asked : Events} (e : given ≡ asked) where
+  same-answer : {came told : Discharged} → came ≡ discharged table position given phase (length out) → came ≡ told
+      → packed (dischargedParts told) ≡ packed (dischargedParts (discharged table position asked phase (length out)))
+  same-answer d t =
+      ap (λ (x : Discharged). packed (dischargedParts x)) (sym t ∙ d)
+      ∙ ap (λ (ev : Events). packed (dischargedParts (discharged table position ev phase (length out)))) e
+
+  same-outputs : {after : List ℕ} → after ≡ outputsAfter table position given phase out → after ≡ outputsAfter table position asked phase out
+  same-outputs a = a ∙ ap (λ (ev : Events). outputsAfter table position ev phase out) e
+
+returns : tie.Need-returns
+returns c =
+    let call = c .before .before .before .before .before .before in
+    let a = call .before .before .before .before .before .args in
+    let e = call .before .before .events-in .ensures in (
+      c .refused .ensures ∙ same-answer (a .table .now) (a .position) (a .phase) (a .out .now) e (call .discharge .ensures .0) (c .before .before .refusal .given .1),
+      same-outputs (a .table .now) (a .position) (a .phase) (a .out .now) e (call .discharge .ensures .1),
+    )
+
+returns-2 : tie.Need-returns-2
+returns-2 c =
+    let call = c .before .before .before .before .before .before in
+    let a = call .before .before .before .before .before .args in
+    let e = call .before .before .events-in .ensures in (
+      c .accepted .ensures ∙ same-answer (a .table .now) (a .position) (a .phase) (a .out .now) e (call .discharge .ensures .0) (c .before .before .outputs .given .1),
+      same-outputs (a .table .now) (a .position) (a .phase) (a .out .now) e (call .discharge .ensures .1),
+    )
+
+pub osk-discharge-spec : {M : Type 1} → statement M
+osk-discharge-spec =
+    tie.close
+    (tie.spec
+    (λ c κs. search needs)
+    (λ c κs. search needs)
+    (λ c. search needs)
+    (λ c κs. search needs)
+    (λ c. search needs)
+    accepted-requires
+    (λ c. search needs)
+    returns
+    (λ c. search needs)
+    returns-2)
