@@ -2,13 +2,17 @@
 
 use crate::cells;
 use crate::difference::{listed, refused, Difference, Faults};
-use crate::inputs::{shape, Shape, RECORD};
+use crate::inputs::{at, shape, Shape, RECORD};
 use crate::lent::{Both, Lent};
+use crate::outputs::{self, Question};
 use crate::run::{Done, Run};
 use crate::surface::{self, Function};
 use crate::tally::Situation;
+use model::MUTE_ST;
 
 pub type Answered = Result<u32, Box<Difference>>;
+/// With the bytes of the buffer that the call was lent to write in.
+pub type Written = Result<(u32, Vec<u8>), Box<Difference>>;
 
 /// The reply buffer has `room` bytes.
 pub fn frame(run: &mut Run, table: &mut Both<u8>, frame: &[u8], room: usize) -> Answered {
@@ -40,29 +44,48 @@ pub fn frame_into(run: &mut Run, table: &mut Both<u8>, frame: &[u8], reply: &mut
     if !refused(library) {
         let code = u16::from_be_bytes([frame[0], frame[1]]);
         run.tally.accepted_whole(code);
-        note_effects(run, code, library, table);
+        note_effects(run, frame, library, table);
     }
     Ok(library)
 }
 
+const WRPWMA: u16 = 0x0020;
+const WRPWMB: u16 = 0x0021;
+
 /// Which situations an accepted frame was, read off the table before and after.
-pub fn note_effects(run: &mut Run, code: u16, answer: u32, table: &Both<u8>) {
+pub fn note_effects(run: &mut Run, frame: &[u8], answer: u32, table: &Both<u8>) {
+    let code = u16::from_be_bytes([frame[0], frame[1]]);
     let monitors = table.before.len() / RECORD;
     let took = (answer >> 8 & 0xFF) as usize;
     if shape(code) == Some(Shape::Write) && took < monitors {
         run.tally.saw(if took == 0 { Situation::TakenByNone } else { Situation::TakenBySome });
     }
-    for (before, after) in table.before.chunks(RECORD).zip(table.contents().chunks(RECORD)) {
-        let taken = before[68] != after[68];
-        if before[68] == 63 && after[68] == 1 {
+    for (record, (before, after)) in table.before.chunks(RECORD).zip(table.contents().chunks(RECORD)).enumerate() {
+        let taken = before[at::COUNTER] != after[at::COUNTER];
+        if before[at::COUNTER] == 63 && after[at::COUNTER] == 1 {
             run.tally.saw(Situation::CounterAfter63);
         }
-        if code == 0x0001 && taken && before[5] & 0x10 != 0 {
+        if code == 0x0001 && taken && before[5] & MUTE_ST != 0 {
             run.tally.saw(Situation::WrcfgaWhileMuted);
         }
         if code == 0x0039 && taken {
-            run.tally.saw(if before[69] == 1 { Situation::WrrrStores } else { Situation::WrrrLocked });
+            run.tally.saw(if before[at::UNLOCKED] == 1 { Situation::WrrrStores } else { Situation::WrrrLocked });
         }
+        if let WRPWMA | WRPWMB = code {
+            let sent = &frame[4 + 8 * (monitors - 1 - record)..][..6];
+            note_pwm(run, code, taken, sent, &before[at::PWM_B..]);
+        }
+    }
+}
+
+/// A write to a PWM group, sent with these six bytes where group B held those.
+fn note_pwm(run: &mut Run, code: u16, taken: bool, sent: &[u8], group_b: &[u8]) {
+    const FIXED: [u8; 4] = [0xFF; 4];
+    if !taken {
+        run.tally.saw(Situation::WrpwmDamaged);
+    } else if code == WRPWMB {
+        run.tally.saw_if(Situation::WrpwmbSentOther, sent[2..6] != FIXED);
+        run.tally.saw_if(Situation::WrpwmbMakesFf, group_b[2..6] != FIXED);
     }
 }
 
@@ -124,8 +147,32 @@ pub fn compare(run: &mut Run, table: &mut Both<u8>, position: usize) -> Answered
     Ok(library)
 }
 
-/// The buffer to build in has `room` bytes. Gives the answer and the bytes of the buffer.
-pub fn host_frame(run: &mut Run, command: u16, monitors: usize, values: &[u8], room: usize) -> Result<(u32, Vec<u8>), Box<Difference>> {
+/// The buffer for the outputs has `room` bytes. The table is only read.
+pub fn discharge(run: &mut Run, table: &mut Both<u8>, question: Question, room: usize) -> Written {
+    table.lend();
+    let mut out = reply_buffer(run, room);
+    let Question { position, events, phase } = question;
+    run.begin();
+    let library = surface::discharge(table.library.part(), position, events, phase, out.library.part_mut());
+    let model = model::discharge(&table.model, position, events, phase, &mut out.model);
+
+    let mut faults = Faults::new();
+    faults.answer(library, model);
+    faults.kept("table", &table.library, &table.before);
+    faults.written("out", &out, refused(library));
+    run.settle(Function::Discharge, library, faults, || {
+        vec![("table", listed(&table.before)), ("question", format!("{question:?}")), ("out", listed(&out.before))]
+    })?;
+    if refused(library) {
+        outputs::note_refusal(run, library, &table.before, question, room);
+    } else {
+        outputs::note_outputs(run, &table.before, question, out.contents());
+    }
+    Ok((library, out.contents().to_vec()))
+}
+
+/// The buffer to build in has `room` bytes.
+pub fn host_frame(run: &mut Run, command: u16, monitors: usize, values: &[u8], room: usize) -> Written {
     let lent_values = Lent::new(&mut run.random, values);
     let mut out = reply_buffer(run, room);
     run.begin();

@@ -1,6 +1,6 @@
 //! Which situations an accepted store, compare or load was: cell by cell, read off the table before and after.
 
-use crate::inputs::{limits, CLEARED, RECORD};
+use crate::inputs::{at, limits, CLEARED, RECORD};
 use crate::lent::Both;
 use crate::run::Run;
 use crate::tally::Situation;
@@ -32,39 +32,33 @@ fn cells(table: &Both<u8>, position: usize) -> [Cell; 16] {
     let (before, after) = (&table.before[place.clone()], &table.contents()[place]);
     let (lower, upper) = limits(after);
     std::array::from_fn(|cell| {
-        let code = i16::from_le_bytes([after[12 + 2 * cell], after[13 + 2 * cell]]);
+        let code = i16::from_le_bytes([after[at::CELLS + 2 * cell], after[at::CELLS + 2 * cell + 1]]);
         let below = u8::from(i32::from(code) < lower) * UV;
         let above = u8::from(i32::from(code) > upper) * OV;
-        let flags = |record: &[u8]| record[50 + cell / 4] >> (2 * (cell % 4)) & (UV | OV);
+        let flags = |record: &[u8]| record[at::STATUS_D + cell / 4] >> (2 * (cell % 4)) & (UV | OV);
         Cell { code, due: below | above, before: flags(before), after: flags(after) }
     })
 }
 
-fn saw_if(run: &mut Run, situation: Situation, came_up: bool) {
-    if came_up {
-        run.tally.saw(situation);
-    }
-}
-
 pub fn note_store(run: &mut Run, table: &Both<u8>, position: usize) {
     let cells = cells(table, position);
-    saw_if(run, Situation::StoreFlagsNothing, cells.iter().any(|cell| cell.due & !cell.after != 0));
-    saw_if(run, Situation::StoreKeepsFlag, cells.iter().any(Cell::kept));
+    run.tally.saw_if(Situation::StoreFlagsNothing, cells.iter().any(|cell| cell.due & !cell.after != 0));
+    run.tally.saw_if(Situation::StoreKeepsFlag, cells.iter().any(Cell::kept));
 }
 
 pub fn note_compare(run: &mut Run, table: &Both<u8>, position: usize) {
     let cells = cells(table, position);
-    saw_if(run, Situation::CompareSetsUv, cells.iter().any(|cell| cell.set() & UV != 0));
-    saw_if(run, Situation::CompareSetsOv, cells.iter().any(|cell| cell.set() & OV != 0));
-    saw_if(run, Situation::CompareKeepsFlag, cells.iter().any(Cell::kept));
+    run.tally.saw_if(Situation::CompareSetsUv, cells.iter().any(|cell| cell.set() & UV != 0));
+    run.tally.saw_if(Situation::CompareSetsOv, cells.iter().any(|cell| cell.set() & OV != 0));
+    run.tally.saw_if(Situation::CompareKeepsFlag, cells.iter().any(Cell::kept));
     // Skipping shows only here: the lowest code of all is above no threshold, and below none where VUV is -2048.
-    saw_if(run, Situation::CompareSkipsCleared, cells.iter().any(|cell| cell.code == CLEARED && cell.due & !cell.after != 0));
-    saw_if(run, Situation::CompareChangesNothing, table.contents() == table.before);
+    run.tally.saw_if(Situation::CompareSkipsCleared, cells.iter().any(|cell| cell.code == CLEARED && cell.due & !cell.after != 0));
+    run.tally.saw_if(Situation::CompareChangesNothing, table.contents() == table.before);
 }
 
 pub fn note_load(run: &mut Run, table: &Both<u8>, position: usize) {
     let cells = cells(table, position);
-    saw_if(run, Situation::LoadSetsUv, cells.iter().any(|cell| cell.set() & UV != 0));
-    saw_if(run, Situation::LoadSetsOv, cells.iter().any(|cell| cell.set() & OV != 0));
-    saw_if(run, Situation::LoadKeepsFlag, cells.iter().any(Cell::kept));
+    run.tally.saw_if(Situation::LoadSetsUv, cells.iter().any(|cell| cell.set() & UV != 0));
+    run.tally.saw_if(Situation::LoadSetsOv, cells.iter().any(|cell| cell.set() & OV != 0));
+    run.tally.saw_if(Situation::LoadKeepsFlag, cells.iter().any(Cell::kept));
 }

@@ -2,7 +2,7 @@
 
 use crate::both::{note_effects, Answered};
 use crate::difference::{listed, refused, Difference, Faults};
-use crate::inputs::RECORD;
+use crate::inputs::{at, RECORD};
 use crate::lent::{Both, Lent};
 use crate::run::{Done, Run};
 use crate::surface::{self, Function, CLOCK_STATE};
@@ -162,7 +162,7 @@ impl Clocks {
         if !refused(answer) {
             let code = u16::from_be_bytes([self.came[0], self.came[1]]);
             run.tally.accepted_clocked(code);
-            note_effects(run, code, answer, table);
+            note_effects(run, &self.came, answer, table);
         } else if answer == 1 && sound(&table.before) && self.came.len() >= 4 {
             let unsound = !sound(&self.at_four);
             run.tally.saw(if unsound { Situation::UnsoundAtByteFour } else { Situation::OtherNAtRelease });
@@ -181,5 +181,5 @@ impl Clocks {
 fn sound(table: &[u8]) -> bool {
     let monitors = table.len() / RECORD;
     let length = (1..=32).contains(&monitors) && table.len() % RECORD == 0;
-    length && table.chunks(RECORD).all(|record| record[68] <= 63 && record[69] <= 1)
+    length && table.chunks(RECORD).all(|record| record[at::COUNTER] <= 63 && record[at::UNLOCKED] <= 1)
 }

@@ -1,5 +1,6 @@
 //! What may be wrong after a call, and a difference in full.
 
+use crate::inputs::RECORD;
 use crate::lent::{Both, Item, Lent};
 use std::fmt::{self, Display, Formatter};
 
@@ -80,12 +81,12 @@ fn unlike<T: Item>(library: &[T], other: &[T], other_name: &str) -> String {
     )
 }
 
-/// All elements, in lines; a record of 70 bytes has a line of its own.
+/// All elements, in lines; a record has a line of its own.
 pub fn listed<T: Item>(elements: &[T]) -> String {
     let mut text = format!("{} elements", elements.len());
-    for (line, part) in elements.chunks(70).enumerate() {
+    for (line, part) in elements.chunks(RECORD).enumerate() {
         let words: Vec<String> = part.iter().map(|&element| element.text()).collect();
-        text += &format!("\n        {:>5}: {}", 70 * line, words.join(" "));
+        text += &format!("\n        {:>5}: {}", RECORD * line, words.join(" "));
     }
     text
 }

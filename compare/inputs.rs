@@ -1,13 +1,15 @@
 //! Tables, frames, payloads and codes to try: mostly good ones, and each way in which one can be bad.
 
 use crate::random::Random;
+use model::MUTE_ST;
+pub use model::{at, RECORD};
 
-pub const RECORD: usize = 70;
 pub const MOST: usize = 32;
 pub const CLEARED: i16 = -32768;
+pub const STATUS_D: std::ops::Range<usize> = at::STATUS_D..at::STATUS_D + 6;
 
 /// Every command, in the paper's order: reads, writes, bare ones.
-pub const LISTED: [(u16, &str); 22] = [
+pub const LISTED: [(u16, &str); 26] = [
     (0x0002, "RDCFGA"),
     (0x0026, "RDCFGB"),
     (0x0004, "RDCVA"),
@@ -20,19 +22,23 @@ pub const LISTED: [(u16, &str); 22] = [
     (0x0033, "RDSTATD"),
     (0x002C, "RDSID"),
     (0x003A, "RDRR"),
+    (0x0022, "RDPWMA"),
+    (0x0023, "RDPWMB"),
     (0x0001, "WRCFGA"),
     (0x0024, "WRCFGB"),
     (0x0039, "WRRR"),
     (0x0717, "CLRFLAG"),
     (0x0715, "CLOVUV"),
+    (0x0020, "WRPWMA"),
+    (0x0021, "WRPWMB"),
     (0x0028, "MUTE"),
     (0x0029, "UNMUTE"),
     (0x002E, "RSTCC"),
     (0x0038, "ULRR"),
     (0x0711, "CLRCELL"),
 ];
-const READS: std::ops::Range<usize> = 0..12;
-const WRITES: std::ops::Range<usize> = 12..17;
+const READS: std::ops::Range<usize> = 0..14;
+const WRITES: std::ops::Range<usize> = 14..21;
 
 #[derive(Clone, Copy, PartialEq, Eq)]
 pub enum Shape {
@@ -171,15 +177,15 @@ pub fn record(random: &mut Random) -> Vec<u8> {
         _ => random.bytes(RECORD),
     };
     if random.once_in(2) {
-        record[50..56].fill(0);
+        record[STATUS_D].fill(0);
     }
     if random.once_in(3) {
         let edges = [(-2048, 2047), (2047, -2048), (0, 0), (-1, 0), (0, -1), (-2048, -2048), (2047, 2047), (-1, -1), (100, 100)];
         let (vuv, vov) = random.pick(&edges);
         set_thresholds(&mut record, vuv, vov);
     }
-    record[68] = if random.once_in(2) { random.pick(&[0, 1, 61, 62, 63]) } else { random.below(64) as u8 };
-    record[69] = random.below(2) as u8;
+    record[at::COUNTER] = if random.once_in(2) { random.pick(&[0, 1, 61, 62, 63]) } else { random.below(64) as u8 };
+    record[at::UNLOCKED] = random.below(2) as u8;
     record
 }
 
@@ -194,7 +200,7 @@ fn set_thresholds(record: &mut [u8], vuv: i16, vov: i16) {
 pub fn record_with(random: &mut Random, value: i32, as_vov: bool) -> Vec<u8> {
     let bits = value as u16 & 0xFFF;
     let mut record = record(random);
-    record[50..56].fill(0);
+    record[STATUS_D].fill(0);
     if as_vov {
         record[7] = record[7] & 0x0F | (bits << 4) as u8;
         record[8] = (bits >> 4) as u8;
@@ -216,12 +222,12 @@ pub fn unsound(random: &mut Random) -> Vec<u8> {
     let mut bytes = table(random, monitors);
     match random.below(4) {
         0 => {
-            let at = random.below(monitors) * RECORD + 68;
-            bytes[at] = random.within(64, 255) as u8;
+            let place = random.below(monitors) * RECORD + at::COUNTER;
+            bytes[place] = random.within(64, 255) as u8;
         }
         1 => {
-            let at = random.below(monitors) * RECORD + 69;
-            bytes[at] = random.within(2, 255) as u8;
+            let place = random.below(monitors) * RECORD + at::UNLOCKED;
+            bytes[place] = random.within(2, 255) as u8;
         }
         2 => {
             let monitors = random.pick(&[0, 33, 34, 64, 256]);
@@ -236,6 +242,11 @@ pub fn unsound(random: &mut Random) -> Vec<u8> {
     bytes
 }
 
+/// The refusal to be given for reasons in the paper's order, each with its number: the first that holds, or none.
+pub fn first_of(reasons: &[(bool, u32)]) -> u32 {
+    reasons.iter().find(|(holds, _)| *holds).map_or(0, |(_, number)| *number)
+}
+
 /// The codes that the cells of a record are compared with: 16 VUV and 16 VOV.
 pub fn limits(record: &[u8]) -> (i32, i32) {
     let vuv = i32::from(record[6]) | i32::from(record[7] & 0x0F) << 8;
@@ -244,7 +255,7 @@ pub fn limits(record: &[u8]) -> (i32, i32) {
     (codes(vuv), codes(vov))
 }
 
-/// A position that a chain of so many monitors does not have; one of them times 70 would wrap and lie within the table.
+/// A position that a chain of so many monitors does not have; one of them times a record's bytes would wrap and lie within the table.
 pub fn wrong_position(random: &mut Random, monitors: usize) -> usize {
     random.pick(&[0, monitors + 1, 33, 34, 256, 1 << 32, usize::MAX / RECORD + 2, usize::MAX - 1, usize::MAX])
 }
@@ -276,6 +287,65 @@ pub fn set_cells(random: &mut Random, record: &mut [u8]) {
             7 => random.pick(&[-32767, -32512, 0, 128]),
             _ => code_for(random, record),
         };
-        record[12 + 2 * cell..][..2].copy_from_slice(&code.to_le_bytes());
+        record[at::CELLS + 2 * cell..][..2].copy_from_slice(&code.to_le_bytes());
+    }
+}
+
+/// The duty of a cell, 1 to 16: two cells a byte, an odd one in the low half, the last four in group B.
+pub fn set_duty(record: &mut [u8], cell: usize, duty: u8) {
+    let place = if cell > 12 { at::PWM_B + (cell - 13) / 2 } else { at::PWM_A + (cell - 1) / 2 };
+    let (kept, shift) = if cell % 2 == 1 { (0xF0, 0) } else { (0x0F, 4) };
+    record[place] = record[place] & kept | duty << shift;
+}
+
+pub fn set_mute(record: &mut [u8], muted: bool) {
+    let flags = &mut record[at::CONFIGURATION_A + 5];
+    *flags = *flags & !MUTE_ST | if muted { MUTE_ST } else { 0 };
+}
+
+/// Two bytes of DCC bits, cell 1 lowest.
+pub fn set_dcc(record: &mut [u8], dcc: u16) {
+    record[at::CONFIGURATION_B + 4..][..2].copy_from_slice(&dcc.to_le_bytes());
+}
+
+/// What a question in this phase may find: DCC bits none, one, some or all, duties at, beside and far from the phase, seldom a mute.
+pub fn set_discharge(random: &mut Random, record: &mut [u8], phase: u8) {
+    let phase = phase.min(14);
+    let muted = random.once_in(5);
+    set_mute(record, muted);
+    let dcc = match random.below(4) {
+        0 => random.pick(&[0, 0xFFFF]),
+        1 => 1 << random.below(16),
+        2 => random.next() as u16 & random.next() as u16,
+        _ => random.next() as u16,
+    };
+    set_dcc(record, dcc);
+    for cell in 1..=16 {
+        let any = random.below(16) as u8;
+        let duty = random.pick(&[0, phase, phase + 1, 15, any, any]);
+        set_duty(record, cell, duty);
+    }
+}
+
+/// A sound table whose monitors are to be asked in this phase.
+pub fn discharging(random: &mut Random, monitors: usize, phase: u8) -> Vec<u8> {
+    let mut bytes = table(random, monitors);
+    for record in bytes.chunks_mut(RECORD) {
+        set_discharge(random, record, phase);
+    }
+    bytes
+}
+
+/// Events of a question: none, one or several, with any bits above them or none.
+pub fn events(random: &mut Random) -> u8 {
+    let events = match random.below(3) {
+        0 => 0,
+        1 => 1 << random.below(4),
+        _ => random.byte() & 0x0F,
+    };
+    if random.once_in(2) {
+        events
+    } else {
+        events | random.byte() & 0xF0
     }
 }

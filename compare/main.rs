@@ -4,10 +4,12 @@
 mod both;
 mod cases;
 mod cells;
+mod chain;
 mod clocks;
 mod difference;
 mod inputs;
 mod lent;
+mod outputs;
 mod random;
 mod run;
 mod surface;
@@ -91,7 +93,7 @@ fn number(text: &str) -> Option<u64> {
     }
 }
 
-/// The header declares exactly the functions that are compared here, and the state's length as it is written here.
+/// The header declares exactly the functions that are compared here, and defines its numbers as they are written here.
 fn header_is_as_declared() -> Result<(), String> {
     let declared: Vec<&str> =
         HEADER.lines().filter(|line| line.ends_with(");")).filter_map(|line| line.split('(').next()?.split(' ').next_back()).collect();
@@ -99,9 +101,13 @@ fn header_is_as_declared() -> Result<(), String> {
     if declared != compared {
         return Err(format!("include/oskorbine.h declares {declared:?}, and this program compares {compared:?}"));
     }
-    let length = format!("#define OSK_CLOCK_STATE {}", surface::CLOCK_STATE);
-    if !HEADER.lines().any(|line| line == length) {
-        return Err(format!("include/oskorbine.h has no line '{length}'"));
+    let defined = [
+        format!("#define OSK_RECORD_SIZE {}", inputs::RECORD),
+        format!("#define OSK_OUTPUT_ON {:#x}", model::OUTPUT_ON),
+        format!("#define OSK_CLOCK_STATE {}", surface::CLOCK_STATE),
+    ];
+    match defined.iter().find(|&wanted| HEADER.lines().all(|line| line != wanted)) {
+        Some(missing) => Err(format!("include/oskorbine.h has no line '{missing}'")),
+        None => Ok(()),
     }
-    Ok(())
 }

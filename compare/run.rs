@@ -1,9 +1,10 @@
 //! One run: its generator, what it tried, and how a call is settled.
 
-use crate::difference::{refused, Difference, Faults};
+use crate::difference::{listed, refused, Difference, Faults};
 use crate::random::Random;
 use crate::surface::Function;
 use crate::tally::Tally;
+use std::fmt::Debug;
 use std::sync::atomic::{AtomicU64, Ordering};
 
 /// Calls begun, kept where a panic can still name the case.
@@ -52,4 +53,14 @@ impl Run {
             faults,
         }))
     }
+}
+
+/// What a call was made for is not only what the model says of it: found and expected must be the same.
+pub fn expect<T: PartialEq + Debug>(run: &mut Run, function: Function, (found, expected): (T, T), lent: &[u8], position: usize) -> Done {
+    if found != expected {
+        let mut faults = Faults::new();
+        faults.add(format!("library and model {found:02X?}, expected {expected:02X?}"));
+        run.settle(function, 0, faults, || vec![("table", listed(lent)), ("position", position.to_string())])?;
+    }
+    Ok(())
 }

@@ -1,4 +1,4 @@
-//! The fourteen functions of include/oskorbine.h, behind safe wrappers: a slice is a pointer and a length that belong together, and Rust
+//! The fifteen functions of include/oskorbine.h, behind safe wrappers: a slice is a pointer and a length that belong together, and Rust
 //! sees to it that a written one overlaps no other. An empty slice must still have a real address (the header asks for it), so callers
 //! take theirs from `Lent`.
 
@@ -11,6 +11,7 @@ pub enum Function {
     Store,
     Compare,
     Load,
+    Discharge,
     HostFrame,
     Check,
     TwoPorts,
@@ -24,11 +25,12 @@ pub enum Function {
 }
 
 impl Function {
-    pub const ALL: [Function; 14] = [
+    pub const ALL: [Function; 15] = [
         Function::Frame,
         Function::Store,
         Function::Compare,
         Function::Load,
+        Function::Discharge,
         Function::HostFrame,
         Function::Check,
         Function::TwoPorts,
@@ -47,6 +49,7 @@ impl Function {
             Function::Store => "osk_store",
             Function::Compare => "osk_compare",
             Function::Load => "osk_load",
+            Function::Discharge => "osk_discharge",
             Function::HostFrame => "osk_host_frame",
             Function::Check => "osk_check",
             Function::TwoPorts => "osk_two_ports",
@@ -66,6 +69,7 @@ impl Function {
             Function::Frame => &[1, 2, 3, 4, 5, 6],
             Function::Store | Function::Load => &[1, 7, 8, 9],
             Function::Compare => &[1, 7],
+            Function::Discharge => &[1, 6, 7],
             Function::HostFrame => &[4, 6, 7, 8],
             Function::Check => &[5],
             Function::TwoPorts => &[5, 7, 10],
@@ -90,6 +94,15 @@ mod c {
         pub fn osk_store(table: *mut u8, table_length: usize, position: usize, codes: *const i16, codes_length: usize) -> u32;
         pub fn osk_compare(table: *mut u8, table_length: usize, position: usize) -> u32;
         pub fn osk_load(table: *mut u8, table_length: usize, position: usize, codes: *const i16, codes_length: usize) -> u32;
+        pub fn osk_discharge(
+            table: *const u8,
+            table_length: usize,
+            position: usize,
+            events: u8,
+            phase: u8,
+            out: *mut u8,
+            out_length: usize,
+        ) -> u32;
         pub fn osk_host_frame(
             command: u16,
             monitors: usize,
@@ -124,6 +137,10 @@ pub fn compare(table: &mut [u8], position: usize) -> u32 {
 
 pub fn load(table: &mut [u8], position: usize, codes: &[i16]) -> u32 {
     unsafe { c::osk_load(table.as_mut_ptr(), table.len(), position, codes.as_ptr(), codes.len()) }
+}
+
+pub fn discharge(table: &[u8], position: usize, events: u8, phase: u8, out: &mut [u8]) -> u32 {
+    unsafe { c::osk_discharge(table.as_ptr(), table.len(), position, events, phase, out.as_mut_ptr(), out.len()) }
 }
 
 pub fn host_frame(command: u16, monitors: usize, values: &[u8], out: &mut [u8]) -> u32 {

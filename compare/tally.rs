@@ -10,68 +10,84 @@ const AT_LEAST: u64 = 50;
 /// Its answers are not compared, so they do not count as tried.
 pub const NEVER_STARTED: &str = "never started";
 
-/// Situations that the answers alone do not show.
-#[derive(Clone, Copy, PartialEq, Eq, PartialOrd, Ord, Debug)]
-pub enum Situation {
-    TakenBySome,
-    TakenByNone,
-    CounterAfter63,
-    WrcfgaWhileMuted,
-    WrrrStores,
-    WrrrLocked,
-    StoreFlagsNothing,
-    StoreKeepsFlag,
-    CompareSetsUv,
-    CompareSetsOv,
-    CompareKeepsFlag,
-    CompareSkipsCleared,
-    CompareChangesNothing,
-    CompareByLaterThresholds,
-    CompareAfterClrcell,
-    LoadSetsUv,
-    LoadSetsOv,
-    LoadKeepsFlag,
-    PayloadRight,
-    PayloadDamaged,
-    PortA,
-    PortB,
-    Summary,
-    SummaryOfNone,
-    WindowPartlyFull,
-    OtherNAtRelease,
-    UnsoundAtByteFour,
+macro_rules! situations {
+    ($($name:ident: $words:literal,)*) => {
+        #[derive(Clone, Copy, PartialEq, Eq, PartialOrd, Ord, Debug)]
+        pub enum Situation {
+            $($name),*
+        }
+
+        impl Situation {
+            const ALL: &[(Situation, &'static str)] = &[$((Situation::$name, $words)),*];
+        }
+    };
 }
 
-impl Situation {
-    const ALL: [(Situation, &'static str); 27] = [
-        (Situation::TakenBySome, "a write taken by some monitors only"),
-        (Situation::TakenByNone, "a write taken by none"),
-        (Situation::CounterAfter63, "a counter of 63 becomes 1"),
-        (Situation::WrcfgaWhileMuted, "WRCFGA taken while muted"),
-        (Situation::WrrrStores, "WRRR stores"),
-        (Situation::WrrrLocked, "WRRR taken while locked"),
-        (Situation::StoreFlagsNothing, "a store of a code past a threshold, where no flag stands"),
-        (Situation::StoreKeepsFlag, "a store leaves a flag of a cell within its thresholds"),
-        (Situation::CompareSetsUv, "a compare sets UV"),
-        (Situation::CompareSetsOv, "a compare sets OV"),
-        (Situation::CompareKeepsFlag, "a compare leaves a flag of a cell within its thresholds"),
-        (Situation::CompareSkipsCleared, "a compare skips a cleared cell that lies below the lower threshold"),
-        (Situation::CompareChangesNothing, "a compare changes nothing"),
-        (Situation::CompareByLaterThresholds, "a compare goes by thresholds written after the store"),
-        (Situation::CompareAfterClrcell, "a compare finds the stored cells cleared"),
-        (Situation::LoadSetsUv, "a load sets UV"),
-        (Situation::LoadSetsOv, "a load sets OV"),
-        (Situation::LoadKeepsFlag, "a load leaves a flag of a cell within its thresholds"),
-        (Situation::PayloadRight, "a payload is right"),
-        (Situation::PayloadDamaged, "a payload is damaged"),
-        (Situation::PortA, "port A is chosen"),
-        (Situation::PortB, "port B is chosen"),
-        (Situation::Summary, "a summary"),
-        (Situation::SummaryOfNone, "a summary of none"),
-        (Situation::WindowPartlyFull, "a window holds 1 to 7 bytes"),
-        (Situation::OtherNAtRelease, "a release with a table of another N"),
-        (Situation::UnsoundAtByteFour, "a release after an unsound table at byte four"),
-    ];
+// Situations that the answers alone do not show.
+situations! {
+    TakenBySome: "a write taken by some monitors only",
+    TakenByNone: "a write taken by none",
+    CounterAfter63: "a counter of 63 becomes 1",
+    WrcfgaWhileMuted: "WRCFGA taken while muted",
+    WrrrStores: "WRRR stores",
+    WrrrLocked: "WRRR taken while locked",
+    WrpwmDamaged: "a WRPWMA or WRPWMB whose payload is damaged",
+    WrpwmbSentOther: "WRPWMB taken with something other than FF for bytes 2 to 5",
+    WrpwmbMakesFf: "WRPWMB makes FF of bytes 2 to 5 that were something else",
+    StoreFlagsNothing: "a store of a code past a threshold, where no flag stands",
+    StoreKeepsFlag: "a store leaves a flag of a cell within its thresholds",
+    CompareSetsUv: "a compare sets UV",
+    CompareSetsOv: "a compare sets OV",
+    CompareKeepsFlag: "a compare leaves a flag of a cell within its thresholds",
+    CompareSkipsCleared: "a compare skips a cleared cell that lies below the lower threshold",
+    CompareChangesNothing: "a compare changes nothing",
+    CompareByLaterThresholds: "a compare goes by thresholds written after the store",
+    CompareAfterClrcell: "a compare finds the stored cells cleared",
+    LoadSetsUv: "a load sets UV",
+    LoadSetsOv: "a load sets OV",
+    LoadKeepsFlag: "a load leaves a flag of a cell within its thresholds",
+    Row7: "row 7 decides an output",
+    Row6: "row 6 decides an output",
+    Row5: "row 5 decides an output",
+    Row4: "row 4 decides an output, which is on",
+    Row3: "row 3 decides an output",
+    Row2: "row 2 decides an output",
+    Row1On: "row 1 decides an output, which is on",
+    Row1Off: "row 1 decides an output, which is off",
+    Row7WhileMuted: "row 7 decides while MUTE_ST is set",
+    MuteHoldsDcc: "a mute holds off an output that row 4 would have on",
+    MuteHoldsPwm: "a mute holds off an output that row 1 would have on",
+    WrcfgbHoldsDcc: "row 5 holds off an output that row 4 would have on",
+    DccInMeasurement: "row 4 decides in a measurement",
+    DccInWrpwm: "row 4 decides while a PWM group is being written",
+    DccOfOthersOnly: "rows 3 to 1 decide where only other cells have their DCC bits set",
+    PwmHeldOff: "row 3 or 2 holds off an output that row 1 would have on",
+    NothingToHoldOff: "row 3 or 2 decides where the duty is 0",
+    PhaseAtDuty: "row 1 decides in the phase that equals the duty",
+    PhaseOneBelow: "row 1 decides in the phase one below the duty",
+    Duty0: "row 1 decides a duty of 0",
+    Duty15InLastPhase: "row 1 decides a duty of 15 in phase 14",
+    HalfMatters: "row 1 decides otherwise than by the other half of the byte",
+    GroupMatters: "row 1 decides cell 13 to 16 otherwise than by group A",
+    EventBitsAbove: "a question with bits set above its events",
+    QuestionPosition: "a question refused for its position alone",
+    QuestionPhase: "a question refused for its phase alone",
+    QuestionPositionAndPhase: "a question refused for its position, with a wrong phase",
+    QuestionBeforeRoom: "a question refused with 7, with too little room",
+    QuestionUnsoundBeforeAll: "a question refused with 1, with a wrong phase and too little room",
+    MutedAndUnmuted: "outputs on before MUTE, none after it, and the same as before after UNMUTE",
+    AnswerByWrpwma: "a question is answered otherwise after WRPWMA",
+    AnswerByWrpwmb: "a question is answered otherwise after WRPWMB",
+    AnswerByWrcfgb: "a question is answered otherwise after WRCFGB",
+    PayloadRight: "a payload is right",
+    PayloadDamaged: "a payload is damaged",
+    PortA: "port A is chosen",
+    PortB: "port B is chosen",
+    Summary: "a summary",
+    SummaryOfNone: "a summary of none",
+    WindowPartlyFull: "a window holds 1 to 7 bytes",
+    OtherNAtRelease: "a release with a table of another N",
+    UnsoundAtByteFour: "a release after an unsound table at byte four",
 }
 
 /// Accepted calls at 0, refusals at their number.
@@ -108,6 +124,12 @@ impl Tally {
 
     pub fn saw(&mut self, situation: Situation) {
         *self.situations.entry(situation).or_default() += 1;
+    }
+
+    pub fn saw_if(&mut self, situation: Situation, came_up: bool) {
+        if came_up {
+            self.saw(situation);
+        }
     }
 
     pub fn accepted_whole(&mut self, code: u16) {
@@ -162,7 +184,7 @@ impl Tally {
             want(self.clocked[place], format!("{name} ({code:04X}) accepted at a release"));
         }
         for (situation, name) in Situation::ALL {
-            want(self.situations.get(&situation).copied().unwrap_or(0), name.to_string());
+            want(self.situations.get(situation).copied().unwrap_or(0), name.to_string());
         }
         seldom
     }

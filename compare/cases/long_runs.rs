@@ -1,13 +1,10 @@
-//! Lists of events on one chain: the same frames, stores, compares and loads by four ways (the library whole and clocked, the model whole
-//! and clocked), whose tables must be one and the same after each event.
+//! Lists of events on one chain: the same frames, stores, compares, loads and questions by four ways (the library whole and clocked, the
+//! model whole and clocked), whose tables must be one and the same after each event.
 
-use crate::both::{compare, frame_into, load, reply_buffer, store};
-use crate::clocks::Clocks;
-use crate::difference::{listed, refused, Difference, Faults};
-use crate::inputs::{self, Shape, MOST, RECORD};
-use crate::lent::{Both, Lent};
+use crate::chain::Chain;
+use crate::inputs::{self, at, MOST, RECORD, STATUS_D};
+use crate::outputs::Question;
 use crate::run::{Done, Run};
-use crate::surface::Function;
 use crate::tally::Situation;
 
 const RDSTATD: u16 = 0x0033;
@@ -30,10 +27,14 @@ fn long_run(run: &mut Run, monitors: usize, events: usize) -> Done {
             let beyond = usize::from(run.random.once_in(9));
             let position = run.random.within(1, monitors + beyond);
             let codes = chain.codes_for(run, position.min(monitors));
-            match run.random.below(3) {
+            match run.random.below(4) {
                 0 => chain.store(run, position, &codes)?,
                 1 => chain.compare(run, position)?,
-                _ => chain.load(run, position, &codes)?,
+                2 => chain.load(run, position, &codes)?,
+                _ => {
+                    let (events, phase) = (inputs::events(&mut run.random), run.random.below(16) as u8);
+                    chain.discharge(run, Question { position, events, phase })?;
+                }
             }
         } else {
             let frame = inputs::frame(&mut run.random, monitors);
@@ -51,7 +52,7 @@ fn compared_later(run: &mut Run) -> Done {
         let position = run.random.within(1, monitors);
         let codes = chain.codes_for(run, position);
         chain.store(run, position, &codes)?;
-        let mut at_once = chain.whole.contents().to_vec();
+        let mut at_once = chain.table().to_vec();
         model::compare(&mut at_once, position);
 
         for _ in 0..run.random.within(1, 3) {
@@ -62,95 +63,13 @@ fn compared_later(run: &mut Run) -> Done {
         chain.compare(run, position)?;
 
         let record = RECORD * (position - 1)..RECORD * position;
-        let (at_once, later) = (&at_once[record.clone()], &chain.whole.contents()[record]);
-        if at_once[50..54] != later[50..54] {
-            let cells_stand = at_once[12..44] == later[12..44];
+        let (at_once, later) = (&at_once[record.clone()], &chain.table()[record]);
+        if at_once[STATUS_D] != later[STATUS_D] {
+            let cells_stand = at_once[at::CELLS..at::STATUS_C] == later[at::CELLS..at::STATUS_C];
             run.tally.saw(if cells_stand { Situation::CompareByLaterThresholds } else { Situation::CompareAfterClrcell });
         }
         let frame = inputs::frame_of(&mut run.random, RDSTATD, monitors);
         chain.frame(run, &frame)?;
     }
     Ok(())
-}
-
-/// One chain twice: a table that is lent with whole frames, and one whose frames are clocked.
-struct Chain {
-    whole: Both<u8>,
-    clocked: Both<u8>,
-    clocks: Clocks,
-    monitors: usize,
-}
-
-impl Chain {
-    fn new(run: &mut Run, monitors: usize) -> Result<Chain, Box<Difference>> {
-        let bytes = inputs::table(&mut run.random, monitors);
-        let whole = Both::new(&mut run.random, &bytes);
-        let clocked = Both::new(&mut run.random, &bytes);
-        Ok(Chain { whole, clocked, clocks: Clocks::new(run)?, monitors })
-    }
-
-    fn codes_for(&self, run: &mut Run, position: usize) -> Vec<i16> {
-        inputs::codes_for(&mut run.random, &self.whole.contents()[RECORD * (position - 1)..])
-    }
-
-    fn store(&mut self, run: &mut Run, position: usize, codes: &[i16]) -> Done {
-        store(run, &mut self.whole, position, codes)?;
-        let answer = store(run, &mut self.clocked, position, codes)?;
-        self.same(run, Function::Store, answer, position)
-    }
-
-    fn compare(&mut self, run: &mut Run, position: usize) -> Done {
-        compare(run, &mut self.whole, position)?;
-        let answer = compare(run, &mut self.clocked, position)?;
-        self.same(run, Function::Compare, answer, position)
-    }
-
-    fn load(&mut self, run: &mut Run, position: usize, codes: &[i16]) -> Done {
-        load(run, &mut self.whole, position, codes)?;
-        let answer = load(run, &mut self.clocked, position, codes)?;
-        self.same(run, Function::Load, answer, position)
-    }
-
-    fn same(&self, run: &mut Run, function: Function, answer: u32, position: usize) -> Done {
-        let mut faults = Faults::new();
-        self.compare_tables(&mut faults);
-        if !faults.none() {
-            run.settle(function, answer, faults, || vec![("table", listed(&self.clocked.before)), ("position", position.to_string())])?;
-        }
-        Ok(())
-    }
-
-    fn compare_tables(&self, faults: &mut Faults) {
-        let (whole, clocked) = (self.whole.contents(), self.clocked.contents());
-        if whole != clocked {
-            faults.add(format!("table: whole {}, clocked {}", listed(whole), listed(clocked)));
-        }
-    }
-
-    fn frame(&mut self, run: &mut Run, frame: &[u8]) -> Done {
-        let mut reply = reply_buffer(run, 8 * self.monitors);
-        let answer = frame_into(run, &mut self.whole, frame, &mut reply)?;
-
-        let table = self.clocked.contents().to_vec();
-        let lent = Lent::new(&mut run.random, &table);
-        let mut answered = Vec::with_capacity(frame.len());
-        for &byte in frame {
-            answered.push(self.clocks.byte(run, &lent, &table, byte)?);
-        }
-        let release = self.clocks.release(run, &mut self.clocked)?;
-
-        let mut faults = Faults::new();
-        if answer != release {
-            faults.add(format!("answer: whole {answer:#010x}, clocked {release:#010x}"));
-        }
-        self.compare_tables(&mut faults);
-        let read = !refused(answer) && inputs::shape(u16::from_be_bytes([frame[0], frame[1]])) == Some(Shape::Read);
-        if read && answered[4..] != *reply.contents() {
-            faults.add(format!("reply: whole {}, clocked {}", listed(reply.contents()), listed(&answered[4..])));
-        }
-        if !faults.none() {
-            run.settle(Function::ClockRelease, release, faults, || vec![("table", listed(&table)), ("frame", listed(frame))])?;
-        }
-        Ok(())
-    }
 }

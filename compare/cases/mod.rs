@@ -1,6 +1,7 @@
 //! The kinds of case, one file each. A round runs every kind once; what is random in them differs from round to round.
 
 mod clocked;
+mod discharge;
 mod frames;
 mod host_frames;
 mod loads;
@@ -14,11 +15,12 @@ mod tables;
 use crate::run::{Done, Run};
 use crate::tally::NEVER_STARTED;
 
-pub const KINDS: [(&str, fn(&mut Run) -> Done); 10] = [
+pub const KINDS: [(&str, fn(&mut Run) -> Done); 11] = [
     ("frames", frames::cases),
     ("tables", tables::cases),
     ("stores", stores::cases),
     ("loads", loads::cases),
+    ("discharge", discharge::cases),
     ("host frames", host_frames::cases),
     ("payloads", payloads::cases),
     ("readings", readings::cases),

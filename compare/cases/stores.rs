@@ -1,10 +1,10 @@
 //! Stores and compares, each alone and one after the other; what comes to a load is tried with the loads.
 
-use crate::both::{compare, store, Answered};
+use crate::both::{compare, store};
 use crate::difference::{listed, Faults};
-use crate::inputs::{self, CLEARED, MOST, RECORD};
+use crate::inputs::{self, first_of, CLEARED, MOST, RECORD};
 use crate::lent::Both;
-use crate::run::{Done, Run};
+use crate::run::{expect, Done, Run};
 use crate::surface::Function;
 
 pub fn cases(run: &mut Run) -> Done {
@@ -90,9 +90,8 @@ fn in_any_order(run: &mut Run) -> Done {
 fn every_refusal(run: &mut Run) -> Done {
     for reasons in 0..16 {
         let [unsound, position_wrong, count_wrong, cleared] = [0, 1, 2, 3].map(|reason| reasons >> reason & 1 == 1);
-        let first = |orders: &[(bool, u32)]| orders.iter().find(|(holds, _)| *holds).map_or(0, |(_, number)| *number);
-        let of_store = first(&[(unsound, 1), (position_wrong, 7), (count_wrong, 8), (cleared, 9)]);
-        let of_compare = first(&[(unsound, 1), (position_wrong, 7)]);
+        let of_store = first_of(&[(unsound, 1), (position_wrong, 7), (count_wrong, 8), (cleared, 9)]);
+        let of_compare = first_of(&[(unsound, 1), (position_wrong, 7)]);
         for _ in 0..100 {
             let monitors = run.random.within(1, MOST);
             let bytes = if unsound { inputs::unsound(&mut run.random) } else { any_table(run, monitors) };
@@ -104,23 +103,12 @@ fn every_refusal(run: &mut Run) -> Done {
                 codes[run.random.below(count)] = CLEARED;
             }
             let mut table = Both::new(&mut run.random, &bytes);
-            let answer = store(run, &mut table, position, &codes);
-            expect(run, Function::Store, answer, of_store, &bytes, position)?;
+            let answer = store(run, &mut table, position, &codes)?;
+            expect(run, Function::Store, (answer, of_store), &bytes, position)?;
             let mut table = Both::new(&mut run.random, &bytes);
-            let answer = compare(run, &mut table, position);
-            expect(run, Function::Compare, answer, of_compare, &bytes, position)?;
+            let answer = compare(run, &mut table, position)?;
+            expect(run, Function::Compare, (answer, of_compare), &bytes, position)?;
         }
-    }
-    Ok(())
-}
-
-/// What the call was made for is not only what the model says of it.
-fn expect(run: &mut Run, function: Function, answer: Answered, expected: u32, lent: &[u8], position: usize) -> Done {
-    let answer = answer?;
-    if answer != expected {
-        let mut faults = Faults::new();
-        faults.add(format!("answer: library and model {answer:#010x}, expected {expected}"));
-        run.settle(function, answer, faults, || vec![("table", listed(lent)), ("position", position.to_string())])?;
     }
     Ok(())
 }

@@ -1,9 +1,10 @@
-//! What makes a table sound: its length, and two bytes of each record. Tried on each of the six functions that are lent a table.
+//! What makes a table sound: its length, and two bytes of each record. Tried on each of the seven functions that are lent a table.
 
-use crate::both::{compare, frame, load, store};
+use crate::both::{compare, discharge, frame, load, store};
 use crate::clocks::Clocks;
-use crate::inputs::{self, head, MOST, RECORD};
+use crate::inputs::{self, at, head, MOST, RECORD};
 use crate::lent::{Both, Lent};
+use crate::outputs::{Question, OUTPUTS};
 use crate::run::{Done, Run};
 
 const RSTCC: u16 = 0x002E;
@@ -15,7 +16,7 @@ pub fn cases(run: &mut Run) -> Done {
     each_record(run, &mut clocks)
 }
 
-/// A bare command, a store, a compare, a load, and a bare command clocked with this table at byte four and at the release.
+/// A bare command, a store, a compare, a load, a question, and a bare command clocked with this table at byte four and at the release.
 fn try_table(run: &mut Run, clocks: &mut Clocks, bytes: &[u8]) -> Done {
     let mut table = Both::new(&mut run.random, bytes);
     frame(run, &mut table, &head(RSTCC), 0)?;
@@ -25,6 +26,8 @@ fn try_table(run: &mut Run, clocks: &mut Clocks, bytes: &[u8]) -> Done {
     compare(run, &mut table, 1)?;
     let mut table = Both::new(&mut run.random, bytes);
     load(run, &mut table, 1, &[0; 16])?;
+    let mut table = Both::new(&mut run.random, bytes);
+    discharge(run, &mut table, Question { position: 1, events: 0, phase: 0 }, OUTPUTS)?;
 
     let lent = Lent::new(&mut run.random, bytes);
     for byte in head(RSTCC) {
@@ -49,7 +52,7 @@ fn lengths(run: &mut Run, clocks: &mut Clocks) -> Done {
 /// Every value of the counter and of byte 69, at any record.
 fn each_value(run: &mut Run, clocks: &mut Clocks) -> Done {
     for value in 0..=255 {
-        for place in [68, 69] {
+        for place in [at::COUNTER, at::UNLOCKED] {
             let monitors = run.random.within(1, MOST);
             let mut bytes = inputs::table(&mut run.random, monitors);
             bytes[run.random.below(monitors) * RECORD + place] = value;
@@ -63,13 +66,13 @@ fn each_value(run: &mut Run, clocks: &mut Clocks) -> Done {
 fn each_record(run: &mut Run, clocks: &mut Clocks) -> Done {
     for record in 0..MOST {
         let mut bytes = inputs::table(&mut run.random, MOST);
-        for (place, wrong) in [(68, 64), (69, 2)] {
-            let at = record * RECORD + place;
-            let right = std::mem::replace(&mut bytes[at], wrong);
+        for (place, wrong) in [(at::COUNTER, 64), (at::UNLOCKED, 2)] {
+            let judged = record * RECORD + place;
+            let right = std::mem::replace(&mut bytes[judged], wrong);
             try_table(run, clocks, &bytes)?;
-            bytes[at] = right;
+            bytes[judged] = right;
         }
-        for place in 0..68 {
+        for place in (0..RECORD).filter(|place| ![at::COUNTER, at::UNLOCKED].contains(place)) {
             bytes[record * RECORD + place] = 0xFF;
         }
         try_table(run, clocks, &bytes)?;

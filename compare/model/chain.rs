@@ -96,9 +96,16 @@ pub fn compare(table: &mut [u8], position: usize) -> u32 {
 }
 
 fn record_at(table: &mut [u8], position: usize) -> Result<&mut Record, Refusal> {
+    let index = index_of(table, position)?;
+    Ok(&mut records_mut(table)[index])
+}
+
+/// Which record of a table the monitor at a position, 1 to N, has: refusals 1 and 7.
+pub fn index_of(table: &[u8], position: usize) -> Result<usize, Refusal> {
     let monitors = sound(table)?;
-    if !(1..=monitors).contains(&position) {
-        return Err(Refusal::PositionWrong);
+    if (1..=monitors).contains(&position) {
+        Ok(position - 1)
+    } else {
+        Err(Refusal::PositionWrong)
     }
-    Ok(&mut records_mut(table)[position - 1])
 }

@@ -26,6 +26,8 @@ pub enum Write {
     Wrrr,
     Clrflag,
     Clovuv,
+    Wrpwma,
+    Wrpwmb,
 }
 
 #[derive(Clone, Copy, Debug, PartialEq, Eq)]
@@ -37,7 +39,7 @@ pub enum Bare {
     Clrcell,
 }
 
-/// The places of a record that the reads name, as the paper's table has them.
+/// The places of a record, as the paper's table has them and, after byte 69, L2.
 pub mod at {
     pub const CONFIGURATION_A: usize = 0;
     pub const CONFIGURATION_B: usize = 6;
@@ -48,6 +50,8 @@ pub mod at {
     pub const SERIAL_ID: usize = 62;
     pub const COUNTER: usize = 68;
     pub const UNLOCKED: usize = 69;
+    pub const PWM_A: usize = 70;
+    pub const PWM_B: usize = 76;
 }
 
 pub fn listed(code: u16) -> Option<Command> {
@@ -65,11 +69,15 @@ pub fn listed(code: u16) -> Option<Command> {
         0x0033 => R(Read::SixFrom(at::STATUS_D)),
         0x002C => R(Read::SixFrom(at::SERIAL_ID)),
         0x003A => R(Read::SixFrom(at::RETENTION)),
+        0x0022 => R(Read::SixFrom(at::PWM_A)),
+        0x0023 => R(Read::SixFrom(at::PWM_B)),
         0x0001 => W(Write::Wrcfga),
         0x0024 => W(Write::Wrcfgb),
         0x0039 => W(Write::Wrrr),
         0x0717 => W(Write::Clrflag),
         0x0715 => W(Write::Clovuv),
+        0x0020 => W(Write::Wrpwma),
+        0x0021 => W(Write::Wrpwmb),
         0x0028 => B(Bare::Mute),
         0x0029 => B(Bare::Unmute),
         0x002E => B(Bare::Rstcc),

@@ -1,4 +1,4 @@
-//! Document 01, with request L1 of document 02, written once more from the papers alone: one file for each section.
+//! Document 01, with requests L1 and L2 of document 02, written once more from the papers alone: one file for each section.
 //!
 //! It shares nothing with the proved code, so that a difference between the two shows a mistake in one of them. Each public function
 //! stands beside a function of include/oskorbine.h and packs its answer the same way. Nothing here allocates.
@@ -7,11 +7,14 @@ mod chain;
 mod check_words;
 mod clocked;
 mod commands;
+mod discharge;
 mod host;
 mod monitor;
 mod numbers;
 mod readings;
 
+#[cfg(test)]
+mod worked_discharge;
 #[cfg(test)]
 mod worked_examples;
 
@@ -20,5 +23,8 @@ pub use check_words::{
     command_pec, command_pec_bit_by_bit, data_pec, data_pec_bit_by_bit, data_pec_with_counter, data_pec_with_counter_bit_by_bit,
 };
 pub use clocked::Clock;
+pub use commands::at;
+pub use discharge::{discharge, event, OUTPUT_ON};
 pub use host::{check, host_frame, two_ports};
+pub use monitor::{MUTE_ST, RECORD};
 pub use readings::{microvolts, summary, volts};

@@ -1,19 +1,21 @@
 //! One monitor's record: what a command does to it, what it replies, and its cells stored, compared and loaded ("Effects", "Counter",
-//! "Thresholds", L1).
+//! "Thresholds", L1, and the PWM groups of L2).
 
 use crate::check_words::{payload, payload_right};
 use crate::commands::{at, Bare, Read, Write};
 
-pub const RECORD: usize = 70;
+pub const RECORD: usize = 82;
 pub type Record = [u8; RECORD];
 
 pub const CLEARED: i16 = -32768;
 
 const WRCFGA_MASKS: [u8; 6] = [0x87, 0xFF, 0xF8, 0xFF, 0x03, 0x0F];
-const MUTE_ST: u8 = 1 << 4;
+pub const MUTE_ST: u8 = 1 << 4;
 const SNAP_ST: u8 = 1 << 5;
 /// What CLRFLAG may clear in status C: nothing in bytes 2 and 3, nor bit 5 of byte 5.
 const CLRFLAG_MASKS: [u8; 6] = [0xFF, 0xFF, 0x00, 0x00, 0xFF, 0xDF];
+/// Bytes 2 to 5 of PWM group B: the memory map has all ones there, so what is sent for them is lost.
+const PWM_B_FIXED: [u8; 4] = [0xFF; 4];
 
 pub fn sound(record: &Record) -> bool {
     record[at::COUNTER] <= 63 && record[at::UNLOCKED] <= 1
@@ -63,6 +65,11 @@ pub fn write(record: &mut Record, write: Write, sent: &[u8; 8]) -> bool {
             for byte in 0..4 {
                 record[at::STATUS_D + byte] &= !data[byte];
             }
+        }
+        Write::Wrpwma => record[at::PWM_A..][..6].copy_from_slice(data),
+        Write::Wrpwmb => {
+            record[at::PWM_B..][..2].copy_from_slice(&data[..2]);
+            record[at::PWM_B + 2..][..4].copy_from_slice(&PWM_B_FIXED);
         }
     }
     count(record);

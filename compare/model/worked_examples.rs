@@ -168,14 +168,24 @@ fn both_ways_to_a_remainder_agree() {
 }
 
 #[test]
-fn twenty_two_codes_are_listed() {
-    assert_eq!((0..=u16::MAX).filter(|&code| listed(code).is_some()).count(), 12 + 5 + 5);
+fn twenty_six_codes_are_listed() {
+    assert_eq!((0..=u16::MAX).filter(|&code| listed(code).is_some()).count(), 14 + 7 + 5);
 }
 
 #[test]
 fn tables_of_1_and_32_monitors() {
     let mute = command_bytes(0x0028);
-    for (length, answer) in [(0, 1), (69, 1), (70, 1 << 8), (71, 1), (2240, 32 << 8), (2241, 1), (2310, 1)] {
+    let longest = 32 * RECORD;
+    for (length, answer) in [
+        (0, 1),
+        (RECORD - 1, 1),
+        (RECORD, 1 << 8),
+        (RECORD + 1, 1),
+        (longest - 1, 1),
+        (longest, 32 << 8),
+        (longest + 1, 1),
+        (33 * RECORD, 1),
+    ] {
         assert_eq!(frame(&mut vec![0; length], &mute, &mut []), answer, "table of {length} bytes");
     }
 }

@@ -1,0 +1,116 @@
+//! One chain twice: a table that is lent with whole frames, and one whose frames are clocked. The two must stay the same.
+
+use crate::both::{compare, discharge, frame_into, load, reply_buffer, store, Written};
+use crate::clocks::Clocks;
+use crate::difference::{listed, refused, Difference, Faults};
+use crate::inputs::{self, Shape, RECORD};
+use crate::lent::{Both, Lent};
+use crate::outputs::{Question, OUTPUTS};
+use crate::run::{expect, Done, Run};
+use crate::surface::Function;
+
+pub struct Chain {
+    whole: Both<u8>,
+    clocked: Both<u8>,
+    clocks: Clocks,
+    monitors: usize,
+}
+
+impl Chain {
+    pub fn new(run: &mut Run, monitors: usize) -> Result<Chain, Box<Difference>> {
+        let bytes = inputs::table(&mut run.random, monitors);
+        Chain::of(run, &bytes)
+    }
+
+    /// A chain with this sound table.
+    pub fn of(run: &mut Run, bytes: &[u8]) -> Result<Chain, Box<Difference>> {
+        let whole = Both::new(&mut run.random, bytes);
+        let clocked = Both::new(&mut run.random, bytes);
+        Ok(Chain { whole, clocked, clocks: Clocks::new(run)?, monitors: bytes.len() / RECORD })
+    }
+
+    pub fn monitors(&self) -> usize {
+        self.monitors
+    }
+
+    /// Both hold it after each event.
+    pub fn table(&self) -> &[u8] {
+        self.whole.contents()
+    }
+
+    pub fn codes_for(&self, run: &mut Run, position: usize) -> Vec<i16> {
+        inputs::codes_for(&mut run.random, &self.whole.contents()[RECORD * (position - 1)..])
+    }
+
+    pub fn store(&mut self, run: &mut Run, position: usize, codes: &[i16]) -> Done {
+        store(run, &mut self.whole, position, codes)?;
+        let answer = store(run, &mut self.clocked, position, codes)?;
+        self.same(run, Function::Store, answer, position)
+    }
+
+    pub fn compare(&mut self, run: &mut Run, position: usize) -> Done {
+        compare(run, &mut self.whole, position)?;
+        let answer = compare(run, &mut self.clocked, position)?;
+        self.same(run, Function::Compare, answer, position)
+    }
+
+    pub fn load(&mut self, run: &mut Run, position: usize, codes: &[i16]) -> Done {
+        load(run, &mut self.whole, position, codes)?;
+        let answer = load(run, &mut self.clocked, position, codes)?;
+        self.same(run, Function::Load, answer, position)
+    }
+
+    /// The outputs of the monitor at a position, where the question is not refused, and how many are on.
+    pub fn discharge(&mut self, run: &mut Run, question: Question) -> Written {
+        let whole = discharge(run, &mut self.whole, question, OUTPUTS)?;
+        let clocked = discharge(run, &mut self.clocked, question, OUTPUTS)?;
+        self.same(run, Function::Discharge, clocked.0, question.position)?;
+        if !refused(whole.0) {
+            expect(run, Function::Discharge, (&clocked, &whole), self.table(), question.position)?;
+        }
+        Ok(whole)
+    }
+
+    fn same(&self, run: &mut Run, function: Function, answer: u32, position: usize) -> Done {
+        let mut faults = Faults::new();
+        self.compare_tables(&mut faults);
+        if !faults.none() {
+            run.settle(function, answer, faults, || vec![("table", listed(&self.clocked.before)), ("position", position.to_string())])?;
+        }
+        Ok(())
+    }
+
+    fn compare_tables(&self, faults: &mut Faults) {
+        let (whole, clocked) = (self.whole.contents(), self.clocked.contents());
+        if whole != clocked {
+            faults.add(format!("table: whole {}, clocked {}", listed(whole), listed(clocked)));
+        }
+    }
+
+    pub fn frame(&mut self, run: &mut Run, frame: &[u8]) -> Done {
+        let mut reply = reply_buffer(run, 8 * self.monitors);
+        let answer = frame_into(run, &mut self.whole, frame, &mut reply)?;
+
+        let table = self.clocked.contents().to_vec();
+        let lent = Lent::new(&mut run.random, &table);
+        let mut answered = Vec::with_capacity(frame.len());
+        for &byte in frame {
+            answered.push(self.clocks.byte(run, &lent, &table, byte)?);
+        }
+        let release = self.clocks.release(run, &mut self.clocked)?;
+
+        let mut faults = Faults::new();
+        if answer != release {
+            faults.add(format!("answer: whole {answer:#010x}, clocked {release:#010x}"));
+        }
+        self.compare_tables(&mut faults);
+        let read = !refused(answer) && inputs::shape(u16::from_be_bytes([frame[0], frame[1]])) == Some(Shape::Read);
+        if read && answered[4..] != *reply.contents() {
+            faults.add(format!("reply: whole {}, clocked {}", listed(reply.contents()), listed(&answered[4..])));
+        }
+        if !faults.none() {
+            run.settle(Function::ClockRelease, release, faults, || vec![("table", listed(&table)), ("frame", listed(frame))])?;
+        }
+        Ok(())
+    }
+}
