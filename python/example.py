@@ -1,5 +1,6 @@
 #!/usr/bin/env python3
-"""Works a chain of two monitors: thresholds written, readings loaded, flags and cells read back, and the same write clocked.
+"""Works a chain of two monitors: thresholds written, readings loaded, flags and cells read back, the same write clocked, and the
+highest cell balanced.
 
 Both monitors get the same readings but not the same thresholds, so what differs in their flags comes from configuration B alone.
 It ends non-zero where the library refuses, where a reply is damaged, and where the clocked write leaves another table.
@@ -11,8 +12,9 @@ import sys
 import oskorbine as osk
 
 MONITORS = 2
-RECORD = 70
 WRCFGB = 0x0024
+WRPWMA = 0x0020
+MUTE = 0x0028
 RDSTATD = 0x0033
 RDCV = {"RDCVA": 0x0004, "RDCVB": 0x0006, "RDCVC": 0x0008, "RDCVD": 0x000A, "RDCVE": 0x0009, "RDCVF": 0x000B}
 
@@ -24,6 +26,10 @@ READINGS[2] = 9000
 READINGS[6] = 17000
 READINGS[11] = 10000
 READINGS[15] = 6000
+
+# How many of the fifteen phases of the PWM cell 7, the highest, is to be discharged for at each monitor.
+DUTIES = [6, 9]
+PHASES = 15
 
 
 def accepted(name, answer):
@@ -79,6 +85,17 @@ def summary_line(codes):
     return f"{answer.second} cells, lowest {volts[0]} V, highest {volts[1]} V, total {volts[2]} V"
 
 
+def balancing_line(table, number, cell):
+    """For how many phases the output of a cell is on, and which rows of the sheet's Table 27 decided that."""
+    seen = []
+    for phase in range(PHASES):
+        outputs = bytearray(16)
+        accepted("the question of discharge", osk.osk_discharge(table, number, 0, phase, outputs))
+        seen.append(outputs[cell - 1])
+    rows = ", ".join(str(row) for row in sorted({output & ~osk.OSK_OUTPUT_ON for output in seen}))
+    return f"cell {cell} is discharged in {sum(output >= osk.OSK_OUTPUT_ON for output in seen)} of {PHASES} phases, by row {rows}"
+
+
 def clock(frame, table):
     """The same frame a byte at a time; the table changes at the release."""
     state = bytearray(osk.OSK_CLOCK_STATE)
@@ -89,7 +106,7 @@ def clock(frame, table):
 
 
 def main():
-    table = bytearray(MONITORS * RECORD)
+    table = bytearray(MONITORS * osk.OSK_RECORD_SIZE)
     clocked_table = bytearray(table)
 
     frame = host_frame(WRCFGB, b"".join(configuration_b(lower, upper) for lower, upper in THRESHOLDS))
@@ -117,6 +134,13 @@ def main():
         del codes[16:]  # RDCVF shows cell 16 and then four bytes FF, which are no cells
         print(f"monitor {number} reads {summary_line(codes)}")
     print(f"the pack reads {summary_line(cells[0] + cells[1])}")
+
+    # Cells 7 and 8 share byte 3 of PWM group A, cell 7 in its low half.
+    duties = host_frame(WRPWMA, b"".join(bytes([0, 0, 0, duty, 0, 0]) for duty in DUTIES))
+    for name, frame in ("WRPWMA", duties), ("MUTE", host_frame(MUTE)):
+        accepted(name, osk.osk_frame(table, frame, bytearray()))
+        for number in range(1, MONITORS + 1):
+            print(f"after {name}, monitor {number}: {balancing_line(table, number, 7)}")
 
 
 if __name__ == "__main__":

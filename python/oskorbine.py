@@ -22,11 +22,12 @@ import sys
 from typing import Any, NamedTuple, Sequence, Tuple, Union
 
 __all__ = [
-    "Answer", "osk_number", "osk_first", "osk_second", "osk_frame", "osk_store", "osk_compare", "osk_load", "osk_host_frame", "osk_check",
-    "osk_two_ports", "osk_clock_start", "osk_clock_byte", "osk_clock_window", "osk_clock_release", "osk_microvolts", "osk_volts",
-    "osk_summary",
+    "Answer", "osk_number", "osk_first", "osk_second", "osk_frame", "osk_store", "osk_compare", "osk_load", "osk_discharge",
+    "osk_host_frame", "osk_check", "osk_two_ports", "osk_clock_start", "osk_clock_byte", "osk_clock_window", "osk_clock_release",
+    "osk_microvolts", "osk_volts", "osk_summary",
     "OSK_ACCEPTED", "OSK_TABLE_NOT_SOUND", "OSK_FRAME_SHORT", "OSK_COMMAND_WRONG", "OSK_CODE_NOT_LISTED", "OSK_LENGTH_WRONG",
-    "OSK_NO_ROOM", "OSK_POSITION_WRONG", "OSK_COUNT_WRONG", "OSK_CODE_CLEARED", "OSK_NEITHER_RIGHT", "OSK_RIGHT", "OSK_DAMAGED",
+    "OSK_NO_ROOM", "OSK_POSITION_WRONG", "OSK_COUNT_WRONG", "OSK_CODE_CLEARED", "OSK_NEITHER_RIGHT", "OSK_RECORD_SIZE",
+    "OSK_EVENT_SHUTDOWN", "OSK_EVENT_MEASUREMENT", "OSK_EVENT_WRCFGB", "OSK_EVENT_WRPWM", "OSK_OUTPUT_ON", "OSK_RIGHT", "OSK_DAMAGED",
     "OSK_PORT_A", "OSK_PORT_B", "OSK_CLOCK_STATE",
 ]
 
@@ -43,10 +44,21 @@ OSK_COMMAND_WRONG = 3  # command PEC wrong
 OSK_CODE_NOT_LISTED = 4  # code not listed
 OSK_LENGTH_WRONG = 5  # length not the one for this command and N; a reply or payload of the wrong length
 OSK_NO_ROOM = 6  # the buffer to be written is too small
-OSK_POSITION_WRONG = 7  # N not 1 to 32, or position not 1 to N
+OSK_POSITION_WRONG = 7  # N not 1 to 32, position not 1 to N, or phase not 0 to 14
 OSK_COUNT_WRONG = 8  # wrong number of codes or value bytes
 OSK_CODE_CLEARED = 9  # a code to store or load is -32768
 OSK_NEITHER_RIGHT = 10  # neither port's bytes are right
+
+OSK_RECORD_SIZE = 82  # the bytes of one monitor's record
+
+# ---- what goes on at the monitor while its outputs are asked for, added up; bits above these are not looked at
+
+OSK_EVENT_SHUTDOWN = 1  # thermal shutdown
+OSK_EVENT_MEASUREMENT = 2  # a measurement that pauses discharge
+OSK_EVENT_WRCFGB = 4  # configuration B is being written
+OSK_EVENT_WRPWM = 8  # a PWM group is being written
+
+OSK_OUTPUT_ON = 0x80  # added to an output's row where the output is on
 
 OSK_RIGHT = 1
 OSK_DAMAGED = 2
@@ -112,16 +124,18 @@ _BUFFER = (ctypes.c_void_p, ctypes.c_size_t)
 _STATE = (ctypes.c_void_p,)
 _POSITION = (ctypes.c_size_t,)
 _CODE = (ctypes.c_int16,)
+_BYTE = (ctypes.c_uint8,)
 _PROTOTYPES = {
     "osk_frame": (ctypes.c_uint32, _BUFFER + _BUFFER + _BUFFER),
     "osk_store": (ctypes.c_uint32, _BUFFER + _POSITION + _BUFFER),
     "osk_compare": (ctypes.c_uint32, _BUFFER + _POSITION),
     "osk_load": (ctypes.c_uint32, _BUFFER + _POSITION + _BUFFER),
+    "osk_discharge": (ctypes.c_uint32, _BUFFER + _POSITION + _BYTE + _BYTE + _BUFFER),
     "osk_host_frame": (ctypes.c_uint32, (ctypes.c_uint16,) + _POSITION + _BUFFER + _BUFFER),
     "osk_check": (ctypes.c_uint32, _BUFFER),
     "osk_two_ports": (ctypes.c_uint32, _BUFFER + _BUFFER + _POSITION + _POSITION),
     "osk_clock_start": (None, _STATE),
-    "osk_clock_byte": (ctypes.c_uint32, _STATE + _BUFFER + (ctypes.c_uint8,)),
+    "osk_clock_byte": (ctypes.c_uint32, _STATE + _BUFFER + _BYTE),
     "osk_clock_window": (ctypes.c_uint32, _STATE + _POSITION + _BUFFER),
     "osk_clock_release": (ctypes.c_uint32, _STATE + _BUFFER),
     "osk_microvolts": (ctypes.c_int32, _CODE),
@@ -183,6 +197,10 @@ def _whole(name: str, value: int, low: int, high: int) -> int:
 
 def _size(name: str, value: int) -> int:
     return _whole(name, value, 0, _SIZE_MAX)
+
+
+def _byte(name: str, value: int) -> int:
+    return _whole(name, value, 0, 0xFF)
 
 
 def _code(value: int) -> int:
@@ -285,7 +303,7 @@ def _call(function: Any, *arguments: Any) -> Any:
     return function(*itertools.chain.from_iterable(words))
 
 
-# ---- the chain: a table of N records, nearest monitor first
+# ---- the chain: a table of N records of OSK_RECORD_SIZE bytes, nearest monitor first
 
 def osk_frame(table: Writable, frame: Readable, reply: Writable) -> Answer:
     """Handles a frame. The table becomes what the monitors keep of it; the reply to a read, nearest monitor first, goes to the start of
@@ -322,6 +340,20 @@ def osk_load(table: Writable, position: int, codes: Codes) -> Answer:
     No values. Refusals: 1, 7, 8, 9.
     """
     return Answer(_call(_library.osk_load, _written("table", table), _size("position", position), _codes(codes)))
+
+
+# ---- discharge
+
+def osk_discharge(table: Readable, position: int, events: int, phase: int, out: Writable) -> Answer:
+    """Which of the sixteen discharge outputs of the monitor at a position, 1 to N, are on in a phase of the PWM, 0 to 14, and which row of
+    the sheet's Table 27 decided each: out[c - 1] is the row, 1 to 7, that decided the output of cell c, with OSK_OUTPUT_ON added where
+    it is on; bytes past the sixteenth stay. Events are the OSK_EVENT numbers added up, and bits above them are not looked at. The table
+    is only read.
+
+    First: how many are on. Refusals: 1, 7 (the position, or a phase above 14), 6 (`out` under sixteen).
+    """
+    asked = _size("position", position), _byte("events", events), _byte("phase", phase)
+    return Answer(_call(_library.osk_discharge, _read("table", table), *asked, _written("out", out)))
 
 
 # ---- the host
@@ -370,7 +402,7 @@ def osk_clock_byte(state: Writable, table: Readable, byte: int) -> Answer:
 
     First: the byte answered: what leaves monitor 1 in a known read, otherwise FF. Refusals: none.
     """
-    return Answer(_call(_library.osk_clock_byte, _state(True, state), _read("table", table), _whole("byte", byte, 0, 0xFF)))
+    return Answer(_call(_library.osk_clock_byte, _state(True, state), _read("table", table), _byte("byte", byte)))
 
 
 def osk_clock_window(state: Readable, position: int, out: Writable) -> Answer:

@@ -67,9 +67,9 @@ class Header(unittest.TestCase):
                 self.assertTrue(" ".join(inspect.getdoc(getattr(osk, name)).split()).endswith(refusals), refusals)
 
     def test_constants(self):
-        constants = dict(re.findall(r"\b(OSK_\w+) = (\d+)", self.code) + re.findall(r"^#define (OSK_\w+) (\d+)$", self.code, re.MULTILINE))
+        constants = dict(re.findall(r"\b(OSK_\w+) = (\d+)", self.code) + re.findall(r"^#define (OSK_\w+) (\w+)$", self.code, re.MULTILINE))
         self.assertEqual(set(constants), set(re.findall(r"\bOSK_\w+", self.code)), "this test reads every constant")
-        self.assertEqual({name: int(value) for name, value in constants.items()},
+        self.assertEqual({name: int(value, 0) for name, value in constants.items()},
                          {name: value for name, value in vars(osk).items() if name.startswith("OSK_")})
 
     def test_all(self):

@@ -9,6 +9,7 @@ from unittest import mock
 import oskorbine as osk
 import paper_wire as wire
 
+RECORD = osk.OSK_RECORD_SIZE
 FRAME = wire.read(wire.RDCFGA, 1)
 SIX = bytes.fromhex("0102F8040306")  # nothing in it is masked by WRCFGA
 WRITE = wire.write(wire.WRCFGA, wire.payload(SIX))
@@ -27,16 +28,19 @@ def library_of(**functions):
 
 class Kinds(unittest.TestCase):
     def test_written_bytes(self):
-        around = bytearray(b"\xa5" * 90)
-        square = ((ctypes.c_ubyte * 35) * 2)()
-        for table in (bytearray(70), array.array("B", bytes(70)), (ctypes.c_uint8 * 70)(), (ctypes.c_char * 70)(), square,
-                      memoryview(bytearray(70)), memoryview(around)[10:80]):
+        around = bytearray(b"\xa5" * (RECORD + 20))
+        square = ((ctypes.c_ubyte * (RECORD // 2)) * 2)()
+        for table in (bytearray(RECORD), array.array("B", bytes(RECORD)), (ctypes.c_uint8 * RECORD)(), (ctypes.c_char * RECORD)(), square,
+                      memoryview(bytearray(RECORD)), memoryview(around)[10:-10]):
             view = memoryview(table).cast("B")
-            view[:] = bytes(70)
+            view[:] = bytes(RECORD)
             with self.subTest(table=type(table).__name__):
                 self.assertEqual(osk.osk_frame(table, WRITE, bytearray()).first, 1)
-                self.assertEqual(view.tobytes(), SIX + bytes(62) + b"\x01\x00")
-        self.assertEqual(around[:10] + around[80:], b"\xa5" * 20)
+                self.assertEqual(view.tobytes(), SIX + bytes(62) + b"\x01" + bytes(RECORD - 69))
+                out = memoryview(bytearray(b"\xa5" * 18))[1:17]
+                self.assertEqual(osk.osk_discharge(table, 1, osk.OSK_EVENT_WRCFGB, 0, out), osk.OSK_ACCEPTED)
+                self.assertEqual(out.obj, b"\xa5" + b"\x05" * 16 + b"\xa5")
+        self.assertEqual(around[:10] + around[-10:], b"\xa5" * 20)
 
     def test_read_bytes(self):
         class Own(bytes):
@@ -48,6 +52,8 @@ class Kinds(unittest.TestCase):
                         memoryview(bytearray(around)).toreadonly()[1:9]):
             with self.subTest(payload=type(payload).__name__):
                 self.assertEqual(osk.osk_check(payload).first, osk.OSK_RIGHT)
+        for table in bytes(RECORD), memoryview(bytes(RECORD + 1))[1:], memoryview(bytearray(RECORD)).toreadonly():
+            self.assertEqual(osk.osk_discharge(table, 1, 0, 0, bytearray(16)), osk.OSK_ACCEPTED)
 
     def test_codes(self):
         numbers = [-32767, 32767, -1, 0, 1, 256, -256, 7] * 2
@@ -59,14 +65,14 @@ class Kinds(unittest.TestCase):
                       memoryview(kept).toreadonly(), memoryview(twice)[::2], unaligned, (ctypes.c_int16 * 16)(*numbers),
                       memoryview((ctypes.c_int16 * 16)(*numbers)).toreadonly(), (ctypes.c_int16.__ctype_be__ * 16)(*numbers),
                       (ctypes.c_int32 * 16)(*numbers)):
-            table = bytearray(70)
+            table = bytearray(RECORD)
             with self.subTest(codes=repr(codes)):
                 self.assertEqual(osk.osk_load(table, 1, codes), osk.OSK_ACCEPTED)
                 self.assertEqual(table[12:44], expected)
-                stored = bytearray(70)
+                stored = bytearray(RECORD)
                 self.assertEqual(osk.osk_store(stored, 1, codes), osk.OSK_ACCEPTED)
                 self.assertEqual(stored[12:44], expected)
-        self.assertEqual(osk.osk_load(bytearray(70), 1, range(16)), osk.OSK_ACCEPTED)
+        self.assertEqual(osk.osk_load(bytearray(RECORD), 1, range(16)), osk.OSK_ACCEPTED)
 
     def test_volts(self):
         for out in array.array("d", [0.0] * 3), (ctypes.c_double * 3)(), memoryview(array.array("d", [0.0] * 5))[1:4]:
@@ -79,14 +85,17 @@ class Kinds(unittest.TestCase):
                 return 4
 
         self.assertEqual(osk.osk_microvolts(Four()), 1_500_600)
-        self.assertEqual(osk.osk_load(bytearray(70), Four(), [0] * 16), osk.OSK_POSITION_WRONG)
-        self.assertEqual(osk.osk_store(bytearray(280), Four(), [0] * 16), osk.OSK_ACCEPTED)
-        self.assertEqual(osk.osk_compare(bytearray(210), Four()), osk.OSK_POSITION_WRONG)
+        self.assertEqual(osk.osk_load(bytearray(RECORD), Four(), [0] * 16), osk.OSK_POSITION_WRONG)
+        self.assertEqual(osk.osk_store(bytearray(4 * RECORD), Four(), [0] * 16), osk.OSK_ACCEPTED)
+        self.assertEqual(osk.osk_compare(bytearray(3 * RECORD), Four()), osk.OSK_POSITION_WRONG)
+        out = bytearray(16)
+        self.assertEqual(osk.osk_discharge(bytearray(4 * RECORD), Four(), Four(), Four(), out), osk.OSK_ACCEPTED)
+        self.assertEqual(out, b"\x05" * 16)
 
 
 class Lending(unittest.TestCase):
     def test_nothing_is_copied(self):
-        table, reply, values, codes = bytearray(70), bytearray(8), bytearray(6), array.array("h", [0] * 16)
+        table, reply, values, codes = bytearray(RECORD), bytearray(8), bytearray(6), array.array("h", [0] * 16)
         lent = {}
 
         def function(*words):
@@ -96,24 +105,28 @@ class Lending(unittest.TestCase):
         def at(buffer):
             return ctypes.addressof(ctypes.c_char.from_buffer(buffer))
 
-        with library_of(osk_frame=function, osk_host_frame=function, osk_store=function, osk_compare=function, osk_load=function):
+        names = "osk_frame", "osk_host_frame", "osk_store", "osk_compare", "osk_load", "osk_discharge"
+        with library_of(**{name: function for name in names}):
             osk.osk_frame(table, FRAME, reply)
             self.assertEqual([address(lent["words"][0]), address(lent["words"][4])], [at(table), at(reply)])
             self.assertIs(lent["words"][2], FRAME)
-            self.assertEqual(lent["words"][1::2], (70, 12, 8))
+            self.assertEqual(lent["words"][1::2], (RECORD, 12, 8))
             osk.osk_frame(memoryview(table)[1:], memoryview(FRAME), memoryview(reply)[2:5])
             self.assertEqual([address(lent["words"][0]), address(lent["words"][4])], [at(table) + 1, at(reply) + 2])
             self.assertIs(lent["words"][2], FRAME)
-            self.assertEqual(lent["words"][1::2], (69, 12, 3))
+            self.assertEqual(lent["words"][1::2], (RECORD - 1, 12, 3))
             osk.osk_host_frame(wire.WRCFGB, 1, values, reply)
             self.assertEqual([address(lent["words"][2]), address(lent["words"][4])], [at(values), at(reply)])
             for with_codes in osk.osk_store, osk.osk_load:
                 lent.clear()
                 with_codes(table, 3, codes)
-                self.assertEqual([address(lent["words"][0]), *lent["words"][1:3]], [at(table), 70, 3])
+                self.assertEqual([address(lent["words"][0]), *lent["words"][1:3]], [at(table), RECORD, 3])
                 self.assertEqual([address(lent["words"][3]), lent["words"][4]], [codes.buffer_info()[0], 16])
             osk.osk_compare(memoryview(table)[1:], 3)
-            self.assertEqual([address(lent["words"][0]), *lent["words"][1:]], [at(table) + 1, 69, 3])
+            self.assertEqual([address(lent["words"][0]), *lent["words"][1:]], [at(table) + 1, RECORD - 1, 3])
+            osk.osk_discharge(table, 3, 0x8F, 14, reply)
+            self.assertEqual([address(lent["words"][0]), *lent["words"][1:5]], [at(table), RECORD, 3, 0x8F, 14])
+            self.assertEqual([address(lent["words"][5]), lent["words"][6]], [at(reply), 8])
 
     def test_empty_buffers_have_an_address(self):
         seen = []
@@ -124,8 +137,8 @@ class Lending(unittest.TestCase):
                     seen.append(address(pointer))
             return 0
 
-        names = ("osk_frame", "osk_store", "osk_compare", "osk_load", "osk_host_frame", "osk_check", "osk_two_ports", "osk_clock_byte",
-                 "osk_clock_window", "osk_clock_release", "osk_summary")
+        names = ("osk_frame", "osk_store", "osk_compare", "osk_load", "osk_discharge", "osk_host_frame", "osk_check", "osk_two_ports",
+                 "osk_clock_byte", "osk_clock_window", "osk_clock_release", "osk_summary")
         with library_of(**{name: function for name in names}):
             for empty in b"", bytearray(), memoryview(b"abc")[:0], (ctypes.c_uint8 * 0)(), array.array("B"):
                 state = bytearray(osk.OSK_CLOCK_STATE)
@@ -133,6 +146,7 @@ class Lending(unittest.TestCase):
                 osk.osk_store(bytearray(), 1, [])
                 osk.osk_compare(bytearray(), 1)
                 osk.osk_load(bytearray(), 1, [])
+                osk.osk_discharge(empty, 1, 0, 0, bytearray())
                 osk.osk_host_frame(wire.MUTE, 1, empty, bytearray())
                 osk.osk_check(empty)
                 osk.osk_two_ports(empty, empty, 1, 1)
@@ -140,7 +154,7 @@ class Lending(unittest.TestCase):
                 osk.osk_clock_window(state, 1, bytearray())
                 osk.osk_clock_release(state, bytearray())
                 osk.osk_summary(array.array("h"), array.array("d"))
-        self.assertEqual(len(seen), 5 * 18)
+        self.assertEqual(len(seen), 5 * 20)
         self.assertEqual([each for each in seen if not each or each % 8], [])
 
     def test_codes_are_aligned(self):
@@ -150,13 +164,13 @@ class Lending(unittest.TestCase):
         memory = memoryview(bytearray(40))
         with library_of(osk_load=function):
             for start in 0, 1, 2, 3:
-                self.assertEqual(osk.osk_load(bytearray(70), 1, memory[start:start + 32].cast("h")), 0)
+                self.assertEqual(osk.osk_load(bytearray(RECORD), 1, memory[start:start + 32].cast("h")), 0)
 
     def test_other_threads_wait(self):
         self.assertIsInstance(osk._library, ctypes.PyDLL)
 
     def test_held_during_a_call_and_not_after_it(self):
-        table, codes = bytearray(70), array.array("h", [0] * 16)
+        table, codes = bytearray(RECORD), array.array("h", [0] * 16)
 
         def function(*_):
             for held in table, codes:
@@ -182,15 +196,17 @@ class Lending(unittest.TestCase):
 
         seen = []
         with library_of(osk_load=function, osk_check=function):
-            osk.osk_load(bytearray(70), 1, list(range(1, 17)))
+            osk.osk_load(bytearray(RECORD), 1, list(range(1, 17)))
             osk.osk_check(part)
         self.assertEqual(seen, [array.array("h", range(1, 17)).tobytes(), PAYLOAD])
 
     def test_neighbours_do_not_overlap(self):
-        memory = memoryview(bytearray(70 + 12 + 8))
-        memory[70:82] = FRAME
-        self.assertEqual(osk.osk_frame(memory[:70], memory[70:82], memory[82:]).second, 8)
-        self.assertEqual(osk.osk_frame(memory[:70], memory[70:82], memory[40:40]), osk.OSK_NO_ROOM)
+        memory = memoryview(bytearray(RECORD + 12 + 8))
+        table, frame, reply = memory[:RECORD], memory[RECORD:-8], memory[-8:]
+        frame[:] = FRAME
+        self.assertEqual(osk.osk_frame(table, frame, reply).second, 8)
+        self.assertEqual(osk.osk_frame(table, frame, memory[40:40]), osk.OSK_NO_ROOM)
+        self.assertEqual(osk.osk_discharge(table, 1, 0, 0, memory[RECORD:RECORD + 16]), osk.OSK_ACCEPTED)
         reply = bytearray(PAYLOAD)
         self.assertEqual(osk.osk_two_ports(reply, reply, 1, 1).first, osk.OSK_PORT_A)
 
@@ -204,7 +220,7 @@ class Mistakes(unittest.TestCase):
     """Each one is stopped here: the library's place is taken by one without functions that could be called."""
 
     def setUp(self):
-        self.table, self.reply, self.state = bytearray(70), bytearray(8), bytearray(osk.OSK_CLOCK_STATE)
+        self.table, self.reply, self.state = bytearray(RECORD), bytearray(8), bytearray(osk.OSK_CLOCK_STATE)
         self.volts, self.codes = array.array("d", [0.0] * 3), [0] * 16
         closed = mock.Mock(side_effect=AssertionError("the library was called"))
         names = [name for name in osk.__all__ if name.startswith("osk_")]
@@ -226,6 +242,7 @@ class Mistakes(unittest.TestCase):
             yield "table", osk.osk_store, lambda wrong: (wrong, 1, self.codes)
             yield "table", osk.osk_compare, lambda wrong: (wrong, 1)
             yield "table", osk.osk_load, lambda wrong: (wrong, 1, self.codes)
+            yield "out", osk.osk_discharge, lambda wrong: (table, 1, 0, 0, wrong)
             yield "out", osk.osk_host_frame, lambda wrong: (wire.MUTE, 1, b"", wrong)
             yield "out", osk.osk_clock_window, lambda wrong: (state, 1, wrong)
             yield "table", osk.osk_clock_release, lambda wrong: (state, wrong)
@@ -234,6 +251,7 @@ class Mistakes(unittest.TestCase):
             yield "state", osk.osk_clock_release, lambda wrong: (wrong, table)
         else:
             yield "frame", osk.osk_frame, lambda wrong: (table, wrong, reply)
+            yield "table", osk.osk_discharge, lambda wrong: (wrong, 1, 0, 0, reply)
             yield "values", osk.osk_host_frame, lambda wrong: (wire.MUTE, 1, wrong, reply)
             yield "payload", osk.osk_check, lambda wrong: (wrong,)
             yield "a", osk.osk_two_ports, lambda wrong: (wrong, PAYLOAD, 1, 1)
@@ -244,7 +262,7 @@ class Mistakes(unittest.TestCase):
     def test_no_buffer_or_one_of_other_elements(self):
         for written in True, False:
             for name, function, arguments in self.bytes_calls(written):
-                for wrong in None, 70, "text", [0] * 70:
+                for wrong in None, RECORD, "text", [0] * RECORD:
                     self.stopped(TypeError, f"^{name}: a bytes-like object is needed", function, *arguments(wrong))
                 for wrong in array.array("h", [0] * 132), (ctypes.c_int32 * 66)(), array.array("d"):
                     self.stopped(TypeError, f"^{name}: elements of one byte", function, *arguments(wrong))
@@ -269,15 +287,17 @@ class Mistakes(unittest.TestCase):
         memory[60:72] = FRAME
         state, halves = memory[:264], memoryview(bytearray(32))
         for words, function, *arguments in (
-            ("table and frame", osk.osk_frame, memory[:70], memory[60:72], self.reply),
-            ("table and reply", osk.osk_frame, memory[:70], FRAME, memory[69:77]),
+            ("table and frame", osk.osk_frame, memory[:RECORD], memory[60:72], self.reply),
+            ("table and reply", osk.osk_frame, memory[:RECORD], FRAME, memory[RECORD - 1:RECORD + 7]),
             ("frame and reply", osk.osk_frame, self.table, memory[60:72], memory[53:61]),
             ("table and reply", osk.osk_frame, self.table, FRAME, self.table),
-            ("table and codes", osk.osk_store, memory[:70], 1, memory[68:100].cast("h")),
-            ("table and codes", osk.osk_load, memory[:70], 1, memory[68:100].cast("h")),
+            ("table and codes", osk.osk_store, memory[:RECORD], 1, memory[RECORD - 2:RECORD + 30].cast("h")),
+            ("table and codes", osk.osk_load, memory[:RECORD], 1, memory[RECORD - 2:RECORD + 30].cast("h")),
+            ("table and out", osk.osk_discharge, memory[:RECORD], 1, 0, 0, memory[RECORD - 1:RECORD + 15]),
+            ("table and out", osk.osk_discharge, memory[15:15 + RECORD], 1, 0, 0, memory[:16]),
             ("values and out", osk.osk_host_frame, wire.WRCFGB, 1, memory[11:17], memory[:12]),
-            ("state and table", osk.osk_clock_byte, state, memory[200:270], 0),
-            ("state and table", osk.osk_clock_release, state, memory[100:170]),
+            ("state and table", osk.osk_clock_byte, state, memory[200:200 + RECORD], 0),
+            ("state and table", osk.osk_clock_release, state, memory[100:100 + RECORD]),
             ("state and out", osk.osk_clock_window, state, 1, memory[263:271]),
             ("codes and out", osk.osk_summary, halves.cast("h"), halves[8:].cast("d")),
         ):
@@ -288,6 +308,7 @@ class Mistakes(unittest.TestCase):
             ("position", osk.osk_store, lambda wrong: (self.table, wrong, self.codes)),
             ("position", osk.osk_compare, lambda wrong: (self.table, wrong)),
             ("position", osk.osk_load, lambda wrong: (self.table, wrong, self.codes)),
+            ("position", osk.osk_discharge, lambda wrong: (self.table, wrong, 0, 0, self.reply)),
             ("monitors", osk.osk_host_frame, lambda wrong: (wire.MUTE, wrong, b"", self.reply)),
             ("monitors", osk.osk_two_ports, lambda wrong: (PAYLOAD, PAYLOAD, wrong, 1)),
             ("position", osk.osk_two_ports, lambda wrong: (PAYLOAD, PAYLOAD, 1, wrong)),
@@ -302,6 +323,8 @@ class Mistakes(unittest.TestCase):
     def test_byte_command_code_and_answer(self):
         calls = (
             ("byte", -1, 256, osk.osk_clock_byte, lambda wrong: (self.state, self.table, wrong)),
+            ("events", -1, 256, osk.osk_discharge, lambda wrong: (self.table, 1, wrong, 0, self.reply)),
+            ("phase", -1, 256, osk.osk_discharge, lambda wrong: (self.table, 1, 0, wrong, self.reply)),
             ("command", -1, 65536, osk.osk_host_frame, lambda wrong: (wrong, 1, b"", self.reply)),
             ("code", -32769, 32768, osk.osk_microvolts, lambda wrong: (wrong,)),
             ("code", -32769, 32768, osk.osk_volts, lambda wrong: (wrong,)),

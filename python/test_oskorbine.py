@@ -7,29 +7,27 @@ import unittest
 import paper_wire as wire
 from oskorbine import (
     OSK_ACCEPTED, OSK_CLOCK_STATE, OSK_CODE_CLEARED, OSK_CODE_NOT_LISTED, OSK_COMMAND_WRONG, OSK_COUNT_WRONG, OSK_DAMAGED,
-    OSK_FRAME_SHORT, OSK_LENGTH_WRONG, OSK_NEITHER_RIGHT, OSK_NO_ROOM, OSK_PORT_A, OSK_PORT_B, OSK_POSITION_WRONG, OSK_RIGHT,
-    OSK_TABLE_NOT_SOUND, Answer, osk_check, osk_clock_byte, osk_clock_release, osk_clock_start, osk_clock_window, osk_compare, osk_first,
-    osk_frame, osk_host_frame, osk_load, osk_microvolts, osk_number, osk_second, osk_store, osk_summary, osk_two_ports, osk_volts,
+    OSK_EVENT_MEASUREMENT, OSK_EVENT_SHUTDOWN, OSK_EVENT_WRCFGB, OSK_EVENT_WRPWM, OSK_FRAME_SHORT, OSK_LENGTH_WRONG, OSK_NEITHER_RIGHT,
+    OSK_NO_ROOM, OSK_OUTPUT_ON, OSK_PORT_A, OSK_PORT_B, OSK_POSITION_WRONG, OSK_RECORD_SIZE, OSK_RIGHT, OSK_TABLE_NOT_SOUND, Answer,
+    osk_check, osk_clock_byte, osk_clock_release, osk_clock_start, osk_clock_window, osk_compare, osk_discharge, osk_first, osk_frame,
+    osk_host_frame, osk_load, osk_microvolts, osk_number, osk_second, osk_store, osk_summary, osk_two_ports, osk_volts,
 )
 
 CANARY = 0xA5
+RECORD = wire.RECORD
 COUNTER, UNLOCKED = 68, 69
 STATUS_D = 50
+PWM_A, PWM_B = 70, 76
 PAST_32_BITS = (1 << 32) + 1  # a size_t that would pass for 1 if it went through a C int
-
-UNSOUND = {
-    "empty": bytes(0), "a byte short": bytes(69), "a byte long": bytes(71), "33 records": bytes(2310), "2241 bytes": bytes(2241),
-    "counter 64": bytes(68) + b"\x40\x00", "counter 64 in the last of 32": bytes(2238) + b"\x40\x00", "byte 69 is 2": bytes(69) + b"\x02",
-}
 WRONG_COMMAND = bytes.fromhex("00022B0B")
 UNLISTED = wire.command_bytes(0x0003)
 
 
 def filled(monitors, counter=5, unlocked=0):
     """A sound table whose registers have no two neighbouring bytes alike."""
-    table = bytearray((37 * at + 11 * (at // wire.RECORD) + 5) % 256 for at in range(wire.RECORD * monitors))
-    for start in range(0, len(table), wire.RECORD):
-        table[start + COUNTER:start + wire.RECORD] = counter, unlocked
+    table = bytearray((37 * at + 11 * (at // RECORD) + 5) % 256 for at in range(RECORD * monitors))
+    for start in range(0, len(table), RECORD):
+        table[start + COUNTER:start + COUNTER + 2] = counter, unlocked
     return table
 
 
@@ -39,6 +37,14 @@ def edited(table, changes):
     for at, some_bytes in changes.items():
         copy[at:at + len(some_bytes)] = some_bytes
     return copy
+
+
+UNSOUND = {
+    "empty": bytes(0), "the record before L2": bytes(70), "a byte short": bytes(RECORD - 1), "a byte long": bytes(RECORD + 1),
+    "32 records but a byte": bytes(32 * RECORD - 1), "32 records and a byte": bytes(32 * RECORD + 1), "33 records": bytes(33 * RECORD),
+    "counter 64": edited(bytes(RECORD), {COUNTER: b"\x40"}), "byte 69 is 2": edited(bytes(RECORD), {UNLOCKED: b"\x02"}),
+    "counter 64 in the last of 32": edited(bytes(32 * RECORD), {31 * RECORD + COUNTER: b"\x40"}),
+}
 
 
 def cells(codes):
@@ -115,11 +121,12 @@ class Frames(Case):
 
     def test_every_read(self):
         at = {wire.RDCFGA: 0, wire.RDCFGB: 6, wire.RDCVA: 12, wire.RDCVB: 18, wire.RDCVC: 24, wire.RDCVD: 30, wire.RDCVE: 36,
-              wire.RDSTATC: 44, wire.RDSTATD: 50, wire.RDRR: 56, wire.RDSID: 62}
-        table = edited(filled(2), {COUNTER: b"\x3f", wire.RECORD + COUNTER: b"\x01"})
-        registers = {command: (table[start:start + 6], table[70 + start:76 + start]) for command, start in at.items()}
-        registers[wire.RDCVF] = table[42:44] + b"\xff" * 4, table[112:114] + b"\xff" * 4
-        self.assertEqual(len(registers), 12)
+              wire.RDSTATC: 44, wire.RDSTATD: 50, wire.RDRR: 56, wire.RDSID: 62, wire.RDPWMA: 70, wire.RDPWMB: 76}
+        table = edited(filled(2), {COUNTER: b"\x3f", RECORD + COUNTER: b"\x01"})
+        near_one, far_one = table[:RECORD], table[RECORD:]
+        registers = {command: (near_one[start:start + 6], far_one[start:start + 6]) for command, start in at.items()}
+        registers[wire.RDCVF] = near_one[42:44] + b"\xff" * 4, far_one[42:44] + b"\xff" * 4
+        self.assertEqual(len(registers), 14)
         for command, (near, far) in registers.items():
             with self.subTest(command=f"{command:04X}"):
                 lent, reply = bytearray(table), bytearray([CANARY]) * 20
@@ -129,24 +136,24 @@ class Frames(Case):
 
     def test_reply_of_zeros(self):
         reply = bytearray(8)
-        self.assert_answer(osk_frame(bytearray(70), bytes.fromhex("00022B0A") + b"\xff" * 8, reply), 1, 8)
+        self.assert_answer(osk_frame(bytearray(RECORD), bytes.fromhex("00022B0A") + b"\xff" * 8, reply), 1, 8)
         self.assertEqual(reply.hex(), "00000000000003e3")
 
     def test_longest_chain(self):
         table, reply = filled(32), bytearray(256)
         self.assert_answer(osk_frame(table, wire.read(wire.RDSID, 32), reply), 32, 256)
-        self.assertEqual(reply, b"".join(wire.payload(table[at + 62:at + 68], 5) for at in range(0, 2240, 70)))
+        self.assertEqual(reply, b"".join(wire.payload(table[at + 62:at + 68], 5) for at in range(0, 32 * RECORD, RECORD)))
         self.keeps(table, wire.read(wire.RDSID, 32), 255, OSK_NO_ROOM)
 
     def test_write_goes_to_the_far_monitor_first(self):
         near, far = bytes.fromhex("715246000000"), bytes.fromhex("F4813E123456")
         self.changes(filled(2), wire.write(wire.WRCFGB, wire.payload(near), wire.payload(far)),
-                     {6: near, COUNTER: b"\x06", 76: far, 70 + COUNTER: b"\x06"}, 2)
+                     {6: near, COUNTER: b"\x06", RECORD + 6: far, RECORD + COUNTER: b"\x06"}, 2)
 
     def test_damaged_payload_changes_only_byte_69(self):
         six = bytes.fromhex("010203040506")
         frame = wire.write(wire.WRCFGB, wire.payload(six), wire.damaged(wire.payload(six)), wire.payload(six))
-        changes = {6: six, COUNTER: b"\x06\x00", 70 + UNLOCKED: b"\x00", 146: six, 140 + COUNTER: b"\x06\x00"}
+        changes = {6: six, COUNTER: b"\x06\x00", RECORD + UNLOCKED: b"\x00", 2 * RECORD + 6: six, 2 * RECORD + COUNTER: b"\x06\x00"}
         self.changes(filled(3, unlocked=1), frame, changes, 2)
 
     def test_payload_is_checked_over_the_counter_bits_sent(self):
@@ -175,12 +182,23 @@ class Frames(Case):
         self.assert_answer(osk_frame(table, wire.read(wire.RDRR, 1), bytearray(8)), 1, 8)
         self.assertEqual(table, filled(1), "a read locks too")
 
+    def test_pwm_groups(self):
+        six = bytes.fromhex("0102030405A6")
+        self.changes(filled(1, unlocked=1), wire.write(wire.WRPWMA, wire.payload(six)), {PWM_A: six, COUNTER: b"\x06\x00"}, 1)
+        for sent in "5AC3FFFFFFFF", "5AC300000000", "5AC3FEDCBA98":
+            self.changes(filled(1, unlocked=1), wire.write(wire.WRPWMB, wire.payload(bytes.fromhex(sent))),
+                         {PWM_B: bytes.fromhex("5AC3FFFFFFFF"), COUNTER: b"\x06\x00"}, 1)
+        for command in wire.WRPWMA, wire.WRPWMB:
+            frame = wire.write(command, wire.damaged(wire.payload(six)), wire.payload(bytes(6)))
+            far = {wire.WRPWMA: {RECORD + PWM_A: bytes(6)}, wire.WRPWMB: {RECORD + PWM_B: b"\x00\x00\xff\xff\xff\xff"}}[command]
+            self.changes(filled(2, unlocked=1), frame, {UNLOCKED: b"\x00", RECORD + COUNTER: b"\x06\x00", **far}, 1)
+
     def test_bare_commands(self):
         unmuted, muted = (edited(filled(1, counter=63), {5: byte}) for byte in (b"\xcf", b"\xdf"))
         self.changes(unmuted, wire.command_bytes(wire.MUTE), {5: b"\xdf", COUNTER: b"\x01"}, 1)
         self.changes(muted, wire.command_bytes(wire.UNMUTE), {5: b"\xcf", COUNTER: b"\x01"}, 1)
         self.changes(filled(1), wire.command_bytes(wire.CLRCELL), {12: b"\x00\x80" * 16, COUNTER: b"\x06"}, 1)
-        self.changes(filled(2), wire.command_bytes(wire.RSTCC), {COUNTER: b"\x00", 70 + COUNTER: b"\x00"}, 2)
+        self.changes(filled(2), wire.command_bytes(wire.RSTCC), {COUNTER: b"\x00", RECORD + COUNTER: b"\x00"}, 2)
 
     def test_refusals_in_their_order(self):
         write = wire.write(wire.WRCFGB, wire.payload(bytes(6)))
@@ -235,18 +253,18 @@ class Stores(TakesCodes, Case):
         for monitors, position in (1, 1), (2, 1), (2, 2), (32, 17), (32, 32):
             lent = filled(monitors, unlocked=1)
             self.assert_answer(osk_store(lent, position, codes), 0, 0)
-            self.assertEqual(lent, edited(filled(monitors, unlocked=1), {70 * (position - 1) + 12: stored}))
+            self.assertEqual(lent, edited(filled(monitors, unlocked=1), {RECORD * (position - 1) + 12: stored}))
 
     def test_flags_stay(self):
         for flags in bytes(6), b"\xff" * 6, bytes.fromhex("0102040810A5"):
-            table = edited(bytearray(70), {6: bytes.fromhex("FF0F00"), STATUS_D: flags})  # VUV -1, VOV 0
+            table = edited(bytearray(RECORD), {6: bytes.fromhex("FF0F00"), STATUS_D: flags})  # VUV -1, VOV 0
             for codes in [-17, 1] * 8, [0] * 16:
                 lent = bytearray(table)
                 self.assert_answer(osk_store(lent, 1, codes), 0, 0)
                 self.assertEqual(lent, edited(table, {12: cells(codes)}))
 
     def test_store_after_store(self):
-        table = edited(bytearray(70), {6: bytes.fromhex("FF0F00")})  # VUV -1, VOV 0
+        table = edited(bytearray(RECORD), {6: bytes.fromhex("FF0F00")})  # VUV -1, VOV 0
         for codes in [-17] * 16, [0] * 15 + [1]:
             self.assert_answer(osk_store(table, 1, codes), 0, 0)
         self.assert_answer(osk_compare(table, 1), 0, 0)
@@ -257,14 +275,16 @@ class Stores(TakesCodes, Case):
 class Compares(Case):
     def flags(self, lower_and_upper, codes, before=bytes(6)):
         """Status D of monitor 2 of three after a compare, which changes nothing else. The cells are laid in the table as bytes."""
-        table = edited(filled(3, unlocked=1), {76: bytes.fromhex(lower_and_upper), 82: cells(codes), 70 + STATUS_D: before})
+        changes = {6: bytes.fromhex(lower_and_upper), 12: cells(codes), STATUS_D: before}
+        table = edited(filled(3, unlocked=1), {RECORD + at: some_bytes for at, some_bytes in changes.items()})
         lent = bytearray(table)
         self.assert_answer(osk_compare(lent, 2), 0, 0)
-        self.assertEqual(lent, edited(table, {70 + STATUS_D: lent[120:126]}))
+        flags = lent[RECORD + STATUS_D:][:6]
+        self.assertEqual(lent, edited(table, {RECORD + STATUS_D: flags}))
         again = bytearray(lent)
         self.assert_answer(osk_compare(again, 2), 0, 0)
         self.assertEqual(again, lent, "a second compare finds nothing new")
-        return lent[120:126].hex()
+        return flags.hex()
 
     def test_cleared_cells_are_skipped(self):
         highest = "FFF77F"  # VUV and VOV 2047 are the code 32752
@@ -296,7 +316,7 @@ class Compares(Case):
     def test_by_thresholds_that_came_after_the_store(self):
         """VUV and VOV are 0 at the store, and at the compare -1 and 1: of -17 and 1 only -17 is past its threshold then."""
         later = wire.write(wire.WRCFGB, wire.payload(bytes.fromhex("FF1F00000000")))
-        table, clocked_table, state = bytearray(70), bytearray(70), started()
+        table, clocked_table, state = bytearray(RECORD), bytearray(RECORD), started()
         for lent in table, clocked_table:
             self.assert_answer(osk_store(lent, 1, [-17, 1] * 8), 0, 0)
         self.assert_answer(osk_frame(table, later, bytearray()), 1, 0)
@@ -331,13 +351,14 @@ class Loads(TakesCodes, Case):
 
     def flags(self, lower_and_upper, code, cell=1, before=bytes(6)):
         """Status D of monitor 2 after a load that gives one cell the code and the others one between the thresholds."""
-        table = edited(bytearray(140), {76: bytes.fromhex(lower_and_upper), 70 + STATUS_D: before})
+        table = edited(bytearray(2 * RECORD), {RECORD + 6: bytes.fromhex(lower_and_upper), RECORD + STATUS_D: before})
         codes = [0] * 16
         codes[cell - 1] = code
         lent = bytearray(table)
         self.assert_answer(self.function(lent, 2, codes), 0, 0)
-        self.assertEqual(lent, edited(table, {82: cells(codes), 70 + STATUS_D: lent[120:126]}))
-        return lent[120:126].hex()
+        flags = lent[RECORD + STATUS_D:][:6]
+        self.assertEqual(lent, edited(table, {RECORD + 12: cells(codes), RECORD + STATUS_D: flags}))
+        return flags.hex()
 
     def test_thresholds(self):
         self.assertEqual(self.flags("004006", 1600), "000000000000")  # VUV 0, VOV 100
@@ -372,6 +393,131 @@ class LoadsInTwo(Loads):
                 self.assertEqual(at_once, in_two)
 
 
+class Record(Case):
+    def test_size_is_the_librarys_own(self):
+        """Zeroed records are sound; a byte more or less is not, for each function that is lent a table."""
+        self.assertEqual(OSK_RECORD_SIZE, RECORD)
+        mute = wire.command_bytes(wire.MUTE)
+
+        def release(table):
+            state = started()
+            clocked(state, table, mute)
+            return osk_clock_release(state, table)
+
+        functions = {
+            "frame": lambda table: osk_frame(table, mute, bytearray()), "store": lambda table: osk_store(table, 1, [0] * 16),
+            "compare": lambda table: osk_compare(table, 1), "load": lambda table: osk_load(table, 1, [0] * 16),
+            "discharge": lambda table: osk_discharge(table, 1, 0, 0, bytearray(16)), "release": release,
+        }
+        for monitors in 1, 2, 32:
+            size = OSK_RECORD_SIZE * monitors
+            for name, function in functions.items():
+                with self.subTest(function=name, monitors=monitors):
+                    self.assertEqual(function(bytearray(size)).number, OSK_ACCEPTED)
+                    for wrong in size - 1, size + 1:
+                        self.assert_refused(function(bytearray(wrong)), OSK_TABLE_NOT_SOUND)
+
+
+class Discharge(Case):
+    """By hand from Table 27, the maps of the PWM groups (Tables 95 and 96) and that of configuration B. Output bytes are in hex."""
+
+    FALLING = bytes.fromhex("EFCDAB896745 2301FFFFFFFF")  # cell 1 has duty 15, cell 2 has 14, and so on to cell 16 with 0
+    OUTER = b"\x81\x81"  # DCC of cells 1 and 8, 9 and 16
+
+    def record(self, duties=FALLING, dcc=b"\x00\x00", muted=False):
+        """Three monitors, of which the second is asked. Its configuration A is all ones but for MUTE_ST."""
+        changes = {5: b"\xff" if muted else b"\xef", 10: dcc, PWM_A: duties}
+        return bytes(edited(filled(3), {RECORD + at: some_bytes for at, some_bytes in changes.items()}))
+
+    def asked(self, table, events=0, phase=0):
+        """The outputs of monitor 2. Nothing past them changes, and the number of those on is answered."""
+        out = bytearray([CANARY]) * 18
+        answer = osk_discharge(table, 2, events, phase, out)
+        self.assert_answer(answer, sum(output >= OSK_OUTPUT_ON for output in out[:16]), 0)
+        self.assertEqual(out[16:], bytes([CANARY]) * 2)
+        exact = bytearray(16)
+        self.assertEqual(osk_discharge(table, 2, events, phase, exact), answer)
+        self.assertEqual(exact, out[:16])
+        return exact.hex()
+
+    def test_on_while_the_phase_is_below_the_duty(self):
+        table = self.record()
+        self.assertEqual(self.asked(table, phase=0), "81" * 15 + "01")
+        self.assertEqual(self.asked(table, phase=1), "81" * 14 + "01" * 2)
+        self.assertEqual(self.asked(table, phase=9), "81" * 6 + "01" * 10)
+        self.assertEqual(self.asked(table, phase=14), "81" + "01" * 15)
+        for duty in range(16):
+            table = self.record(duties=bytes([17 * duty] * 8 + [0xFF] * 4))
+            self.assertEqual([self.asked(table, phase=phase) for phase in range(15)], ["81" * 16] * duty + ["01" * 16] * (15 - duty))
+
+    def test_each_cell_has_its_own_half_and_its_own_dcc_bit(self):
+        for cell in range(16):
+            alone = "81".join(("01" * cell, "01" * (15 - cell)))
+            duties = (1 << 4 * cell).to_bytes(8, "little") + b"\xff" * 4  # sixteen halves in a row, a byte's low half first
+            self.assertEqual(self.asked(self.record(duties=duties)), alone)
+            dcc = (1 << cell).to_bytes(2, "little")
+            for held, events in ("01", 0), ("03", OSK_EVENT_MEASUREMENT), ("02", OSK_EVENT_WRPWM):
+                table = self.record(duties=bytes(12), dcc=dcc)
+                self.assertEqual(self.asked(table, events), "84".join((held * cell, held * (15 - cell))))
+
+    def test_rows(self):
+        shutdown, measurement, wrcfgb, wrpwm = OSK_EVENT_SHUTDOWN, OSK_EVENT_MEASUREMENT, OSK_EVENT_WRCFGB, OSK_EVENT_WRPWM
+        for events, outputs in (
+            (0, "84 81818181 0101 8484 010101010101 84"),
+            (wrpwm, "84 02020202 0202 8484 020202020202 84"),
+            (measurement, "84 03030303 0303 8484 030303030303 84"),
+            (measurement | wrpwm, "84 03030303 0303 8484 030303030303 84"),
+            (wrcfgb, "05" * 16), (wrcfgb | measurement | wrpwm, "05" * 16),
+            (shutdown, "07" * 16), (shutdown | measurement, "07" * 16), (shutdown | wrcfgb | measurement | wrpwm, "07" * 16),
+        ):
+            muted = "07" * 16 if events & shutdown else "06" * 16
+            for above in 0, 0x10, 0x60, 0xF0:
+                with self.subTest(events=events | above):
+                    self.assertEqual(self.asked(self.record(dcc=self.OUTER), events | above, 10), outputs.replace(" ", ""))
+                    self.assertEqual(self.asked(self.record(dcc=self.OUTER, muted=True), events | above, 10), muted)
+
+    def test_a_row_decides_where_nothing_would_be_on(self):
+        table = self.record(duties=bytes(12))
+        for events, row in (0, "01"), (OSK_EVENT_WRPWM, "02"), (OSK_EVENT_MEASUREMENT, "03"), (OSK_EVENT_WRCFGB, "05"):
+            self.assertEqual(self.asked(table, events), row * 16)
+
+    def test_mute_and_unmute_in_both_engines(self):
+        tables, state = [bytearray(self.record(dcc=self.OUTER)) for _ in (0, 1)], started()
+        standing = "84818181810101848401010101010184"
+        for command, outputs in (wire.RSTCC, standing), (wire.MUTE, "06" * 16), (wire.UNMUTE, standing):
+            self.assert_answer(osk_frame(tables[0], wire.command_bytes(command), bytearray()), 3, 0)
+            clocked(state, tables[1], wire.command_bytes(command))
+            self.assert_answer(osk_clock_release(state, tables[1]), 3, 0)
+            self.assertEqual([self.asked(table, phase=10) for table in tables], [outputs] * 2)
+
+    def test_by_the_duties_that_were_written(self):
+        table = bytearray(self.record(duties=bytes(12)))
+        for command, far in (wire.WRPWMA, self.FALLING[:6]), (wire.WRPWMB, self.FALLING[6:8] + bytes(4)):
+            frame = wire.write(command, wire.payload(bytes(6)), wire.payload(far), wire.payload(b"\xff" * 6))
+            self.assert_answer(osk_frame(table, frame, bytearray()), 3, 0)
+        self.assertEqual(self.asked(table, phase=2), "81" * 13 + "01" * 3)
+
+    def keeps(self, table, position, phase, room, number):
+        lent, out = bytearray(table), bytearray([CANARY]) * room
+        self.assert_refused(osk_discharge(lent, position, OSK_EVENT_SHUTDOWN, phase, out), number)
+        self.assertEqual(lent, table)
+        self.assertEqual(out, bytearray([CANARY]) * room)
+
+    def test_refusals_in_their_order(self):
+        for name, table in UNSOUND.items():
+            with self.subTest(table=name):
+                for position, phase, room in (0, 15, 0), (1, 15, 16), (1, 0, 15), (1, 0, 16):
+                    self.keeps(table, position, phase, room, OSK_TABLE_NOT_SOUND)
+        for position in 0, 4, 33, PAST_32_BITS, (1 << 64) - 1:
+            for phase, room in (15, 0), (0, 0), (0, 16):
+                self.keeps(self.record(), position, phase, room, OSK_POSITION_WRONG)
+        for phase in 15, 16, 128, 255:
+            for room in 0, 15, 16:
+                self.keeps(self.record(), 2, phase, room, OSK_POSITION_WRONG)
+        for phase, room in (0, 0), (14, 1), (14, 15):
+            self.keeps(self.record(), 2, phase, room, OSK_NO_ROOM)
+
+
 class Host(Case):
     def builds(self, command, monitors, values, frame):
         out = bytearray([CANARY]) * (len(frame) + 3)
@@ -389,11 +535,12 @@ class Host(Case):
 
     def test_frames(self):
         self.builds(wire.WRCFGA, 1, bytes(6), bytes.fromhex("00013D6E 00000000000003E3"))
+        self.builds(wire.WRPWMA, 1, bytes(6), bytes.fromhex("00200000 00000000000003E3"))
         near, far = bytes.fromhex("715246000000"), bytes.fromhex("F4813E123456")
-        for command in wire.WRCFGA, wire.WRCFGB, wire.WRRR, wire.CLRFLAG, wire.CLOVUV:
+        for command in wire.WRCFGA, wire.WRCFGB, wire.WRRR, wire.CLRFLAG, wire.CLOVUV, wire.WRPWMA, wire.WRPWMB:
             self.builds(command, 2, near + far, wire.command_bytes(command) + wire.payload(far) + wire.payload(near))
         for command in (wire.RDCFGA, wire.RDCFGB, wire.RDCVA, wire.RDCVB, wire.RDCVC, wire.RDCVD, wire.RDCVE, wire.RDCVF, wire.RDSTATC,
-                        wire.RDSTATD, wire.RDSID, wire.RDRR):
+                        wire.RDSTATD, wire.RDSID, wire.RDRR, wire.RDPWMA, wire.RDPWMB):
             self.builds(command, 32, b"", wire.command_bytes(command) + b"\xff" * 256)
         for command in wire.MUTE, wire.UNMUTE, wire.RSTCC, wire.ULRR, wire.CLRCELL:
             self.builds(command, 32, b"", wire.command_bytes(command))
@@ -461,7 +608,7 @@ class Clock(Case):
                 self.assertEqual(self.window(state, 2), frame[4:count][:-8][-8:])
         self.assertEqual(table, filled(2, unlocked=1), "the table changes only at release")
         self.assert_answer(osk_clock_release(state, table), 2, 0)
-        self.assertEqual(table, edited(filled(2), {6: near[:6], COUNTER: b"\x06", 76: far[:6], 70 + COUNTER: b"\x06"}))
+        self.assertEqual(table, edited(filled(2), {6: near[:6], COUNTER: b"\x06", RECORD + 6: far[:6], RECORD + COUNTER: b"\x06"}))
         self.keeps(state, table, OSK_FRAME_SHORT)
 
     def test_damaged_payload(self):
@@ -469,11 +616,11 @@ class Clock(Case):
         state, table = started(), filled(2)
         clocked(state, table, wire.write(wire.WRCFGB, wire.damaged(wire.payload(six)), wire.payload(six)))
         self.assert_answer(osk_clock_release(state, table), 1, 0)
-        self.assertEqual(table, edited(filled(2), {76: six, 70 + COUNTER: b"\x06"}))
+        self.assertEqual(table, edited(filled(2), {RECORD + 6: six, RECORD + COUNTER: b"\x06"}))
 
     def test_read(self):
         state, table = started(), filled(2, unlocked=1)
-        replies = wire.payload(table[62:68], 5) + wire.payload(table[132:138], 5)
+        replies = wire.payload(table[62:68], 5) + wire.payload(table[RECORD + 62:RECORD + 68], 5)
         past = replies + b"\xff" * 16
         frame = wire.read(wire.RDSID, 2, filler=0x5A)
         self.assertEqual(clocked(state, table, frame[:4]), b"\xff" * 4)
@@ -560,8 +707,8 @@ class Clock(Case):
             answered += clocked(states[1], tables[1], read[at:at + 1])
         self.assert_answer(osk_clock_release(states[0], tables[0]), 2, 0)
         self.assert_answer(osk_clock_release(states[1], tables[1]), 3, 24)
-        self.assertEqual(tables[0], edited(filled(2), {6: six, COUNTER: b"\x06", 76: six, 70 + COUNTER: b"\x06"}))
-        self.assertEqual(answered[4:], b"".join(wire.payload(tables[1][at + 62:at + 68], 9) for at in (0, 70, 140)))
+        self.assertEqual(tables[0], edited(filled(2), {6: six, COUNTER: b"\x06", RECORD + 6: six, RECORD + COUNTER: b"\x06"}))
+        self.assertEqual(answered[4:], b"".join(wire.payload(tables[1][at + 62:at + 68], 9) for at in range(0, 3 * RECORD, RECORD)))
 
 
 class Readings(Case):
