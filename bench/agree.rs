@@ -1,7 +1,7 @@
 //! Before anything is timed: the contestants give the same answers and leave the same bytes, on damaged inputs too. It makes sure that
 //! all of them do the same work; compare/ is the test of the library.
 
-use crate::inputs::{host_frame, values_for, Random, BARE, INPUTS, READS, RECORD, WRITES};
+use crate::inputs::{host_frame, values_for, Random, BARE, COUNTER, INPUTS, READS, RECORD, UNLOCKED, WRITES};
 use crate::measure::State;
 use crate::sides::{words, Side};
 
@@ -77,8 +77,8 @@ fn any_frame(side: &Side, n: usize, random: &mut Random) -> Vec<u8> {
 fn any_table(n: usize, random: &mut Random) -> Vec<u8> {
     let mut table = random.sound_table(n);
     match random.below(40) {
-        0 => table[random.below(n) * RECORD + 68] = 64 + random.below(192) as u8,
-        1 => table[random.below(n) * RECORD + 69] = 2 + random.below(254) as u8,
+        0 => table[random.below(n) * RECORD + COUNTER] = 64 + random.below(192) as u8,
+        1 => table[random.below(n) * RECORD + UNLOCKED] = 2 + random.below(254) as u8,
         2 => table.truncate(random.below(n * RECORD)),
         _ => {}
     }
@@ -116,8 +116,22 @@ fn frames(sides: &[Side], random: &mut Random) {
                 let answer = unsafe { (k.side.load)(table.as_mut_ptr(), table.len(), position, codes.as_ptr(), codes.len()) };
                 (answer, table.clone())
             });
+            discharge(&mut kept, position, random);
         }
     }
+}
+
+/// Which outputs are on, with any events and with phases above 14 among them.
+fn discharge(kept: &mut [Kept], position: usize, random: &mut Random) {
+    let (events, phase, room) = (random.next() as u8, random.below(18) as u8, [16, 16, 20, 15][random.below(4)]);
+    let before = kept[0].table.clone();
+    let case = || format!("position {position}, events {events:02x}, phase {phase}, room {room}\ntable {before:02x?}");
+    same("discharge", kept, &case, |k| {
+        let mut out = [CANARY; 20];
+        let table = &k.table;
+        let answer = unsafe { (k.side.discharge)(table.as_ptr(), table.len(), position, events, phase, out.as_mut_ptr(), room) };
+        (answer, out, table.clone())
+    });
 }
 
 /// A frame through the clocked engine, with the windows looked at after some of the bytes.
@@ -202,5 +216,5 @@ pub fn agree(sides: &[Side]) -> usize {
     check_words(sides, &mut random);
     hosts(sides, &mut random);
     frames(sides, &mut random);
-    3 * TABLES + 2 * TABLES * FRAMES_EACH
+    3 * TABLES + 3 * TABLES * FRAMES_EACH
 }

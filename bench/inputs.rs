@@ -2,14 +2,16 @@
 
 use crate::sides::Side;
 
-pub const RECORD: usize = 70;
+pub const RECORD: usize = 82;
+pub const COUNTER: usize = 68;
+pub const UNLOCKED: usize = 69;
 /// So many inputs take turns in each measure, so that no predictor of the machine learns a single one.
 pub const INPUTS: usize = 16;
 /// The chains that frames are timed at.
 pub const SIZES: [usize; 3] = [1, 8, 32];
 
-pub const READS: [u16; 12] = [0x02, 0x26, 0x04, 0x06, 0x08, 0x0a, 0x09, 0x0b, 0x32, 0x33, 0x2c, 0x3a];
-pub const WRITES: [u16; 5] = [0x01, 0x24, 0x39, 0x717, 0x715];
+pub const READS: [u16; 14] = [0x02, 0x26, 0x04, 0x06, 0x08, 0x0a, 0x09, 0x0b, 0x32, 0x33, 0x2c, 0x3a, 0x22, 0x23];
+pub const WRITES: [u16; 7] = [0x01, 0x24, 0x39, 0x717, 0x715, 0x20, 0x21];
 pub const BARE: [u16; 5] = [0x28, 0x29, 0x2e, 0x38, 0x711];
 pub const RDCVA: u16 = 0x04;
 pub const WRCFGB: u16 = 0x24;
@@ -42,8 +44,8 @@ impl Random {
     pub fn sound_table(&mut self, n: usize) -> Vec<u8> {
         let mut table = self.bytes(n * RECORD);
         for record in table.chunks_mut(RECORD) {
-            record[68] %= 64;
-            record[69] %= 2;
+            record[COUNTER] %= 64;
+            record[UNLOCKED] %= 2;
         }
         table
     }

@@ -1,4 +1,4 @@
-/* Document 01 in plain C99. See plain.h. */
+/* Document 01 and L2 in plain C99. See plain.h. */
 #include "plain.h"
 
 #include <stdbool.h>
@@ -126,13 +126,13 @@ uint16_t plain_data_pec10_bits(const uint8_t *bytes, size_t length, uint8_t coun
 
 /* ---- records and commands */
 
-enum { RECORD = 70, CONFIG_A = 0, CONFIG_B = 6, CELLS = 12, STATUS_C = 44, STATUS_D = 50, RETENTION = 56, SERIAL = 62, COUNTER = 68,
-       UNLOCKED = 69, MONITORS = 32 };
+enum { RECORD = 82, CONFIG_A = 0, CONFIG_B = 6, CELLS = 12, STATUS_C = 44, STATUS_D = 50, RETENTION = 56, SERIAL = 62, COUNTER = 68,
+       UNLOCKED = 69, PWM_A = 70, PWM_B = 76, MONITORS = 32 };
 
 enum { NONE, READ, WRITE, BARE };
 
 enum { WRCFGA = 0x0001, WRCFGB = 0x0024, MUTE = 0x0028, UNMUTE = 0x0029, RSTCC = 0x002e, ULRR = 0x0038, WRRR = 0x0039,
-       CLRCELL = 0x0711, CLOVUV = 0x0715, CLRFLAG = 0x0717, RDCVF = 0x000b };
+       CLRCELL = 0x0711, CLOVUV = 0x0715, CLRFLAG = 0x0717, RDCVF = 0x000b, WRPWMA = 0x0020, WRPWMB = 0x0021 };
 
 struct command { uint8_t kind, at; }; /* `at` says where a read finds its six bytes */
 
@@ -140,7 +140,8 @@ static const struct command low_codes[64] = {
     [0x02] = { READ, CONFIG_A },   [0x26] = { READ, CONFIG_B },   [0x04] = { READ, CELLS },      [0x06] = { READ, CELLS + 6 },
     [0x08] = { READ, CELLS + 12 }, [0x0a] = { READ, CELLS + 18 }, [0x09] = { READ, CELLS + 24 }, [RDCVF] = { READ, CELLS + 30 },
     [0x32] = { READ, STATUS_C },   [0x33] = { READ, STATUS_D },   [0x2c] = { READ, SERIAL },     [0x3a] = { READ, RETENTION },
-    [WRCFGA] = { WRITE, 0 },       [WRCFGB] = { WRITE, 0 },       [WRRR] = { WRITE, 0 },
+    [0x22] = { READ, PWM_A },      [0x23] = { READ, PWM_B },      [WRCFGA] = { WRITE, 0 },       [WRCFGB] = { WRITE, 0 },
+    [WRRR] = { WRITE, 0 },         [WRPWMA] = { WRITE, 0 },       [WRPWMB] = { WRITE, 0 },
     [MUTE] = { BARE, 0 },          [UNMUTE] = { BARE, 0 },        [RSTCC] = { BARE, 0 },         [ULRR] = { BARE, 0 },
 };
 
@@ -201,6 +202,13 @@ static inline void store(uint8_t *record, uint16_t code, const uint8_t *sent)
         flags = record + STATUS_D;
         for (int i = 0; i < 4; i++)
             flags[i] &= (uint8_t)~sent[i];
+        break;
+    case WRPWMA:
+        memcpy(record + PWM_A, sent, 6);
+        break;
+    case WRPWMB: /* the memory map has ones after the four duties */
+        memcpy(record + PWM_B, sent, 2);
+        memset(record + PWM_B + 2, 0xff, 4);
         break;
     default: /* CLRFLAG */
         flags = record + STATUS_C;
@@ -335,6 +343,36 @@ uint32_t plain_load(uint8_t *table, size_t table_length, size_t position, const 
         record[STATUS_D + byte] |= (uint8_t)flags;
     }
     return 0;
+}
+
+/* The sheet's Table 27. Rows 7 to 5 decide all outputs at once and leave them off; of the others row 4 is the cell's own. */
+uint32_t plain_discharge(const uint8_t *table, size_t table_length, size_t position, uint8_t events, uint8_t phase, uint8_t *out,
+                         size_t out_length)
+{
+    enum { SHUTDOWN = 1, MEASUREMENT = 2, WRITING_CFGB = 4, WRITING_PWM = 8, ON = 0x80 };
+    size_t n = monitors_of(table, table_length);
+    if (n == 0)
+        return 1;
+    if (position < 1 || position > n || phase > 14)
+        return 7;
+    if (out_length < 16)
+        return 6;
+    const uint8_t *record = table + (position - 1) * RECORD;
+    uint8_t off = events & SHUTDOWN ? 7 : record[5] & 0x10 ? 6 : events & WRITING_CFGB ? 5 : 0;
+    if (off != 0) {
+        memset(out, off, 16);
+        return answer(0, 0);
+    }
+    unsigned dcc = record[CONFIG_B + 4] | (unsigned)record[CONFIG_B + 5] << 8;
+    uint8_t held = events & MEASUREMENT ? 3 : events & WRITING_PWM ? 2 : 0;
+    size_t on = 0;
+    for (int i = 0; i < 16; i++) {
+        uint8_t pair = i < 12 ? record[PWM_A + i / 2] : record[PWM_B + (i - 12) / 2];
+        uint8_t by_pwm = phase < (pair >> 4 * (i % 2) & 0x0f) ? 1 | ON : 1;
+        out[i] = dcc >> i & 1 ? 4 | ON : held != 0 ? held : by_pwm;
+        on += out[i] >> 7;
+    }
+    return answer(on, 0);
 }
 
 /* ---- the host */

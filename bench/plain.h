@@ -1,5 +1,6 @@
-/* Document 01 in plain C99, written from the paper alone: what the proved library is timed against. Answers are packed as in
- * oskorbine.h, a pointer and the length behind it are one buffer, and a refusal leaves every lent buffer as it was.
+/* Document 01 with request L2 of document 02, in plain C99, written from the papers alone: what the proved library is timed against.
+ * Answers are packed as in oskorbine.h, a pointer and the length behind it are one buffer, and a refusal leaves every lent buffer as it
+ * was.
  */
 #ifndef PLAIN_H
 #define PLAIN_H
@@ -18,6 +19,8 @@ uint16_t plain_data_pec10_bits(const uint8_t *bytes, size_t length, uint8_t coun
 
 uint32_t plain_frame(uint8_t *table, size_t table_length, const uint8_t *frame, size_t frame_length, uint8_t *reply, size_t reply_length);
 uint32_t plain_load(uint8_t *table, size_t table_length, size_t position, const int16_t *codes, size_t codes_length);
+uint32_t plain_discharge(const uint8_t *table, size_t table_length, size_t position, uint8_t events, uint8_t phase, uint8_t *out,
+                         size_t out_length);
 uint32_t plain_host_frame(uint16_t command, size_t monitors, const uint8_t *values, size_t values_length, uint8_t *out, size_t out_length);
 uint32_t plain_check(const uint8_t *payload, size_t payload_length);
 uint32_t plain_check_by_shifts(const uint8_t *payload, size_t payload_length);

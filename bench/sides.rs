@@ -6,6 +6,7 @@ pub struct Side {
     pub name: &'static str,
     pub frame: unsafe extern "C" fn(*mut u8, usize, *const u8, usize, *mut u8, usize) -> u32,
     pub load: unsafe extern "C" fn(*mut u8, usize, usize, *const i16, usize) -> u32,
+    pub discharge: unsafe extern "C" fn(*const u8, usize, usize, u8, u8, *mut u8, usize) -> u32,
     pub host_frame: unsafe extern "C" fn(u16, usize, *const u8, usize, *mut u8, usize) -> u32,
     pub check: unsafe extern "C" fn(*const u8, usize) -> u32,
     pub clock_start: unsafe extern "C" fn(*mut u8),
@@ -18,12 +19,13 @@ pub struct Side {
 pub const CLOCK_ROOM: usize = 1024;
 
 macro_rules! linked {
-    ($module:ident, $name:literal, $frame:ident $load:ident $host_frame:ident $check:ident
+    ($module:ident, $name:literal, $frame:ident $load:ident $discharge:ident $host_frame:ident $check:ident
      $clock_start:ident $clock_byte:ident $clock_window:ident $clock_release:ident) => {
         mod $module {
             unsafe extern "C" {
                 fn $frame(table: *mut u8, tl: usize, frame: *const u8, fl: usize, reply: *mut u8, rl: usize) -> u32;
                 fn $load(table: *mut u8, tl: usize, position: usize, codes: *const i16, cl: usize) -> u32;
+                fn $discharge(table: *const u8, tl: usize, position: usize, events: u8, phase: u8, out: *mut u8, ol: usize) -> u32;
                 fn $host_frame(command: u16, monitors: usize, values: *const u8, vl: usize, out: *mut u8, ol: usize) -> u32;
                 fn $check(payload: *const u8, pl: usize) -> u32;
                 fn $clock_start(state: *mut u8);
@@ -35,6 +37,7 @@ macro_rules! linked {
                 name: $name,
                 frame: $frame,
                 load: $load,
+                discharge: $discharge,
                 host_frame: $host_frame,
                 check: $check,
                 clock_start: $clock_start,
@@ -46,8 +49,9 @@ macro_rules! linked {
     };
 }
 
-linked!(osk, "osk", osk_frame osk_load osk_host_frame osk_check osk_clock_start osk_clock_byte osk_clock_window osk_clock_release);
-linked!(plain_c, "plain C", plain_frame plain_load plain_host_frame plain_check
+linked!(osk, "osk", osk_frame osk_load osk_discharge osk_host_frame osk_check
+        osk_clock_start osk_clock_byte osk_clock_window osk_clock_release);
+linked!(plain_c, "plain C", plain_frame plain_load plain_discharge plain_host_frame plain_check
         plain_clock_start plain_clock_byte plain_clock_window plain_clock_release);
 
 /// The crate of compare/model, given the same face.
@@ -68,6 +72,11 @@ mod plain_rust {
     #[inline(never)]
     unsafe extern "C" fn load(table: *mut u8, tl: usize, position: usize, codes: *const i16, cl: usize) -> u32 {
         unsafe { model::load(from_raw_parts_mut(table, tl), position, from_raw_parts(codes, cl)) }
+    }
+
+    #[inline(never)]
+    unsafe extern "C" fn discharge(table: *const u8, tl: usize, position: usize, events: u8, phase: u8, out: *mut u8, ol: usize) -> u32 {
+        unsafe { model::discharge(from_raw_parts(table, tl), position, events, phase, from_raw_parts_mut(out, ol)) }
     }
 
     #[inline(never)]
@@ -101,7 +110,8 @@ mod plain_rust {
         unsafe { (*state.cast::<Clock>()).release(from_raw_parts_mut(table, tl)) }
     }
 
-    pub const SIDE: Side = Side { name: "Rust", frame, load, host_frame, check, clock_start, clock_byte, clock_window, clock_release };
+    pub const SIDE: Side =
+        Side { name: "Rust", frame, load, discharge, host_frame, check, clock_start, clock_byte, clock_window, clock_release };
 }
 
 /// The library first; every other one is a plain program that it is compared with.

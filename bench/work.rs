@@ -48,6 +48,18 @@ pub fn load<'a>(side: Side, codes: &'a [Vec<i16>]) -> Work<'a> {
     })
 }
 
+/// At position N, without events, in one phase after another.
+pub fn discharge<'a>(side: Side) -> Work<'a> {
+    Box::new(move |b: &mut Bout, turns| {
+        for _ in 0..turns {
+            let phase = (b.turn() % 15) as u8;
+            let (table, out) = (&b.room.table, &mut b.room.reply);
+            b.sum +=
+                u64::from(unsafe { (side.discharge)(table.as_ptr(), b.length, b.length / RECORD, 0, phase, out.as_mut_ptr(), out.len()) });
+        }
+    })
+}
+
 /// Start and so many bytes of a frame, which the next start gives up.
 pub fn clocked<'a>(side: Side, set: &'a [Vec<u8>], bytes: usize) -> Work<'a> {
     Box::new(move |b: &mut Bout, turns| {
