@@ -21,9 +21,10 @@ use Rattle.judging.specs.Places.{placeRefusals, placed}
 use Rattle.judging.proofs.Lent.{lent}
 use Rattle.judging.proofs.Place.{by-place, as-placed, its-index}
 use Rattle.priorities.specs.declared.outputs.Events.{Events}
+use Rattle.priorities.specs.Table27.{lastPhase}
 use Rattle.priorities.specs.Outputs.{outputs, countOn}
 use Rattle.discharge.specs.declared.question.Discharged.the-variants.{Refused, On}
-use Rattle.discharge.specs.Question.{lastPhase, phaseRow, outRow, dischargeRefusals, discharged, outputsAfter}
+use Rattle.discharge.specs.Question.{phaseRow, outRow, dischargeRefusals, discharged, outputsAfter}
 
 module _ {A : Type 0} (table : List ℕ) (position phase room : ℕ) (refused : Refusal → A) (accepted : A) where
   -- what the refusals after the place say

@@ -10,13 +10,10 @@ use Rattle.refusals.specs.Order.{Row, _gives_, decide}
 use Rattle.records.specs.Record.{cellCount, recordSize}
 use Rattle.judging.specs.Refusals.{tableRow, positionRow}
 use Rattle.priorities.specs.declared.outputs.Events.{Events}
+use Rattle.priorities.specs.Table27.{lastPhase}
 use Rattle.priorities.specs.Outputs.{outputs, countOn}
 use Rattle.discharge.specs.declared.question.Discharged.{Discharged}
 use Rattle.discharge.specs.declared.question.Discharged.the-variants.{Refused, On}
-
--- the phases of the PWM are 0 to 14
-abbrev pub lastPhase : ℕ
-lastPhase = 14
 
 -- ---- the refusals, in their order; 1 and 7 are those of the table and of the position
 

@@ -1,5 +1,4 @@
--- Where a cell's bits stand: the DCC bits and the duties of two cells stand in different places. And the bytes that hold them, as the code
--- reads them, by the record's own places.
+-- The bytes that hold a cell's DCC bit and its duty, by the record's own places, as the code reads them.
 -- Assumes nothing.
 use mathlib.Core.Path.{_≡_, sym, ap, _∙_}
 use mathlib.Core.Bool.{Bool, true, false, cond}
@@ -12,19 +11,6 @@ use borrow.Author.Tests.{le-leb, lt-leb}
 use Rattle.records.specs.Record.{cellCount, dccBits, pwmA, pwmB, bytesOf}
 use Rattle.records.proofs.Parts.{byte-of-part}
 use Rattle.priorities.specs.Switches.{dutyByte}
-
--- ---- no two cells share a place
-
--- the byte and the bit of a DCC bit
-pub own-dcc : (c d : ℕ) → 1 ≤ c → 1 ≤ d → (c - 1) / 8 ≡ (d - 1) / 8 → (c - 1) % 8 ≡ (d - 1) % 8 → c ≡ d
-own-dcc c d h k e f = omega arith
-
--- the byte and the half of a duty, in either group
-pub own-duty-a : (c d : ℕ) → 1 ≤ c → 1 ≤ d → (c - 1) / 2 ≡ (d - 1) / 2 → c % 2 ≡ d % 2 → c ≡ d
-own-duty-a c d h k e f = omega arith
-
-pub own-duty-b : (c d : ℕ) → 13 ≤ c → 13 ≤ d → (c - 13) / 2 ≡ (d - 13) / 2 → c % 2 ≡ d % 2 → c ≡ d
-own-duty-b c d h k e f = omega arith
 
 -- ---- as the code reads them
 

@@ -1,6 +1,6 @@
 -- What Table 27 comes to. Exactly one row decides each output, and its number is 1 to 7; an output is on only by row 4 or row 1; a shutdown,
--- a mute and a write of configuration B leave none on; a cell's output goes by the monitor's mute and the cell's own bits; and in the fifteen
--- phases a cell that row 1 decides is on in as many as its duty says.
+-- a mute and a write of configuration B leave none on, and nothing else stops a cell's own DCC bit; a cell's output goes by MUTE_ST, its DCC
+-- bit and its duty; and in the fifteen phases a cell that row 1 decides is on in as many as its duty says.
 -- Assumes nothing.
 use mathlib.Core.Path.{_≡_, refl, sym, ap, ap₂, _∙_}
 use mathlib.Core.Bool.{Bool, true, false, cond, false≢true}
@@ -17,8 +17,8 @@ use Rattle.laws.specs.Tables.{tabulate}
 use Rattle.priorities.specs.declared.outputs.Events.{Events}
 use Rattle.priorities.specs.declared.outputs.Output.{Output}
 use Rattle.priorities.specs.Switches.{muted, dcc, dutyByte, duty}
-use Rattle.priorities.specs.Table27.{Row, table27, decided, outputOf}
-use Rattle.priorities.proofs.Rows.{output}
+use Rattle.priorities.specs.Table27.{Row, phases, table27, decided, outputOf}
+use Rattle.priorities.proofs.Rows.{output, past-7, past-6, past-5, by-4}
 
 -- ---- one row
 
@@ -60,7 +60,7 @@ one-decides (row ∷ rows) p q (inl h) (inr k) = absurd (false≢true (sym (k .0
 one-decides (row ∷ rows) p q (inr h) (inl k) = absurd (false≢true (sym (h .0) ∙ k .0))
 one-decides (row ∷ rows) p q (inr h) (inr k) = one-decides rows p q (h .1) (k .1)
 
--- ---- the seven events, each true or false: the last row's always holds
+-- ---- the events of rows 7 to 2, each true or false, and what row 1 then says
 
 abbrev chosen : Bool → Bool → Bool → Bool → Bool → Bool → Bool → Output
 chosen a b c d e f x =
@@ -136,19 +136,22 @@ module _ (events : Events) (phase : ℕ) (r : List ℕ) (c : ℕ) where
   unfolding outputOf decided table27
   wrcfgb-off = off-5 (events .shutdown) (muted r) (events .wrcfgb) (dcc r c) (events .measurement) (events .wrpwm) (ltb phase (duty r c))
 
--- ---- a cell's own bits
+-- ---- DCC goes through: whatever is measured, whatever PWM group is written, whatever the phase and the duty
 
-pub own-bits : (events : Events) (phase : ℕ) (r s : List ℕ) (c : ℕ) → muted r ≡ muted s → dcc r c ≡ dcc s c → duty r c ≡ duty s c
+module _ (events : Events) (phase : ℕ) (r : List ℕ) (c : ℕ) where
+  pub dcc-on : events .shutdown ≡ false → muted r ≡ false → events .wrcfgb ≡ false → dcc r c ≡ true → outputOf events phase r c ≡ output 4 true
+  dcc-on s m w d = past-7 events phase r c s ∙ past-6 events phase r c m ∙ past-5 events phase r c w ∙ by-4 events phase r c d
+
+-- ---- what a record holds of it
+
+pub by-switches : (events : Events) (phase : ℕ) (r s : List ℕ) (c : ℕ) → muted r ≡ muted s → dcc r c ≡ dcc s c → duty r c ≡ duty s c
     → outputOf events phase r c ≡ outputOf events phase s c
 unfolding outputOf decided table27
-own-bits events phase r s c m d p =
+by-switches events phase r s c m d p =
     ap₂ (λ (b t : Bool). chosen (events .shutdown) b (events .wrcfgb) t (events .measurement) (events .wrpwm) (ltb phase (duty r c))) m d
     ∙ ap (λ (n : ℕ). chosen (events .shutdown) (muted s) (events .wrcfgb) (dcc s c) (events .measurement) (events .wrpwm) (ltb phase n)) p
 
 -- ---- the fifteen phases
-
-abbrev pub phases : List ℕ
-phases = tabulate (λ p. p) 0 15
 
 -- of n numbers in a row from i on, those below d
 below-among : (d i n : ℕ) → count (λ p. ltb p d) (tabulate (λ p. p) i n) ≡ min n (d - i)
@@ -173,7 +176,7 @@ duty-below r c = by (odd c)
     by true = mod-lt (dutyByte r c) (omega arith)
     by false = mod-lt (dutyByte r c / 16) (omega arith)
 
--- which row decides does not go by the phase
+-- the phase decides only where row 1 does: no other row goes by it
 phase-alone : (events : Events) (phase p : ℕ) (r : List ℕ) (c : ℕ) → outputOf events phase r c .row ≡ 1 → outputOf events p r c .on ≡ ltb p (duty r c)
 unfolding outputOf decided table27
 phase-alone events phase p r c =
@@ -181,6 +184,7 @@ phase-alone events phase p r c =
 
 pub on-for-its-duty : (events : Events) (phase : ℕ) (r : List ℕ) (c : ℕ) → outputOf events phase r c .row ≡ 1
     → count (λ p. outputOf events p r c .on) phases ≡ duty r c
+unfolding phases
 on-for-its-duty events phase r c e =
     count-alike (λ p. outputOf events p r c .on) (λ p. ltb p (duty r c)) (λ p. phase-alone events phase p r c e) phases
     ∙ below-among (duty r c) 0 15

@@ -1,4 +1,4 @@
--- Document 02, L2, and the sheet's Tables 95 and 96 (PWM) and its configuration B (DCC): what a record holds of the discharge of its cells.
+-- Document 02, L2, and the sheet's Tables 55 (MUTE_ST), 56 (DCC), 95 and 96 (PWM): what a record holds of the discharge of its cells.
 -- Cells are counted from 1, as the paper counts them.
 -- Assumes nothing.
 use mathlib.Core.Bool.{Bool, cond}

@@ -2,8 +2,9 @@
 -- Assumes nothing.
 use mathlib.Core.Bool.{Bool, true, false, cond}
 use mathlib.Core.List.{List, [], _∷_}
-use Prim.Native.Nat.{ℕ}
+use Prim.Native.Nat.{ℕ, suc}
 use lib.Dec.{ltb}
+use Rattle.laws.specs.Tables.{tabulate}
 use Rattle.priorities.specs.declared.outputs.Events.{Events}
 use Rattle.priorities.specs.declared.outputs.Output.{Output}
 use Rattle.priorities.specs.Switches.{muted, dcc, duty}
@@ -23,7 +24,14 @@ off = false
 abbrev on : Bool
 on = true
 
--- the table for the output of cell c, counted from 1, of a record: what goes on is given, and in which of the phases 0 to 14 the PWM is
+-- the phases of the PWM are 0 to 14
+abbrev pub lastPhase : ℕ
+lastPhase = 14
+
+unfoldable pub phases : List ℕ
+phases = tabulate (λ p. p) 0 (suc lastPhase)
+
+-- the table for the output of cell c, counted from 1, of a record: what goes on is given, and in which phase the PWM is
 unfoldable pub table27 : Events → ℕ → List ℕ → ℕ → List Row
 table27 events phase r c =
     row 7 (events .shutdown) off

@@ -73,7 +73,7 @@ fn shown(output: Output) -> u8
 }
 
 // The sixteen outputs at the start of a buffer, cell 1's first, and how many of them are on. A buffer that is shorter stays as it is, and
-// the answer is 0.
+// the answer is 0. What a slice that is no record does not hold counts as 0.
 pub fn put_outputs(rec: &[u8], events: Events, phase: u8, out: &mut [u8]) -> usize
     ensures { λ n. ⌜ n ≡ cond (leb cellCount (length (now (out .entry)))) (countOn events phase (now (rec .entry))) 0 ⌝ }
     ensures { λ _. ⌜ now (out .exit) ≡ cond (leb cellCount (length (now (out .entry)))) (outputs events phase (now (rec .entry)) ++ drop cellCount (now (out .entry))) (now (out .entry)) ⌝ }

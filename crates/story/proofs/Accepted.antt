@@ -1,4 +1,4 @@
--- What comes of a frame, a store, a compare, a load and a host's frame of which no refusal holds: the answer, each monitor's record and reply, and what our
+-- What comes of a frame, a store, a compare, a load, a question about the outputs and a host's frame of which no refusal holds: the answer, each monitor's record and reply, and what our
 -- host writes. With no refusal the outcome is the accepted one; it is taken apart by the laws of `chain` and `host`.
 -- Assumes nothing.
 use mathlib.Core.Path.{_≡_, sym, ap, _∙_}
@@ -19,7 +19,7 @@ use Rattle.records.specs.declared.commands.Command.{Command}
 use Rattle.records.specs.declared.commands.Command.the-variants.{Reads, Writes, Bares}
 use Rattle.records.specs.declared.commands.Write.{Write}
 use Rattle.records.specs.declared.record.Part.{Part}
-use Rattle.records.specs.Record.{recordSize}
+use Rattle.records.specs.Record.{cellCount, recordSize}
 use Rattle.records.specs.Commands.{payloadSize, replyLength}
 use Rattle.monitor.specs.Effects.{keeps}
 use Rattle.reads.specs.Reply.{reply}
@@ -37,7 +37,12 @@ use Rattle.cells.specs.Cells.{store, compare, load}
 use Rattle.cells.proofs.Loaded.{length-store, length-compare, length-load}
 use Rattle.judging.proofs.Changed.{changed-record, other-record}
 use Rattle.loads.specs.Load.{storeRefusals, stored, tableAfterStore, compareRefusals, compared, tableAfterCompare, loadRefusals, loaded, tableAfterLoad}
-use Rattle.loads.proofs.Place.{Place, place, there, fits, store-place}
+use Rattle.judging.proofs.Place.{Place, there, fits}
+use Rattle.loads.proofs.Place.{compare-place, store-place}
+use Rattle.priorities.specs.declared.outputs.Events.{Events}
+use Rattle.priorities.specs.Outputs.{outputs, countOn}
+use Rattle.discharge.specs.declared.question.Discharged.the-variants.{Refused as Unasked, On}
+use Rattle.discharge.specs.Question.{dischargeRefusals, discharged, outputsAfter}
 use Rattle.host.specs.declared.frames.Built.the-variants.{Unbuilt, Length}
 use Rattle.host.specs.Frames.{frameFor, buildRefusals, built, bufferAfter}
 use Rattle.host.proofs.FrameFor.{length-frame}
@@ -132,11 +137,11 @@ module _ (table : List ℕ) (position : ℕ) (none : Passed (compareRefusals tab
 
   pub compare-own : rowAt recordSize (position - 1) (tableAfterCompare table position) ≡ compare (rowAt recordSize (position - 1) table)
   unfolding tableAfterCompare
-  compare-own = own (compareRefusals table position) table position compare length-compare (place table position none) none
+  compare-own = own (compareRefusals table position) table position compare length-compare (compare-place table position none) none
 
   pub compare-others : (j : ℕ) → j < monitors table → (j ≡ position - 1 → ⊥) → rowAt recordSize j (tableAfterCompare table position) ≡ rowAt recordSize j table
   unfolding tableAfterCompare
-  compare-others = others (compareRefusals table position) table position compare length-compare (place table position none) none
+  compare-others = others (compareRefusals table position) table position compare length-compare (compare-place table position none) none
 
 module _ (table : List ℕ) (position : ℕ) (codes : List ℤ) (none : Passed (storeRefusals table position codes)) where
   pub store-done : stored table position codes ≡ Done
@@ -167,6 +172,17 @@ module _ (table : List ℕ) (position : ℕ) (codes : List ℤ) (none : Passed (
   pub load-others : (j : ℕ) → j < monitors table → (j ≡ position - 1 → ⊥) → rowAt recordSize j (tableAfterLoad table position codes) ≡ rowAt recordSize j table
   unfolding tableAfterLoad
   load-others = others (loadRefusals table position codes) table position (load codes) (length-load codes) its-place none
+
+-- ---- the discharge outputs
+
+pub discharge-answer : (table : List ℕ) (position : ℕ) (events : Events) (phase : ℕ) (out : List ℕ) → Passed (dischargeRefusals table position phase (length out))
+    → (discharged table position events phase (length out) ≡ On (countOn events phase (rowAt recordSize (position - 1) table)))
+    × (outputsAfter table position events phase out ≡ outputs events phase (rowAt recordSize (position - 1) table) ++ drop cellCount out)
+unfolding discharged outputsAfter
+discharge-answer table position events phase out none = (
+  passes (dischargeRefusals table position phase (length out)) Unasked _ none,
+  passes (dischargeRefusals table position phase (length out)) (λ r. out) _ none,
+)
 
 -- ---- a host's frame
 

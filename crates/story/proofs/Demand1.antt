@@ -38,11 +38,16 @@ use Rattle.replying.proofs as replying
 use Rattle.chain.proofs as chain
 use Rattle.chain.proofs.Refused.{refused-table, refused-reply}
 use Rattle.loads.specs.declared.loads.Loaded.the-variants.{Unloaded}
+use Rattle.priorities.specs.declared.outputs.Events.{Events}
+use Rattle.discharge.specs.declared.question.Discharged.the-variants.{Refused as Unasked}
+use Rattle.discharge.specs.Question.{dischargeRefusals, discharged, outputsAfter}
 use Rattle.loads.specs.Load.{storeRefusals, stored, tableAfterStore, compareRefusals, compared, tableAfterCompare, loadRefusals, loaded, tableAfterLoad}
 use Rattle.loads.specs.Numbers.{loadNumber}
 use Rattle.thresholds.proofs as thresholds
 use Rattle.cells.proofs as cells
 use Rattle.loads.proofs as loads
+use Rattle.priorities.proofs as priorities
+use Rattle.discharge.proofs as discharge
 use Rattle.loads.proofs.Refused.{refused-store, refused-compare, refused-load}
 use Rattle.releasing.specs.declared.looks.Looked.the-variants.{Refused as Unseen}
 use Rattle.clocking.specs.Clock.{Clock, start}
@@ -65,10 +70,10 @@ use Rattle.ports.proofs as ports
 use Rattle.host.proofs as host
 use Rattle.readings.specs.Readings.{summaryOf}
 use Rattle.readings.proofs as readings
-use Rattle.story.specs.Numbers.{builtNumbers, checkedNumbers, portNumber, lookedNumbers, packNumbers, summaryRefusals, firstNumber, First, order}
+use Rattle.story.specs.Numbers.{dischargedNumbers, builtNumbers, checkedNumbers, portNumber, lookedNumbers, packNumbers, summaryRefusals, firstNumber, First, order}
 use Rattle.story.proofs.OneOutcome.{OneOutcome, one-outcomes}
-use Rattle.story.proofs.Numbers.{number-exactly, zero-exactly, frame-number, store-number, compare-number, load-number, release-number, look-number, built-number, checked-number, port-number, summary-number}
-use Rattle.story.proofs.Stays.{refused-release, refused-look, refused-build, refused-part}
+use Rattle.story.proofs.Numbers.{number-exactly, zero-exactly, frame-number, store-number, compare-number, load-number, discharge-number, release-number, look-number, built-number, checked-number, port-number, summary-number}
+use Rattle.story.proofs.Stays.{refused-discharge, refused-release, refused-look, refused-build, refused-part}
 
 -- ---- every public function of every library
 
@@ -120,6 +125,7 @@ pub record Promises : Type 2 where
   reply-all : Promised replying.reply_all.Statement.statement replying.reply_all.Reads.Asked
   judge-head : Promised judging.judge_head.Statement.statement judging.judge_head.Reads.Asked
   handle : Promised chain.handle.Statement.statement chain.handle.Reads.Asked
+  place-of : Promised judging.place_of.Statement.statement judging.place_of.Reads.Asked
   -- store, compare and load
   codes-of : Promised thresholds.codes_of.Statement.statement thresholds.codes_of.Reads.Asked
   over-threshold : Promised thresholds.over_threshold.Statement.statement thresholds.over_threshold.Reads.Asked
@@ -130,6 +136,9 @@ pub record Promises : Type 2 where
   store : Promised loads.store.Statement.statement loads.store.Reads.Asked
   compare : Promised loads.compare.Statement.statement loads.compare.Reads.Asked
   load : Promised loads.load.Statement.statement loads.load.Reads.Asked
+  -- discharge
+  put-outputs : Promised priorities.put_outputs.Statement.statement priorities.put_outputs.Reads.Asked
+  discharge-outputs : Promised discharge.discharge.Statement.statement discharge.discharge.Reads.Asked
   -- the clocked engine
   start : Promised clock_state.start.Statement.statement clock_state.start.Reads.Asked
   seen-in : Promised clock_state.seen_in.Statement.statement clock_state.seen_in.Reads.Asked
@@ -178,6 +187,12 @@ pub record Demand1 : Type 2 where
   load-order : (table : List ℕ) (position : ℕ) (codes : List ℤ) → order (loadRefusals table position codes) ≡ 1 ∷ 7 ∷ 8 ∷ 9 ∷ []
   load-stays : (table : List ℕ) (position : ℕ) (codes : List ℤ) (r : Refusal) → loaded table position codes ≡ Unloaded r
       → tableAfterLoad table position codes ≡ table
+  -- the discharge outputs: `discharge::discharge`. The table is only read
+  discharge : (table : List ℕ) (position : ℕ) (events : Events) (phase room : ℕ)
+      → dischargedNumbers (discharged table position events phase room) .number ≡ firstNumber (dischargeRefusals table position phase room)
+  discharge-order : (table : List ℕ) (position phase room : ℕ) → order (dischargeRefusals table position phase room) ≡ 1 ∷ 7 ∷ 7 ∷ 6 ∷ []
+  discharge-stays : (table : List ℕ) (position : ℕ) (events : Events) (phase : ℕ) (out : List ℕ) (r : Refusal)
+      → discharged table position events phase (length out) ≡ Unasked r → outputsAfter table position events phase out ≡ out
   -- a host's frame: `host::build`
   build : (code n : ℕ) (values : List ℕ) (room : ℕ) → builtNumbers (built code n values room) .number ≡ firstNumber (buildRefusals code n values room)
   build-order : (code n : ℕ) (values : List ℕ) (room : ℕ) → order (buildRefusals code n values room) ≡ 4 ∷ 7 ∷ 8 ∷ 6 ∷ []
@@ -246,6 +261,7 @@ proved =
       reply-all = (λ M. replying.reply_all.Met.met, λ κ a. tt);
       judge-head = (λ M. judging.judge_head.Met.met, λ κ a. tt);
       handle = (λ M. chain.handle.Met.met, λ κ a. tt);
+      place-of = (λ M. judging.place_of.Met.met, λ κ a. tt);
       codes-of = (λ M. thresholds.codes_of.Met.met, λ κ a. tt);
       over-threshold = (λ M. thresholds.over_threshold.Met.met, λ κ a. tt);
       under-threshold = (λ M. thresholds.under_threshold.Met.met, λ κ a. tt);
@@ -255,6 +271,8 @@ proved =
       store = (λ M. loads.store.Met.met, λ κ a. tt);
       compare = (λ M. loads.compare.Met.met, λ κ a. tt);
       load = (λ M. loads.load.Met.met, λ κ a. tt);
+      put-outputs = (λ M. priorities.put_outputs.Met.met, λ κ a. tt);
+      discharge-outputs = (λ M. discharge.discharge.Met.met, λ κ a. tt);
       start = (λ M. clock_state.start.Met.met, λ κ a. tt);
       seen-in = (λ M. clock_state.seen_in.Met.met, λ κ a. tt);
       kind-in = (λ M. clock_state.kind_in.Met.met, λ κ a. tt);
@@ -274,7 +292,7 @@ proved =
     }
 
 pub demand-1 : Demand1
-unfolding frameRefusals storeRefusals compareRefusals loadRefusals buildRefusals checkRefusals portRefusals releaseRefusals lookRefusals
+unfolding frameRefusals storeRefusals compareRefusals loadRefusals dischargeRefusals buildRefusals checkRefusals portRefusals releaseRefusals lookRefusals
 demand-1 =
     record {
       promises = proved;
@@ -295,6 +313,9 @@ demand-1 =
       load = load-number;
       load-order = λ table position codes. refl;
       load-stays = refused-load;
+      discharge = discharge-number;
+      discharge-order = λ table position phase room. refl;
+      discharge-stays = refused-discharge;
       build = built-number;
       build-order = λ code n values room. refl;
       build-stays = refused-build;

@@ -3,13 +3,14 @@
 -- from 0 here: monitor 1 of the paper is k = 0. Each field is proved where it is cited from.
 -- Assumes nothing.
 use mathlib.Core.Path.{_≡_, refl}
-use mathlib.Core.Bool.{true, false, not, _&&_}
+use mathlib.Core.Bool.{Bool, true, false, not, _&&_}
 use mathlib.Core.List.{List, [], _∷_, _++_, map, reverse}
-use Prim.Native.Nat.{ℕ, suc, _-_, _*_, _≤_, _<_}
+use mathlib.Core.Logic.{_⊎_}
+use Prim.Native.Nat.{ℕ, suc, _+_, _-_, _*_, _%_, _≤_, _<_}
 use lib.Bits.{bitOr}
 use lib.Dec.{eqb, ltb, leb}
 use lib.IntN.{ℤ, pos, negsuc}
-use lib.ListN.{length, take, drop, getD}
+use lib.ListN.{length, take, drop, getD, replicate}
 use mir.Syntax.{w16}
 use mir.Val.{SFits}
 use Rattle.laws.specs.Counts.{all, count}
@@ -21,13 +22,14 @@ use Rattle.refusals.specs.declared.Refusal.the-variants.{TableNotSound, FrameSh
 use Rattle.refusals.specs.Order.{_gives_}
 use Rattle.refusals.proofs.Deciding.{Passed}
 use Rattle.records.specs.declared.commands.Bare.{Bare}
-use Rattle.records.specs.declared.commands.Bare.the-variants.{Clrcell}
+use Rattle.records.specs.declared.commands.Bare.the-variants.{Mute, Unmute, Clrcell}
+use Rattle.records.specs.declared.commands.Command.{Command}
 use Rattle.records.specs.declared.commands.Command.the-variants.{Reads, Writes, Bares}
 use Rattle.records.specs.declared.commands.Write.{Write}
-use Rattle.records.specs.declared.commands.Write.the-variants.{Wrcfgb}
+use Rattle.records.specs.declared.commands.Write.the-variants.{Wrcfgb, Wrpwma, Wrpwmb}
 use Rattle.records.specs.declared.record.Part.{Part}
-use Rattle.records.specs.Record.{cellCount, cells, flags, recordSize, counter, unlocked, byteOf}
-use Rattle.records.specs.Commands.{commands, commandOf, isListed, rdcfgb, mostMonitors, payloadSize, frameLength, replyLength}
+use Rattle.records.specs.Record.{cellCount, cells, flags, pwmA, pwmB, recordSize, counter, unlocked, bytesOf as partOf, byteOf}
+use Rattle.records.specs.Commands.{commands, commandOf, isListed, rdcfgb, rdpwma, rdpwmb, mostMonitors, payloadSize, frameLength, replyLength}
 use Rattle.writes.specs.Writes.{written}
 use Rattle.monitor.specs.Effects.{locked, counted, done, keeps}
 use Rattle.reads.specs.Reply.{register, reply}
@@ -49,14 +51,27 @@ use Rattle.loads.proofs.Keeps.{store-keeps, compare-keeps, load-keeps}
 use Rattle.loads.proofs.Bytes.{store-as-long, store-only-cells, compare-as-long, compare-only-flags, compare-only-sets}
 use Rattle.loads.proofs.Judging.{as-stored}
 use Rattle.loads.proofs.Halves.{compare-after-store, store-and-compare, second-judged, second-counts, second-compared, compare-again}
+use Rattle.monitor.proofs.Spares.{Spares, keeps-spares}
+use Rattle.priorities.specs.declared.outputs.Events.{Events}
+use Rattle.priorities.specs.declared.outputs.Output.{Output}
+use Rattle.priorities.specs.Switches.{muted, dcc, duty}
+use Rattle.priorities.specs.Table27.{Row, lastPhase, phases, table27, outputOf}
+use Rattle.priorities.specs.Outputs.{shown, outputs, countOn}
+use Rattle.priorities.proofs.Deciding.{Decides, Decider, its-row, one-decides, row-range, on-by-4-or-1, dcc-on, on-for-its-duty}
+use Rattle.priorities.proofs.OwnBits.{flipped, Own, no-other-bit}
+use Rattle.priorities.proofs.Shown.{row-shown, on-shown, own-output, count-shown, shutdown-none, mute-none, wrcfgb-none}
+use Rattle.discharge.specs.declared.question.Discharged.the-variants.{On}
+use Rattle.discharge.specs.Question.{dischargeRefusals, discharged, outputsAfter}
 use Rattle.host.specs.declared.frames.Built.the-variants.{Length}
 use Rattle.host.specs.Frames.{dataSize, sealed, frameFor, buildRefusals, built, bufferAfter}
 use Rattle.ports.specs.Ports.{partA}
 use Rattle.ports.specs.Parts.{bytesOf}
 use Rattle.story.specs.Numbers.{First}
-use Rattle.story.proofs.Accepted.{frame-refused, write-answer, read-answer, bare-answer, record-after, reply-own, reply-past, write-no-reply, bare-no-reply, store-done, store-own, store-others, compare-done, compare-own, compare-others, load-done, load-own, load-others, host-writes}
+use Rattle.story.proofs.Accepted.{frame-refused, write-answer, read-answer, bare-answer, record-after, reply-own, reply-past, write-no-reply, bare-no-reply, store-done, store-own, store-others, compare-done, compare-own, compare-others, load-done, load-own, load-others, discharge-answer, host-writes}
 use Rattle.story.proofs.OurHost.{own-six, write-taken-by-all, bare-taken-by-all, each-keeps-its-own, reply-right, read-taken-by-all, each-reply-its-own, each-reply-right}
-use Rattle.story.proofs.ReadBack.{written-and-read-back}
+use Rattle.story.proofs.ReadBack.{ReadsBack, as-written, fixed-behind-two, b-read-back, pwm-a-read-back, pwm-b-read-back}
+use Rattle.story.proofs.AsBefore.{base-as-before, reply-as-before, pwm-stays, a-stays, b-stays}
+use Rattle.story.proofs.Muting.{mute-answers, unmute-answers}
 use Rattle.story.proofs.BothEnds.{the-replies, handed-from-a, handed-from-b}
 use Rattle.story.proofs.Cleared.{clrcell-clears}
 use Rattle.story.proofs.EitherSide.{EitherSide, either-side}
@@ -91,6 +106,18 @@ pub record Demand2 : Type 0 where
   right-keeps : (c : Write) (eight r : List ℕ) → payloadRight eight ≡ true
       → keeps (Writes c) eight r ≡ written c (byteOf unlocked r) eight (counted (locked r))
   wrong-keeps : (c : Write) (eight r : List ℕ) → payloadRight eight ≡ false → keeps (Writes c) eight r ≡ locked r
+  -- a command changes no part of a record but the retention byte, the counter and the part that is its own
+  spares : (p : Part) (c : Command) (eight r : List ℕ) → Spares c p → partOf p (keeps c eight r) ≡ partOf p r
+  -- the record has grown behind its byte 69, and every command but the two that write there does to the front what it does without the rest,
+  -- leaves the rest, and replies from the front
+  as-before : (c : Command) → (c ≡ Writes Wrpwma → ⊥) → (c ≡ Writes Wrpwmb → ⊥) → (eight front rest : List ℕ) → length front ≡ pwmA .at
+      → keeps c eight (front ++ rest) ≡ keeps c eight front ++ rest
+  replies-as-before : (p : Part) (front rest : List ℕ) → p .at + p .size ≤ pwmA .at → length front ≡ pwmA .at → reply p (front ++ rest) ≡ reply p front
+  -- so both PWM groups stay, and each also where the other is written
+  pwm-stays : (c : Command) → (c ≡ Writes Wrpwma → ⊥) → (c ≡ Writes Wrpwmb → ⊥) → (eight r : List ℕ)
+      → (partOf pwmA (keeps c eight r) ≡ partOf pwmA r) × (partOf pwmB (keeps c eight r) ≡ partOf pwmB r)
+  pwm-a-stays : (eight r : List ℕ) → partOf pwmA (keeps (Writes Wrpwmb) eight r) ≡ partOf pwmA r
+  pwm-b-stays : (eight r : List ℕ) → partOf pwmB (keeps (Writes Wrpwma) eight r) ≡ partOf pwmB r
   -- a sound table stays sound, with its N monitors
   stays-sound : (table frame : List ℕ) (room : ℕ) → sound table ≡ true → Keeps table (tableAfter table frame room)
   -- every monitor replies in its own place, nearest first, and the bytes past the reply stay
@@ -175,6 +202,65 @@ pub record Demand2 : Type 0 where
   load-flags : (codes : List ℤ) (r : List ℕ) → length r ≡ recordSize → (c : ℕ) → c < cellCount → SFits w16 (getD codes c (pos 0))
       → isCleared (getD codes c (pos 0)) ≡ false
       → flagsIn (load codes r) c ≡ bitOr (flagsIn r c) (flagsFor (record { 0 = getD codes c (pos 0) }) (codesOf (vuv r)) (codesOf (vov r)))
+  -- ---- discharge: `discharge::discharge`, the question about the outputs of one monitor
+
+  -- the exact refusals, in their order
+  discharge-refusals : (table : List ℕ) (position phase room : ℕ) → dischargeRefusals table position phase room
+      ≡ (not (sound table) gives TableNotSound)
+      ∷ (not (leb 1 position && leb position (monitors table)) gives PositionWrong)
+      ∷ (ltb lastPhase phase gives PositionWrong)
+      ∷ (ltb room cellCount gives NoRoom)
+      ∷ []
+  -- none holds: how many are on of the monitor at the position, and the bytes of the sixteen at the start of the buffer; bytes past them stay
+  discharge-answer : (table : List ℕ) (position : ℕ) (events : Events) (phase : ℕ) (out : List ℕ) → Passed (dischargeRefusals table position phase (length out))
+      → (discharged table position events phase (length out) ≡ On (countOn events phase (rowAt recordSize (position - 1) table)))
+      × (outputsAfter table position events phase out ≡ outputs events phase (rowAt recordSize (position - 1) table) ++ drop cellCount out)
+  -- cell c's byte is its own, and tells its row and whether it is on; as many say on as are counted
+  own-output : (events : Events) (phase : ℕ) (r : List ℕ) (c : ℕ) → 1 ≤ c → c ≤ cellCount
+      → getD (outputs events phase r) (c - 1) 0 ≡ shown (outputOf events phase r c)
+  shown-row : (o : Output) → o .row ≤ 7 → shown o % 0x80 ≡ o .row
+  shown-on : (o : Output) → o .row ≤ 7 → leb 0x80 (shown o) ≡ o .on
+  counted-on : (events : Events) (phase : ℕ) (r : List ℕ) → countOn events phase r ≡ count (leb 0x80) (outputs events phase r)
+  -- the rows, from the top: priority, event, and whether the output is then on
+  rows-27 : (events : Events) (phase : ℕ) (r : List ℕ) (c : ℕ) → table27 events phase r c
+      ≡ record { priority = 7; event = events .shutdown; on = false }
+      ∷ record { priority = 6; event = muted r; on = false }
+      ∷ record { priority = 5; event = events .wrcfgb; on = false }
+      ∷ record { priority = 4; event = dcc r c; on = true }
+      ∷ record { priority = 3; event = events .measurement; on = false }
+      ∷ record { priority = 2; event = events .wrpwm; on = false }
+      ∷ record { priority = 1; event = true; on = ltb phase (duty r c) }
+      ∷ []
+  -- exactly one of them decides each output, and its number is 1 to 7
+  one-row : (events : Events) (phase : ℕ) (r : List ℕ) (c : ℕ) → Decider (table27 events phase r c)
+  no-other-row : (rows : List Row) (p q : Row) → Decides rows p → Decides rows q → p ≡ q
+  row-range : (events : Events) (phase : ℕ) (r : List ℕ) (c : ℕ) → (1 ≤ outputOf events phase r c .row) × (outputOf events phase r c .row ≤ 7)
+  -- on only by row 4 or row 1; a shutdown, a mute and a write of configuration B leave none on, and nothing else stops a cell's own DCC bit
+  on-by-4-or-1 : (events : Events) (phase : ℕ) (r : List ℕ) (c : ℕ) → outputOf events phase r c .on ≡ true
+      → (outputOf events phase r c .row ≡ 4) ⊎ (outputOf events phase r c .row ≡ 1)
+  shutdown-none : (events : Events) (phase : ℕ) (r : List ℕ) → events .shutdown ≡ true → countOn events phase r ≡ 0
+  mute-none : (events : Events) (phase : ℕ) (r : List ℕ) → muted r ≡ true → countOn events phase r ≡ 0
+  wrcfgb-none : (events : Events) (phase : ℕ) (r : List ℕ) → events .wrcfgb ≡ true → countOn events phase r ≡ 0
+  dcc-on : (events : Events) (phase : ℕ) (r : List ℕ) (c : ℕ) → events .shutdown ≡ false → muted r ≡ false → events .wrcfgb ≡ false → dcc r c ≡ true
+      → outputOf events phase r c ≡ record { row = 4; on = true }
+  -- a cell's output goes by no bit of the record but MUTE_ST, its own DCC bit and the four bits of its duty: by none of another cell
+  no-other-bit : (r : List ℕ) (c : ℕ) → 1 ≤ c → c ≤ cellCount → (at bit : ℕ) → bit < 8 → (Own c at bit → ⊥) → (events : Events) (phase : ℕ)
+      → outputOf events phase (flipped at bit r) c ≡ outputOf events phase r c
+  -- of the fifteen phases a cell that row 1 decides is on in as many as its duty says
+  on-for-its-duty : (events : Events) (phase : ℕ) (r : List ℕ) (c : ℕ) → outputOf events phase r c .row ≡ 1
+      → count (λ p. outputOf events p r c .on) phases ≡ duty r c
+  -- after a MUTE, and without a shutdown, every output of every monitor is off by row 6
+  mute-answers : (table frame : List ℕ) (room : ℕ) → Passed (frameRefusals table frame room) → commandIn frame ≡ Bares Mute
+      → (position : ℕ) (events : Events) (phase : ℕ) (out : List ℕ) → events .shutdown ≡ false
+      → Passed (dischargeRefusals (tableAfter table frame room) position phase (length out))
+      → (discharged (tableAfter table frame room) position events phase (length out) ≡ On 0)
+      × (outputsAfter (tableAfter table frame room) position events phase out ≡ replicate cellCount 6 ++ drop cellCount out)
+  -- after a MUTE and an UNMUTE every answer is as it was, of a monitor whose MUTE_ST was clear
+  unmute-answers : (table mute unmute : List ℕ) (room other : ℕ) → Passed (frameRefusals table mute room) → commandIn mute ≡ Bares Mute
+      → Passed (frameRefusals (tableAfter table mute room) unmute other) → commandIn unmute ≡ Bares Unmute
+      → (position : ℕ) (events : Events) (phase : ℕ) (out : List ℕ) → muted (rowAt recordSize (position - 1) table) ≡ false
+      → (discharged (tableAfter (tableAfter table mute room) unmute other) position events phase (length out) ≡ discharged table position events phase (length out))
+      × (outputsAfter (tableAfter (tableAfter table mute room) unmute other) position events phase out ≡ outputsAfter table position events phase out)
   -- ---- our host: `host::build`, and the chain that its frames come to
 
   -- the frame goes to the start of the buffer, and the bytes past it stay
@@ -205,12 +291,10 @@ pub record Demand2 : Type 0 where
   each-right : (table buffer : List ℕ) (code : ℕ) (part : Part) → commandOf code commands ≡ Reads part → sound table ≡ true
       → payloadSize * monitors table ≤ length buffer → (k : ℕ) → k < monitors table
       → payloadRight (rowAt payloadSize k (replyAfter table (frameFor code (monitors table) []) buffer)) ≡ true
-  -- configuration B written and read back is our list
-  read-back : (table values buffer replies : List ℕ) (write read : ℕ) → commandOf write commands ≡ Writes Wrcfgb → commandOf read commands ≡ Reads rdcfgb
-      → sound table ≡ true → length values ≡ dataSize * monitors table → ((i : ℕ) → getD values i 0 < 256) → payloadSize * monitors table ≤ length replies
-      → (k : ℕ) → k < monitors table
-      → take dataSize (rowAt payloadSize k (replyAfter (tableAfter table (frameFor write (monitors table) values) (length buffer)) (frameFor read (monitors table) []) replies))
-      ≡ rowAt dataSize k values
+  -- configuration B and PWM group A written and read back are our list; of PWM group B the first two bytes of each six, and four of FF
+  read-back : ReadsBack Wrcfgb rdcfgb as-written
+  read-back-pwm-a : ReadsBack Wrpwma rdpwma as-written
+  read-back-pwm-b : ReadsBack Wrpwmb rdpwmb fixed-behind-two
   -- `host::part_of`: what the chain replies at port A, and from its other end at port B, hands over monitor k's own reply, k from 1
   port-a : (table buffer : List ℕ) (code : ℕ) (part : Part) → commandOf code commands ≡ Reads part → sound table ≡ true
       → length buffer ≡ payloadSize * monitors table
@@ -225,7 +309,7 @@ pub record Demand2 : Type 0 where
   examples : EitherSide
 
 pub demand-2 : Demand2
-unfolding frameRefusals storeRefusals compareRefusals loadRefusals keeps reply
+unfolding frameRefusals storeRefusals compareRefusals loadRefusals dischargeRefusals table27 keeps reply
 demand-2 =
     record {
       refusals = λ table frame room. refl;
@@ -238,6 +322,12 @@ demand-2 =
       bare-keeps = λ c eight r. refl;
       right-keeps = keeps-right;
       wrong-keeps = keeps-wrong;
+      spares = keeps-spares;
+      as-before = base-as-before;
+      replies-as-before = reply-as-before;
+      pwm-stays = pwm-stays;
+      pwm-a-stays = a-stays;
+      pwm-b-stays = b-stays;
       stays-sound = frame-keeps;
       own-reply = reply-own;
       past-reply = reply-past;
@@ -277,6 +367,25 @@ demand-2 =
       compare-after-store = compare-after-store;
       store-and-compare = store-and-compare;
       load-flags = load-flags;
+      discharge-refusals = λ table position phase room. refl;
+      discharge-answer = discharge-answer;
+      own-output = own-output;
+      shown-row = row-shown;
+      shown-on = on-shown;
+      counted-on = count-shown;
+      rows-27 = λ events phase r c. refl;
+      one-row = its-row;
+      no-other-row = one-decides;
+      row-range = row-range;
+      on-by-4-or-1 = on-by-4-or-1;
+      shutdown-none = shutdown-none;
+      mute-none = mute-none;
+      wrcfgb-none = wrcfgb-none;
+      dcc-on = dcc-on;
+      no-other-bit = λ r c first last at bit small other events phase. no-other-bit r c first last at bit small other events phase;
+      on-for-its-duty = on-for-its-duty;
+      mute-answers = mute-answers;
+      unmute-answers = unmute-answers;
       host-writes = host-writes;
       own-six = own-six;
       all-take = write-taken-by-all;
@@ -285,7 +394,9 @@ demand-2 =
       all-reply = read-taken-by-all;
       each-replies = each-reply-its-own;
       each-right = each-reply-right;
-      read-back = written-and-read-back;
+      read-back = b-read-back;
+      read-back-pwm-a = pwm-a-read-back;
+      read-back-pwm-b = pwm-b-read-back;
       port-a = the-replies;
       handed-from-a = handed-from-a;
       handed-from-b = handed-from-b;

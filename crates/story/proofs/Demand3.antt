@@ -3,26 +3,32 @@
 -- What the three runs are stands in specs/Runs.antt. By going along the events: one event by either engine is one by the rules
 -- (Runs.antt), and the number of monitors stays, so that the reply buffer keeps its room.
 -- Assumes nothing.
-use mathlib.Core.Path.{_≡_, refl, sym, ap, ap₂, _∙_, subst}
+use mathlib.Core.Path.{_≡_, refl, sym, ap, ap₂, _∙_, subst, subst⁻¹}
 use mathlib.Core.Bool.{Bool, true, false, cond}
-use mathlib.Core.List.{List, [], _∷_, map}
-use Prim.Native.Nat.{ℕ, _*_, _≤_}
+use mathlib.Core.List.{List, [], _∷_, _++_, map}
+use Prim.Native.Nat.{ℕ, _-_, _*_, _≤_}
 use native.Mathlib.Omega.{arith}
 use lib.IntN.{ℤ}
-use lib.ListN.{length, drop}
-use Rattle.laws.specs.Rows.{rows}
+use lib.Dec.{ltb}
+use lib.ListN.{length, drop, replicate}
+use borrow.Author.Tests.{le-ltb}
+use Rattle.laws.specs.Rows.{rows, rowAt}
 use Rattle.wire.specs.Order.{replyData}
 use Rattle.refusals.specs.declared.Refusal.{Refusal}
 use Rattle.refusals.specs.declared.Refusal.the-variants.{TableNotSound}
-use Rattle.records.specs.declared.commands.Command.the-variants.{Reads}
+use Rattle.refusals.proofs.Deciding.{Passed}
+use Rattle.records.specs.declared.commands.Bare.{Bare}
+use Rattle.records.specs.declared.commands.Bare.the-variants.{Mute, Unmute}
+use Rattle.records.specs.declared.commands.Command.{Command}
+use Rattle.records.specs.declared.commands.Command.the-variants.{Reads, Bares}
 use Rattle.records.specs.declared.record.Part.{Part}
-use Rattle.records.specs.Record.{recordSize}
-use Rattle.records.specs.Commands.{mostMonitors, payloadSize}
+use Rattle.records.specs.Record.{cellCount, recordSize}
+use Rattle.records.specs.Commands.{mostMonitors, payloadSize, replyLength}
 use Rattle.reads.specs.Reply.{reply}
 use Rattle.chain.specs.declared.frames.Answer.the-variants.{Refused, Accepted}
 use Rattle.judging.specs.Table.{monitors, sound}
 use Rattle.judging.specs.Refusals.{commandIn}
-use Rattle.chain.specs.Frame.{tableAfter, replyAfter}
+use Rattle.chain.specs.Frame.{frameRefusals, tableAfter, replyAfter}
 use Rattle.chain.proofs.Room.{stop-unsound}
 use Rattle.judging.proofs.Keeps.{Keeps}
 use Rattle.chain.proofs.FrameKeeps.{frame-keeps, monitors-after-frame}
@@ -35,14 +41,19 @@ use Rattle.loads.proofs.Judging.{stop-1 as cells-stop-1, refused-before, as-sto
 use Rattle.loads.proofs.Refused.{table-stored, refused-store, table-compared, refused-load}
 use Rattle.loads.proofs.Keeps.{store-keeps, compare-keeps}
 use Rattle.loads.proofs.Halves.{compare-after-store, store-and-compare}
+use Rattle.priorities.specs.declared.outputs.Events.{Events}
+use Rattle.priorities.specs.Switches.{muted}
+use Rattle.discharge.specs.declared.question.Discharged.the-variants.{On}
+use Rattle.discharge.specs.Question.{dischargeRefusals, discharged, outputsAfter}
 use Rattle.clocking.specs.Clock.{Clock, chainedBy, clocked}
 use Rattle.releasing.specs.Release.{released}
 use Rattle.clock_state.specs.State.{stateSize, idle}
 use Rattle.clocking.specs.Bytes.{clockOf, stateAfter}
 use Rattle.clocking.proofs.View.{view}
 use Rattle.clocked.proofs.Whole.{released-read}
-use Rattle.story.specs.Runs.{Event, Frame, Store, Compare, StoreAnswered, CompareAnswered, Left, saw, Step, ruled, byRules, byFrames, stateAfterAll, cameBack, byBytes}
+use Rattle.story.specs.Runs.{Event, Frame, Store, Compare, StoreAnswered, CompareAnswered, Left, saw, Step, ruleRefusals, ruled, byRules, byFrames, stateAfterAll, cameBack, byBytes, Engine, WholeFrames, ClockedBytes, Ready, by}
 use Rattle.story.proofs.ByteFour.{only-byte-four, at-byte-four, noted-stays, another-n}
+use Rattle.story.proofs.Muting.{mute-answers, unmute-answers}
 use Rattle.story.proofs.Runs.{frame-step, length-after, store-step, compare-step, full, has-room, clock-whole, back-whole, clocked-step}
 
 -- ---- the demand. It asks for a sound table; the engines agree on any: one that is not sound is refused by both
@@ -65,6 +76,19 @@ pub record Demand3 : Type 0 where
       ≡ saw (StoreAnswered Done) (saw (CompareAnswered Done) (byRules (tableAfterLoad table position codes) events))
   load-refused : (table : List ℕ) (position : ℕ) (codes : List ℤ) (events : List Event) (r : Refusal) → loaded table position codes ≡ Unloaded r
       → byRules table (Store position codes ∷ events) ≡ saw (StoreAnswered (Unloaded r)) (byRules (tableAfterLoad table position codes) events)
+  -- so through either engine, after a MUTE and without a shutdown every output of every monitor is off by row 6
+  mute : (engine : Engine) (table frame : List ℕ) → Ready engine table → Passed (ruleRefusals table frame) → commandIn frame ≡ Bares Mute
+      → (position : ℕ) (events : Events) (phase : ℕ) (out : List ℕ) → events .shutdown ≡ false
+      → let after = by engine table (Frame frame ∷ []) .table in
+      Passed (dischargeRefusals after position phase (length out))
+      → (discharged after position events phase (length out) ≡ On 0) × (outputsAfter after position events phase out ≡ replicate cellCount 6 ++ drop cellCount out)
+  -- and after a MUTE and an UNMUTE every answer is as it was, of a monitor whose MUTE_ST was clear
+  unmute : (engine : Engine) (table first second : List ℕ) → Ready engine table → Passed (ruleRefusals table first) → commandIn first ≡ Bares Mute
+      → Passed (ruleRefusals (by engine table (Frame first ∷ []) .table) second) → commandIn second ≡ Bares Unmute
+      → (position : ℕ) (events : Events) (phase : ℕ) (out : List ℕ) → muted (rowAt recordSize (position - 1) table) ≡ false
+      → let after = by engine table (Frame first ∷ Frame second ∷ []) .table in
+      (discharged after position events phase (length out) ≡ discharged table position events phase (length out))
+      × (outputsAfter after position events phase out ≡ outputsAfter table position events phase out)
   -- at every byte, not only at a release, the bytes of the state stand for the windows as the rules move them
   every-byte : (table : List ℕ) (byte : ℕ) (state : List ℕ) → length state ≡ stateSize
       → clockOf (stateAfter table byte state) ≡ clocked table byte (clockOf state)
@@ -159,6 +183,63 @@ module _ (table : List ℕ) (position : ℕ) (codes : List ℤ) (events : List E
       ∙ ap₂ (λ (a : Loaded) (t : List ℕ). saw (StoreAnswered a) (byRules t events)) refused
       (refused-store table position codes r refused ∙ sym (refused-load table position codes r e))
 
+-- ---- MUTE and UNMUTE, by either engine
+
+either-by-rules : (engine : Engine) (table : List ℕ) (events : List Event) → Ready engine table → by engine table events ≡ byRules table events
+either-by-rules (WholeFrames buffer) table events room = frames-by-rules table buffer events room
+either-by-rules (ClockedBytes state) table events room = bytes-by-rules table state events
+
+-- a bare command has no reply, so what the rules accept is accepted whatever the room
+bare-passes : (table frame : List ℕ) (c : Bare) → commandIn frame ≡ Bares c → Passed (ruleRefusals table frame) → (room : ℕ) → Passed (frameRefusals table frame room)
+unfolding ruleRefusals frameRefusals
+bare-passes table frame c its p room =
+    (p .0, (p .1 .0, (p .1 .1 .0, (p .1 .1 .1 .0, (p .1 .1 .1 .1 .0, (ap (λ (k : Command). ltb room (replyLength k (monitors table))) its ∙ le-ltb room 0 (omega arith), tt))))))
+
+-- the table that a frame leaves by the rules is the one that it leaves as a whole
+ruled-frame : (table frame : List ℕ) → byRules table (Frame frame ∷ []) .table ≡ tableAfter table frame (length (full table))
+unfolding byRules
+ruled-frame table frame = sym (ap (λ (step : Step). step .table) (frame-step table frame (full table) (has-room table)))
+
+module _ (engine : Engine) (table frame : List ℕ) (ready : Ready engine table) where
+  one-frame : by engine table (Frame frame ∷ []) .table ≡ tableAfter table frame (length (full table))
+  one-frame = ap (λ (left : Left). left .table) (either-by-rules engine table (Frame frame ∷ []) ready) ∙ ruled-frame table frame
+
+  two-frames : (second : List ℕ) → by engine table (Frame frame ∷ Frame second ∷ []) .table
+      ≡ tableAfter (tableAfter table frame (length (full table))) second (length (full (tableAfter table frame (length (full table)))))
+  unfolding byRules
+  two-frames second =
+      ap (λ (left : Left). left .table) (either-by-rules engine table (Frame frame ∷ Frame second ∷ []) ready)
+      ∙ ap (λ (t : List ℕ). byRules t (Frame second ∷ []) .table) (ruled-frame table frame)
+      ∙ ruled-frame (tableAfter table frame (length (full table))) second
+
+  mute-by : Passed (ruleRefusals table frame) → commandIn frame ≡ Bares Mute → (position : ℕ) (events : Events) (phase : ℕ) (out : List ℕ) → events .shutdown ≡ false
+      → let after = by engine table (Frame frame ∷ []) .table in
+      Passed (dischargeRefusals after position phase (length out))
+      → (discharged after position events phase (length out) ≡ On 0) × (outputsAfter after position events phase out ≡ replicate cellCount 6 ++ drop cellCount out)
+  mute-by passed its position events phase out up =
+      subst⁻¹
+      (λ (t : List ℕ).
+      Passed (dischargeRefusals t position phase (length out))
+      → (discharged t position events phase (length out) ≡ On 0) × (outputsAfter t position events phase out ≡ replicate cellCount 6 ++ drop cellCount out))
+      one-frame (mute-answers table frame (length (full table)) (bare-passes table frame Mute its passed (length (full table))) its position events phase out up)
+
+  unmute-by : (second : List ℕ) → Passed (ruleRefusals table frame) → commandIn frame ≡ Bares Mute
+      → Passed (ruleRefusals (by engine table (Frame frame ∷ []) .table) second) → commandIn second ≡ Bares Unmute
+      → (position : ℕ) (events : Events) (phase : ℕ) (out : List ℕ) → muted (rowAt recordSize (position - 1) table) ≡ false
+      → let after = by engine table (Frame frame ∷ Frame second ∷ []) .table in
+      (discharged after position events phase (length out) ≡ discharged table position events phase (length out))
+      × (outputsAfter after position events phase out ≡ outputsAfter table position events phase out)
+  unmute-by second passed its passed-too its-too position events phase out was =
+      let between = tableAfter table frame (length (full table)) in
+      let then : Passed (ruleRefusals between second) = subst (λ (t : List ℕ). Passed (ruleRefusals t second)) one-frame passed-too in
+      subst⁻¹
+      (λ (t : List ℕ).
+      (discharged t position events phase (length out) ≡ discharged table position events phase (length out))
+      × (outputsAfter t position events phase out ≡ outputsAfter table position events phase out))
+      (two-frames second)
+      (unmute-answers table frame second (length (full table)) (length (full between)) (bare-passes table frame Mute its passed (length (full table))) its
+      (bare-passes between second Unmute its-too then (length (full between))) its-too position events phase out was)
+
 -- ---- what they end in
 
 step-keeps : (table : List ℕ) (event : Event) → sound table ≡ true → Keeps table (ruled table event .table)
@@ -189,6 +270,8 @@ demand-3 =
       alike = λ table buffer state events room. frames-by-rules table buffer events room ∙ sym (bytes-by-rules table state events);
       load-done = halves-by-rules;
       load-refused = refused-by-rules;
+      mute = mute-by;
+      unmute = λ engine table first second ready. unmute-by engine table first ready second;
       every-byte = view;
       only-byte-four = only-byte-four;
       at-byte-four = at-byte-four;

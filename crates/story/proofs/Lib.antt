@@ -14,3 +14,5 @@ pub mod Demand3
 pub mod SurfaceNumbers
 pub mod Surface
 pub mod Cleared
+pub mod AsBefore
+pub mod Muting

@@ -21,6 +21,9 @@ use Rattle.chain.specs.Numbers.{numbersOf}
 use Rattle.loads.specs.declared.loads.Loaded.the-variants.{Unloaded, Done}
 use Rattle.loads.specs.Load.{storeRefusals, stored, compareRefusals, compared, loadRefusals, loaded}
 use Rattle.loads.specs.Numbers.{loadNumber}
+use Rattle.priorities.specs.declared.outputs.Events.{Events}
+use Rattle.discharge.specs.declared.question.Discharged.the-variants.{Refused as Unasked}
+use Rattle.discharge.specs.Question.{dischargeRefusals, discharged}
 use Rattle.releasing.specs.declared.looks.Looked.the-variants.{Refused as Unseen}
 use Rattle.clocking.specs.Clock.{Clock}
 use Rattle.releasing.specs.Release.{releaseRefusals, released}
@@ -33,7 +36,7 @@ use Rattle.ports.specs.Check.{checkRefusals, checked}
 use Rattle.ports.specs.Ports.{partA, portRefusals, portOf}
 use Rattle.readings.specs.declared.pack_summary.Pack.the-variants.{Refused as Unsummed}
 use Rattle.readings.specs.Readings.{measured, wholeOf, summaryOf}
-use Rattle.story.specs.Numbers.{builtNumbers, checkedNumbers, portNumber, lookedNumbers, packNumbers, summaryRefusals, firstNumber, First}
+use Rattle.story.specs.Numbers.{dischargedNumbers, builtNumbers, checkedNumbers, portNumber, lookedNumbers, packNumbers, summaryRefusals, firstNumber, First}
 
 -- ---- which refusal it is
 
@@ -117,6 +120,12 @@ compare-number table position = done-number (compareRefusals table position)
 pub load-number : (table : List ℕ) (position : ℕ) (codes : List ℤ) → loadNumber (loaded table position codes) ≡ firstNumber (loadRefusals table position codes)
 unfolding loaded
 load-number table position codes = done-number (loadRefusals table position codes)
+
+pub discharge-number : (table : List ℕ) (position : ℕ) (events : Events) (phase room : ℕ)
+    → dischargedNumbers (discharged table position events phase room) .number ≡ firstNumber (dischargeRefusals table position phase room)
+unfolding discharged
+discharge-number table position events phase room =
+    number-by (λ d. dischargedNumbers d .number) (dischargeRefusals table position phase room) Unasked _ (λ r. refl) refl
 
 pub release-number : (c : Clock) (table : List ℕ) → numbersOf (released c table) .number ≡ firstNumber (releaseRefusals c table)
 unfolding released

@@ -9,7 +9,7 @@ use mathlib.Core.List.{List, [], _∷_, _++_}
 use Prim.Native.Nat.{ℕ}
 use denote.Ref.{now}
 use lib.Dec.{eqb, leb}
-use lib.ListN.{length, getD}
+use lib.ListN.{length, drop, getD}
 use Rattle.laws.specs.Counts.{count}
 use Rattle.laws.specs.Rows.{rows, joined, along}
 use Rattle.bytes.specs.Placed.{placed, fits}
@@ -46,6 +46,11 @@ use Rattle.loads.specs.Numbers.{loadNumber}
 use Rattle.thresholds.proofs as thresholds
 use Rattle.cells.proofs as cells
 use Rattle.loads.proofs as loads
+use Rattle.judging.specs.Places.{placed as placeOf}
+use Rattle.priorities.specs.Outputs.{outputs, countOn}
+use Rattle.priorities.proofs as priorities
+use Rattle.discharge.specs.Question.{discharged, outputsAfter}
+use Rattle.discharge.proofs as discharge
 use Rattle.judging.proofs as judging
 use Rattle.serving.proofs as serving
 use Rattle.replying.proofs as replying
@@ -155,6 +160,7 @@ pub record OneOutcome : Type 0 where
       (λ κ a. leaves (cond (repliesInto (a .1 .0) (now (a .0)) (length (now (a .1 .1 .0)))) (replyLength (a .1 .0) (monitors (now (a .0)))) 0) (cond (repliesInto (a .1 .0) (now (a .0)) (length (now (a .1 .1 .0)))) (replied (a .1 .0) (monitors (now (a .0))) (now (a .0)) (now (a .1 .1 .0))) (now (a .1 .1 .0)) ∷ []))
   handle : Settles chain.handle.Reads.Post (λ κ z e. leaves z (now (e .0) ∷ now (e .1 .1 .0) ∷ []))
       (λ κ a. leaves (answer (now (a .0)) (now (a .1 .0)) (length (now (a .1 .1 .0)))) (tableAfter (now (a .0)) (now (a .1 .0)) (length (now (a .1 .1 .0))) ∷ replyAfter (now (a .0)) (now (a .1 .0)) (now (a .1 .1 .0)) ∷ []))
+  place-of : Settles judging.place_of.Reads.Post (λ κ z e. leaves z []) (λ κ a. leaves (placeOf (now (a .0)) (a .1 .0)) [])
   -- store, compare and load
   codes-of : Settles thresholds.codes_of.Reads.Post (λ κ z e. leaves z []) (λ κ a. leaves (codesOf (a .0)) [])
   over-threshold : Settles thresholds.over_threshold.Reads.Post (λ κ z e. leaves z []) (λ κ a. leaves (vov (now (a .0))) [])
@@ -170,6 +176,11 @@ pub record OneOutcome : Type 0 where
       (λ κ a. leaves (compared (now (a .0)) (a .1 .0)) (tableAfterCompare (now (a .0)) (a .1 .0) ∷ []))
   load : Settles loads.load.Reads.Post (λ κ z e. leaves z (now (e .0) ∷ []))
       (λ κ a. leaves (loaded (now (a .0)) (a .1 .0) (now (a .1 .1 .0))) (tableAfterLoad (now (a .0)) (a .1 .0) (now (a .1 .1 .0)) ∷ []))
+  -- discharge
+  put-outputs : Settles priorities.put_outputs.Reads.Post (λ κ z e. leaves z (now (e .1 .1 .1 .0) ∷ []))
+      (λ κ a. leaves (cond (leb cellCount (length (now (a .1 .1 .1 .0)))) (countOn (a .1 .0) (a .1 .1 .0) (now (a .0))) 0) (cond (leb cellCount (length (now (a .1 .1 .1 .0)))) (outputs (a .1 .0) (a .1 .1 .0) (now (a .0)) ++ drop cellCount (now (a .1 .1 .1 .0))) (now (a .1 .1 .1 .0)) ∷ []))
+  discharge-outputs : Settles discharge.discharge.Reads.Post (λ κ z e. leaves z (now (e .1 .1 .1 .1 .0) ∷ []))
+      (λ κ a. leaves (discharged (now (a .0)) (a .1 .0) (a .1 .1 .0) (a .1 .1 .1 .0) (length (now (a .1 .1 .1 .1 .0)))) (outputsAfter (now (a .0)) (a .1 .0) (a .1 .1 .0) (a .1 .1 .1 .0) (now (a .1 .1 .1 .1 .0)) ∷ []))
   -- the clocked engine
   start : Settles clock_state.start.Reads.Post (λ κ z e. leaves z (now (e .0) ∷ [])) (λ κ a. leaves tt (idle ∷ []))
   seen-in : Settles clock_state.seen_in.Reads.Post (λ κ z e. leaves z []) (λ κ a. leaves (seenIn (now (a .0))) [])
@@ -236,6 +247,7 @@ one-outcomes =
       replies-of = settles (λ κ a z e p i. leaves (p .0 i) (p .1 i ∷ []));
       reply-all = settles (λ κ a z e p i. leaves (p .0 i) (p .1 i ∷ []));
       handle = settles (λ κ a z e p i. leaves (p .0 i) (p .1 .0 i ∷ p .1 .1 i ∷ []));
+      place-of = settles (λ κ a z e p i. leaves (p i) []);
       codes-of = settles (λ κ a z e p i. leaves (p i) []);
       over-threshold = settles (λ κ a z e p i. leaves (p i) []);
       under-threshold = settles (λ κ a z e p i. leaves (p i) []);
@@ -245,6 +257,8 @@ one-outcomes =
       store-one = settles (λ κ a z e p i. leaves (p .0 i) (p .1 i ∷ []));
       compare-one = settles (λ κ a z e p i. leaves (p .0 i) (p .1 i ∷ []));
       load = settles (λ κ a z e p i. leaves (p .0 i) (p .1 i ∷ []));
+      put-outputs = settles (λ κ a z e p i. leaves (p .0 i) (p .1 i ∷ []));
+      discharge-outputs = settles (λ κ a z e p i. leaves (p .0 i) (p .1 i ∷ []));
       start = settles (λ κ a z e p i. leaves z (p i ∷ []));
       seen-in = settles (λ κ a z e p i. leaves (p .0 i) []);
       kind-in = settles (λ κ a z e p i. leaves (p i) []);

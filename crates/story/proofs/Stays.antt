@@ -10,6 +10,9 @@ use Rattle.refusals.specs.declared.Refusal.{Refusal}
 use Rattle.chain.specs.declared.frames.Answer.the-variants.{Refused, Accepted}
 use Rattle.chain.proofs.Refused.{accepted-apart}
 use Rattle.judging.proofs.Decided.{stays-so}
+use Rattle.priorities.specs.declared.outputs.Events.{Events}
+use Rattle.discharge.specs.declared.question.Discharged.the-variants.{Refused as Unasked, On}
+use Rattle.discharge.specs.Question.{dischargeRefusals, discharged, outputsAfter}
 use Rattle.releasing.specs.declared.looks.Looked.the-variants.{Refused as Unseen, Holds}
 use Rattle.clocking.specs.Clock.{Clock}
 use Rattle.releasing.specs.Release.{releaseRefusals, released, tableReleased}
@@ -25,6 +28,16 @@ use Rattle.ports.proofs.TwoPorts.{byPort, bytes-by-port}
 pub refused-release : (c : Clock) (table : List ℕ) (r : Refusal) → released c table ≡ Refused r → tableReleased c table ≡ table
 unfolding released tableReleased
 refused-release c table r e = stays-so (releaseRefusals c table) Refused _ r table _ (accepted-apart _ _ r) e
+
+-- the discharge outputs
+on-apart : (n : ℕ) (r : Refusal) → On n ≡ Unasked r → ⊥
+on-apart n r e = let z : _≡_ {A = ℕ} 0 1 = cc in omega arith
+
+pub refused-discharge : (table : List ℕ) (position : ℕ) (events : Events) (phase : ℕ) (out : List ℕ) (r : Refusal)
+    → discharged table position events phase (length out) ≡ Unasked r → outputsAfter table position events phase out ≡ out
+unfolding discharged outputsAfter
+refused-discharge table position events phase out r e =
+    stays-so (dischargeRefusals table position phase (length out)) Unasked _ r out _ (on-apart _ r) e
 
 -- a look
 holds-apart : (n : ℕ) (r : Refusal) → Holds n ≡ Unseen r → ⊥

@@ -14,6 +14,8 @@ use Rattle.refusals.specs.declared.Refusal.{Refusal}
 use Rattle.loads.specs.declared.loads.Loaded.{Loaded}
 use Rattle.chain.specs.Frame.{frameRefusals, answer, tableAfter, replyAfter}
 use Rattle.loads.specs.Load.{storeRefusals, stored, tableAfterStore, compareRefusals, compared, tableAfterCompare, loadRefusals, loaded, tableAfterLoad}
+use Rattle.priorities.specs.declared.outputs.Events.{Events}
+use Rattle.discharge.specs.Question.{dischargeRefusals, discharged, outputsAfter}
 use Rattle.clocking.specs.Clock.{Clock, answered}
 use Rattle.releasing.specs.Release.{releaseRefusals, released, tableReleased}
 use Rattle.releasing.specs.Look.{lookRefusals, looked, outAfter}
@@ -29,13 +31,14 @@ use Rattle.readings.specs.Readings.{microvolts, readingOf, summaryOf}
 use Rattle.story.specs.Numbers.{firstNumber, summaryRefusals}
 use Rattle.story.proofs.OneOutcome.{Settles, leaves, settles}
 use Rattle.story.proofs.Demand1.{Promised}
-use Rattle.oskorbine.specs.Packed.{packed, apart, refused, accepted, frameParts, loadParts, builtParts, checkedParts, portParts, pointed, lookedParts}
+use Rattle.oskorbine.specs.Packed.{packed, apart, refused, accepted, frameParts, loadParts, dischargedParts, builtParts, checkedParts, portParts, pointed, lookedParts}
+use Rattle.oskorbine.specs.Events.{eventsIn}
 use Rattle.oskorbine.specs.Volts.{voltsOrNan, roomRow, summaryParts, summaryOut}
 use Rattle.oskorbine.proofs.Packed.{apart-packed}
-use Rattle.oskorbine.proofs.Fits.{frame-fits, release-fits, load-fits, built-fits, checked-fits, port-fits, look-fits, byte-fits, summary-fits}
+use Rattle.oskorbine.proofs.Fits.{frame-fits, release-fits, load-fits, discharge-fits, built-fits, checked-fits, port-fits, look-fits, byte-fits, summary-fits}
 use Rattle.oskorbine.proofs.Pointed.{pointed-bytes}
 use Rattle.story.proofs.Numbers.{store-number, compare-number, load-number}
-use Rattle.story.proofs.SurfaceNumbers.{frame-number, release-number, look-number, built-number, checked-number, port-number, summary-number, summary-stays, nothing-stays}
+use Rattle.story.proofs.SurfaceNumbers.{frame-number, discharge-number, release-number, look-number, built-number, checked-number, port-number, summary-number, summary-stays, nothing-stays}
 use Rattle.oskorbine.proofs as oskorbine
 
 -- ---- every function
@@ -45,6 +48,7 @@ pub record Promises : Type 2 where
   store : Promised oskorbine.osk_store.Statement.statement oskorbine.osk_store.Reads.Asked
   compare : Promised oskorbine.osk_compare.Statement.statement oskorbine.osk_compare.Reads.Asked
   load : Promised oskorbine.osk_load.Statement.statement oskorbine.osk_load.Reads.Asked
+  discharge : Promised oskorbine.osk_discharge.Statement.statement oskorbine.osk_discharge.Reads.Asked
   host-frame : Promised oskorbine.osk_host_frame.Statement.statement oskorbine.osk_host_frame.Reads.Asked
   check : Promised oskorbine.osk_check.Statement.statement oskorbine.osk_check.Reads.Asked
   two-ports : Promised oskorbine.osk_two_ports.Statement.statement oskorbine.osk_two_ports.Reads.Asked
@@ -67,6 +71,8 @@ pub record Outcomes : Type 0 where
       (λ κ a. leaves (packed (loadParts (compared (now (a .0)) (a .1 .0)))) (tableAfterCompare (now (a .0)) (a .1 .0) ∷ []))
   load : Settles oskorbine.osk_load.Reads.Post (λ κ z e. leaves z (now (e .0) ∷ []))
       (λ κ a. leaves (packed (loadParts (loaded (now (a .0)) (a .1 .0) (now (a .1 .1 .0))))) (tableAfterLoad (now (a .0)) (a .1 .0) (now (a .1 .1 .0)) ∷ []))
+  discharge : Settles oskorbine.osk_discharge.Reads.Post (λ κ z e. leaves z (now (e .1 .1 .1 .1 .0) ∷ []))
+      (λ κ a. leaves (packed (dischargedParts (discharged (now (a .0)) (a .1 .0) (eventsIn (a .1 .1 .0)) (a .1 .1 .1 .0) (length (now (a .1 .1 .1 .1 .0)))))) (outputsAfter (now (a .0)) (a .1 .0) (eventsIn (a .1 .1 .0)) (a .1 .1 .1 .0) (now (a .1 .1 .1 .1 .0)) ∷ []))
   host-frame : Settles oskorbine.osk_host_frame.Reads.Post (λ κ z e. leaves z (now (e .1 .1 .1 .0) ∷ []))
       (λ κ a. leaves (packed (builtParts (built (a .0) (a .1 .0) (now (a .1 .1 .0)) (length (now (a .1 .1 .1 .0)))))) (bufferAfter (a .0) (a .1 .0) (now (a .1 .1 .0)) (now (a .1 .1 .1 .0)) ∷ []))
   check : Settles oskorbine.osk_check.Reads.Post (λ κ z e. leaves z []) (λ κ a. leaves (packed (checkedParts (checked (now (a .0))))) [])
@@ -92,6 +98,8 @@ pub record Surface : Type 2 where
   -- an answer is taken apart again: nothing is lost in the packing. A byte clocked is one of a state of bytes
   frame-apart : (table frame : List ℕ) (room : ℕ) → apart (packed (frameParts (answer table frame room))) ≡ frameParts (answer table frame room)
   load-apart : (l : Loaded) → apart (packed (loadParts l)) ≡ loadParts l
+  discharge-apart : (table : List ℕ) (position : ℕ) (events : Events) (phase room : ℕ)
+      → apart (packed (dischargedParts (discharged table position events phase room))) ≡ dischargedParts (discharged table position events phase room)
   host-frame-apart : (code n : ℕ) (values : List ℕ) (room : ℕ) → apart (packed (builtParts (built code n values room))) ≡ builtParts (built code n values room)
   check-apart : (c : Checked) → apart (packed (checkedParts c)) ≡ checkedParts c
   two-ports-apart : (a b : List ℕ) (n k : ℕ) → apart (packed (portParts n k (portOf a b n k))) ≡ portParts n k (portOf a b n k)
@@ -104,6 +112,8 @@ pub record Surface : Type 2 where
   store-number : (table : List ℕ) (position : ℕ) (codes : List ℤ) → loadParts (stored table position codes) .number ≡ firstNumber (storeRefusals table position codes)
   compare-number : (table : List ℕ) (position : ℕ) → loadParts (compared table position) .number ≡ firstNumber (compareRefusals table position)
   load-number : (table : List ℕ) (position : ℕ) (codes : List ℤ) → loadParts (loaded table position codes) .number ≡ firstNumber (loadRefusals table position codes)
+  discharge-number : (table : List ℕ) (position : ℕ) (events : Events) (phase room : ℕ)
+      → dischargedParts (discharged table position events phase room) .number ≡ firstNumber (dischargeRefusals table position phase room)
   host-frame-number : (code n : ℕ) (values : List ℕ) (room : ℕ) → builtParts (built code n values room) .number ≡ firstNumber (buildRefusals code n values room)
   check-number : (payload : List ℕ) → checkedParts (checked payload) .number ≡ firstNumber (checkRefusals payload)
   two-ports-number : (a b : List ℕ) (n k : ℕ) → portParts n k (portOf a b n k) .number ≡ firstNumber (portRefusals a b n k)
@@ -127,6 +137,7 @@ proved =
       store = (λ M. oskorbine.osk_store.Met.met, λ κ a. tt);
       compare = (λ M. oskorbine.osk_compare.Met.met, λ κ a. tt);
       load = (λ M. oskorbine.osk_load.Met.met, λ κ a. tt);
+      discharge = (λ M. oskorbine.osk_discharge.Met.met, λ κ a. tt);
       host-frame = (λ M. oskorbine.osk_host_frame.Met.met, λ κ a. tt);
       check = (λ M. oskorbine.osk_check.Met.met, λ κ a. tt);
       two-ports = (λ M. oskorbine.osk_two_ports.Met.met, λ κ a. tt);
@@ -146,6 +157,7 @@ settled =
       store = settles (λ κ a z e p i. leaves (p .0 i) (p .1 i ∷ []));
       compare = settles (λ κ a z e p i. leaves (p .0 i) (p .1 i ∷ []));
       load = settles (λ κ a z e p i. leaves (p .0 i) (p .1 i ∷ []));
+      discharge = settles (λ κ a z e p i. leaves (p .0 i) (p .1 i ∷ []));
       host-frame = settles (λ κ a z e p i. leaves (p .0 i) (p .1 i ∷ []));
       check = settles (λ κ a z e p i. leaves (p i) []);
       two-ports = settles (λ κ a z e p i. leaves (p i) []);
@@ -165,6 +177,7 @@ surface =
       outcomes = settled;
       frame-apart = λ table frame room. apart-packed _ (frame-fits table frame room);
       load-apart = λ l. apart-packed _ (load-fits l);
+      discharge-apart = λ table position events phase room. apart-packed _ (discharge-fits table position events phase room);
       host-frame-apart = λ code n values room. apart-packed _ (built-fits code n values room);
       check-apart = λ c. apart-packed _ (checked-fits c);
       two-ports-apart = λ a b n k. apart-packed _ (port-fits a b n k);
@@ -176,6 +189,7 @@ surface =
       store-number = store-number;
       compare-number = compare-number;
       load-number = load-number;
+      discharge-number = discharge-number;
       host-frame-number = built-number;
       check-number = checked-number;
       two-ports-number = port-number;

@@ -18,6 +18,9 @@ use Rattle.refusals.proofs.Deciding.{decide-map, decide-append}
 use Rattle.pec.specs.Words.{payloadRight}
 use Rattle.chain.specs.declared.frames.Answer.the-variants.{Refused}
 use Rattle.chain.specs.Frame.{frameRefusals, answer}
+use Rattle.priorities.specs.declared.outputs.Events.{Events}
+use Rattle.discharge.specs.declared.question.Discharged.the-variants.{Refused as Unasked}
+use Rattle.discharge.specs.Question.{dischargeRefusals, discharged}
 use Rattle.releasing.specs.declared.looks.Looked.the-variants.{Refused as Unseen}
 use Rattle.clocking.specs.Clock.{Clock}
 use Rattle.releasing.specs.Release.{releaseRefusals, released}
@@ -32,7 +35,7 @@ use Rattle.readings.specs.declared.pack_summary.Pack.{Pack}
 use Rattle.readings.specs.declared.pack_summary.Pack.the-variants.{Refused as Unsummed, Nothing, Whole}
 use Rattle.readings.specs.Readings.{measured, wholeOf, summaryOf}
 use Rattle.story.specs.Numbers.{firstNumber, summaryRefusals}
-use Rattle.oskorbine.specs.Packed.{Parts, refused, accepted, frameParts, builtParts, checkedParts, portParts, lookedParts}
+use Rattle.oskorbine.specs.Packed.{Parts, refused, accepted, frameParts, dischargedParts, builtParts, checkedParts, portParts, lookedParts}
 use Rattle.oskorbine.specs.Volts.{summarySize, roomRow, summaryParts, summaryOut}
 
 pub frame-number : (table frame : List ℕ) (room : ℕ) → frameParts (answer table frame room) .number ≡ firstNumber (frameRefusals table frame room)
@@ -42,6 +45,11 @@ frame-number table frame room = decide-map (λ x. frameParts x .number) (frameRe
 pub release-number : (c : Clock) (table : List ℕ) → frameParts (released c table) .number ≡ firstNumber (releaseRefusals c table)
 unfolding released
 release-number c table = decide-map (λ x. frameParts x .number) (releaseRefusals c table) Refused _
+
+pub discharge-number : (table : List ℕ) (position : ℕ) (events : Events) (phase room : ℕ)
+    → dischargedParts (discharged table position events phase room) .number ≡ firstNumber (dischargeRefusals table position phase room)
+unfolding discharged
+discharge-number table position events phase room = decide-map (λ x. dischargedParts x .number) (dischargeRefusals table position phase room) Unasked _
 
 pub look-number : (c : Clock) (position room : ℕ) → lookedParts (looked c position room) .number ≡ firstNumber (lookRefusals c position room)
 unfolding looked

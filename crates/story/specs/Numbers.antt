@@ -1,4 +1,4 @@
--- Document 01, "Numbers that come back", for the host, a look and the summary: the paper's number and values for each case of an
+-- Document 01, "Numbers that come back", for the discharge outputs, the host, a look and the summary: the paper's number and values for each case of an
 -- answer. A refusal returns its number only; where nothing is refused the number is 0. The chain's own are in `chain`. And what it
 -- is that a condition is the first to hold.
 -- Assumes nothing.
@@ -14,6 +14,8 @@ use Rattle.refusals.specs.declared.Refusal.{Refusal}
 use Rattle.refusals.specs.declared.Refusal.the-variants.{CountWrong}
 use Rattle.refusals.specs.Numbers.{numberOf}
 use Rattle.refusals.specs.Order.{Row, _gives_, decide}
+use Rattle.discharge.specs.declared.question.Discharged.{Discharged}
+use Rattle.discharge.specs.declared.question.Discharged.the-variants.{Refused as Unasked, On}
 use Rattle.releasing.specs.declared.looks.Looked.{Looked}
 use Rattle.releasing.specs.declared.looks.Looked.the-variants.{Refused as Unseen, Holds}
 use Rattle.host.specs.declared.frames.Built.{Built}
@@ -31,6 +33,11 @@ use Rattle.readings.specs.Readings.{mostCodes}
 pub record Numbered (Value : Type 0) : Type 0 where
   pub number : ℕ
   pub values : List Value
+
+-- the discharge outputs: how many are on. Their bytes come beside it
+abbrev pub dischargedNumbers : Discharged → Numbered ℕ
+dischargedNumbers (Unasked r) = record { number = numberOf r; values = [] }
+dischargedNumbers (On n) = record { number = 0; values = n ∷ [] }
 
 -- a host's frame: its length
 abbrev pub builtNumbers : Built → Numbered ℕ

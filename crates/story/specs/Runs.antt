@@ -3,7 +3,7 @@
 -- the table afterwards and, event by event, what was seen.
 -- Assumes nothing.
 use mathlib.Core.List.{List, [], _∷_, map}
-use Prim.Native.Nat.{ℕ, _-_}
+use Prim.Native.Nat.{ℕ, _-_, _*_, _≤_}
 use lib.IntN.{ℤ}
 use lib.ListN.{length, take, drop}
 use Rattle.laws.specs.Counts.{count}
@@ -16,7 +16,7 @@ use Rattle.records.specs.declared.commands.Command.the-variants.{Reads, Writes,
 use Rattle.records.specs.Record.{recordSize}
 use Rattle.monitor.specs.Effects.{keeps}
 use Rattle.reads.specs.Reply.{reply}
-use Rattle.records.specs.Commands.{replyLength}
+use Rattle.records.specs.Commands.{payloadSize, replyLength}
 use Rattle.chain.specs.declared.frames.Answer.{Answer}
 use Rattle.chain.specs.declared.frames.Answer.the-variants.{Refused, Accepted}
 use Rattle.judging.specs.Table.{monitors, changedAt}
@@ -158,3 +158,20 @@ byBytes table state (Frame frame ∷ events) =
 byBytes table state (Store position codes ∷ events) =
     saw (StoreAnswered (stored table position codes)) (byBytes (tableAfterStore table position codes) state events)
 byBytes table state (Compare position ∷ events) = saw (CompareAnswered (compared table position)) (byBytes (tableAfterCompare table position) state events)
+
+-- ---- by either engine
+
+pub data Engine : Type 0 where
+  -- lent a reply buffer
+  WholeFrames : List ℕ → Engine
+  -- lent a state
+  ClockedBytes : List ℕ → Engine
+
+-- a reply buffer has room for eight bytes a monitor; any state will do
+abbrev pub Ready : Engine → List ℕ → Type 0
+Ready (WholeFrames buffer) table = payloadSize * monitors table ≤ length buffer
+Ready (ClockedBytes state) table = Unit {0}
+
+abbrev pub by : Engine → List ℕ → List Event → Left
+by (WholeFrames buffer) table events = byFrames table buffer events
+by (ClockedBytes state) table events = byBytes table state events

@@ -15,7 +15,7 @@ use Rattle.writes.specs.Writes.{rulesOf, storesWhole, changed, byRules}
 use Rattle.records.proofs.Anew.{anew-same}
 
 -- six bytes of one value
-abbrev six : ℕ → List ℕ
+abbrev pub six : ℕ → List ℕ
 six n = n ∷ n ∷ n ∷ n ∷ n ∷ n ∷ []
 
 each : (n i : ℕ) → i < 6 → getD (six n) i 0 ≡ n
@@ -30,7 +30,7 @@ each n (suc (suc (suc (suc (suc (suc i)))))) h = absurd (omega arith)
 each-of : (n i : ℕ) → i < 6 → {bytes : List ℕ} → bytes ≡ six n → getD bytes i 0 ≡ n
 each-of n i h e = ap (λ (bytes : List ℕ). getD bytes i 0) e ∙ each n i h
 
-as-sent : (rules : Rules) → rules .stored ≡ six 255 → rules .kept ≡ six 0 → rules .ones ≡ six 0
+pub as-sent : (rules : Rules) → rules .stored ≡ six 255 → rules .kept ≡ six 0 → rules .ones ≡ six 0
     → (sent : List ℕ) (i old : ℕ) → i < 6 → getD sent i 0 % 256 ≡ changed rules sent i old
 unfolding changed
 as-sent rules stored kept ones sent i old h =
