@@ -46,7 +46,8 @@ enum {
 };
 
 /* ---- the chain: a table of N records, nearest monitor first, each laid out as document 01 has it, with the groups PWM A and PWM B of six
- * bytes each behind its byte 69. Zero bytes are a sound table */
+ * bytes each behind its byte 69. WRPWMB stores two bytes of its six and makes the other four FF; until then they are as they were lent.
+ * Zero bytes are a sound table */
 
 /* The bytes of one monitor's record. */
 #define OSK_RECORD_SIZE 82
@@ -77,7 +78,9 @@ osk_answer osk_load(uint8_t *table, size_t table_length, size_t position, const 
 
 /* ---- discharge */
 
-/* What goes on at the monitor while its outputs are asked for, added up. Bits above these are not looked at. */
+/* What goes on at a monitor while its outputs are asked for, or-ed together. Bits above these are not looked at. MUTE_ST, the DCC bits and
+ * the duties are in the table.
+ */
 enum {
     OSK_EVENT_SHUTDOWN = 1,    /* thermal shutdown */
     OSK_EVENT_MEASUREMENT = 2, /* a measurement that pauses discharge */
@@ -85,12 +88,14 @@ enum {
     OSK_EVENT_WRPWM = 8        /* a PWM group is being written */
 };
 
-/* Added to an output's row where the output is on. */
+/* Set in an output's byte where the output is on; the other bits are the row that decided it. */
 #define OSK_OUTPUT_ON 0x80
 
 /* Which of the sixteen discharge outputs of the monitor at a position, 1 to N, are on in a phase of the PWM, 0 to 14, and which row of the
- * sheet's Table 27 decided each: out[c - 1] is the row, 1 to 7, that decided the output of cell c, with OSK_OUTPUT_ON added where it is on;
- * bytes past the sixteenth stay. The table is only read.
+ * sheet's Table 27 decided each: out[c - 1] is cell c's; bytes past the sixteenth stay. The table is only read.
+ * A row is called by its priority: 7 thermal shutdown, 6 MUTE_ST, 5 configuration B being written, 4 the cell's own DCC bit, 3 a measurement,
+ * 2 a PWM group being written, 1 PWM. The highest whose event holds decides, also where there was nothing to hold off; row 1 is left with
+ * the rest. Row 4 turns the output on, row 1 turns it on while the phase is below the cell's duty, every other row off. DCTO is not looked at.
  * First: how many are on. Refusals: 1, 7 (the position, or a phase above 14), 6 (`out` under sixteen).
  */
 osk_answer osk_discharge(const uint8_t *table, size_t table_length, size_t position, uint8_t events, uint8_t phase, uint8_t *out, size_t out_length);

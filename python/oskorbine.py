@@ -346,9 +346,14 @@ def osk_load(table: Writable, position: int, codes: Codes) -> Answer:
 
 def osk_discharge(table: Readable, position: int, events: int, phase: int, out: Writable) -> Answer:
     """Which of the sixteen discharge outputs of the monitor at a position, 1 to N, are on in a phase of the PWM, 0 to 14, and which row of
-    the sheet's Table 27 decided each: out[c - 1] is the row, 1 to 7, that decided the output of cell c, with OSK_OUTPUT_ON added where
-    it is on; bytes past the sixteenth stay. Events are the OSK_EVENT numbers added up, and bits above them are not looked at. The table
-    is only read.
+    the sheet's Table 27 decided each: out[c - 1] is cell c's, its row with OSK_OUTPUT_ON set where the output is on; bytes past the
+    sixteenth stay. Events are the OSK_EVENT numbers or-ed together, and bits above them are not looked at; MUTE_ST, the DCC bits and the
+    duties are in the table, which is only read.
+
+    A row is called by its priority: 7 thermal shutdown, 6 MUTE_ST, 5 configuration B being written, 4 the cell's own DCC bit, 3 a
+    measurement, 2 a PWM group being written, 1 PWM. The highest whose event holds decides, also where there was nothing to hold off; row 1
+    is left with the rest. Row 4 turns the output on, row 1 while the phase is below the cell's duty, every other row off. DCTO is not
+    looked at.
 
     First: how many are on. Refusals: 1, 7 (the position, or a phase above 14), 6 (`out` under sixteen).
     """
