@@ -21,34 +21,27 @@ accepted-requires c κs =
     let fit = subst (λ (x : Discharged). Fit (dischargedParts x)) (sym (call .discharge .ensures .0) ∙ c .before .outputs .given .1) (discharge-fits (a .table .now) (a .position) (call .before .before .events-in .result) (a .phase) (length (a .out .now))) in
     (fit .first-fits, omega arith)
 
--- the question as the byte of events asks it
+-- the question as the byte of events asks it: its answer, packed, and its outputs
 module _ (table : List ℕ) (position phase : ℕ) (out : List ℕ) {given asked : Events} (e : given ≡ asked) where
-  same-answer : {came told : Discharged} → came ≡ discharged table position given phase (length out) → came ≡ told
-      → packed (dischargedParts told) ≡ packed (dischargedParts (discharged table position asked phase (length out)))
-  same-answer d t =
-      ap (λ (x : Discharged). packed (dischargedParts x)) (sym t ∙ d)
-      ∙ ap (λ (ev : Events). packed (dischargedParts (discharged table position ev phase (length out)))) e
-
-  same-outputs : {after : List ℕ} → after ≡ outputsAfter table position given phase out → after ≡ outputsAfter table position asked phase out
-  same-outputs a = a ∙ ap (λ (ev : Events). outputsAfter table position ev phase out) e
+  as-asked : {came told : Discharged} {answer : ℕ} {after : List ℕ} → came ≡ discharged table position given phase (length out)
+      → after ≡ outputsAfter table position given phase out → came ≡ told → answer ≡ packed (dischargedParts told)
+      → (answer ≡ packed (dischargedParts (discharged table position asked phase (length out)))) × (after ≡ outputsAfter table position asked phase out)
+  as-asked d o t a = (
+    a
+        ∙ ap (λ (x : Discharged). packed (dischargedParts x)) (sym t ∙ d)
+        ∙ ap (λ (ev : Events). packed (dischargedParts (discharged table position ev phase (length out)))) e,
+    o ∙ ap (λ (ev : Events). outputsAfter table position ev phase out) e,
+  )
 
 returns : tie.Need-returns
 returns c =
     let call = c .before .before .before .before .before .before in
-    let a = call .before .before .before .before .before .args in
-    let e = call .before .before .events-in .ensures in (
-      c .refused .ensures ∙ same-answer (a .table .now) (a .position) (a .phase) (a .out .now) e (call .discharge .ensures .0) (c .before .before .refusal .given .1),
-      same-outputs (a .table .now) (a .position) (a .phase) (a .out .now) e (call .discharge .ensures .1),
-    )
+    as-asked _ _ _ _ (call .before .before .events-in .ensures) (call .discharge .ensures .0) (call .discharge .ensures .1) (c .before .before .refusal .given .1) (c .refused .ensures)
 
 returns-2 : tie.Need-returns-2
 returns-2 c =
     let call = c .before .before .before .before .before .before in
-    let a = call .before .before .before .before .before .args in
-    let e = call .before .before .events-in .ensures in (
-      c .accepted .ensures ∙ same-answer (a .table .now) (a .position) (a .phase) (a .out .now) e (call .discharge .ensures .0) (c .before .before .outputs .given .1),
-      same-outputs (a .table .now) (a .position) (a .phase) (a .out .now) e (call .discharge .ensures .1),
-    )
+    as-asked _ _ _ _ (call .before .before .events-in .ensures) (call .discharge .ensures .0) (call .discharge .ensures .1) (c .before .before .outputs .given .1) (c .accepted .ensures)
 
 pub osk-discharge-spec : {M : Type 1} → statement M
 osk-discharge-spec =
