@@ -19,7 +19,7 @@ accepted-requires c κs =
     let call = c .before .before .before .before .before in
     let a = call .before .before .before .before .before .args in
     let fit = subst (λ (x : Discharged). Fit (dischargedParts x)) (sym (call .discharge .ensures .0) ∙ c .before .outputs .given .1) (discharge-fits (a .table .now) (a .position) (call .before .before .events-in .result) (a .phase) (length (a .out .now))) in
-    (fit .first-fits, omega arith)
+    (omega (arith, fit .first-fits), omega (arith, fit .first-fits))
 
 -- the question as the byte of events asks it: its answer, packed, and its outputs
 module _ (table : List ℕ) (position phase : ℕ) (out : List ℕ) {given asked : Events} (e : given ≡ asked) where
