@@ -4,12 +4,23 @@ ghost use mathlib.Core.Bool.{true};
 ghost use Prim.Native.Nat.{ℕ, _≤_, _<_};
 ghost use lib.ListN.{getD};
 
+// The bytes of a record. This program is a witness from outside, and takes no place or size from the crates below it.
+pub(crate) const RECORD: u64 = 82;
+
+pub(crate) const ONE: usize = RECORD as usize;
+
+pub(crate) const TWO: usize = 2 * ONE;
+
 // A table of up to 33 records, a frame, or a reply buffer: as much of it as a case asks for.
-pub(crate) type Bytes = [u8; 2310];
+pub(crate) const ROOM: usize = 6000;
+
+pub(crate) type Bytes = [u8; ROOM];
+
+const AROUND: u64 = ROOM as u64;
 
 // Do a and b hold the same bytes from one place up to another?
 pub(crate) fn same(a: Bytes, b: Bytes, from: usize, to: usize) -> bool
-    requires { ⌜ to ≤ 2310 ⌝ }
+    requires { ⌜ to ≤ 6000 ⌝ }
     ensures { λ r. ⌜ (r ≡ true → (k : ℕ) → from ≤ k → k < to → getD a k 0 ≡ getD b k 0) ⌝ }
     ensures { λ r. ⌜ (((k : ℕ) → from ≤ k → k < to → getD a k 0 ≡ getD b k 0) → r ≡ true) ⌝ }
 {
@@ -30,25 +41,27 @@ pub(crate) fn lay(list: Bytes, at: u64, count: u64, number: u64) -> Bytes {
     let mut i = count;
     while i > 0 {
         i -= 1;
-        laid[((at % 2310 + i % 2310) % 2310) as usize] = (rest % 256) as u8;
+        laid[((at % AROUND + i % AROUND) % AROUND) as usize] = (rest % 256) as u8;
         rest = rest << 56 | rest >> 8;
     }
     laid
 }
 
-// Two monitors of which no two bytes are the same: 21 to 64 in the first and 8d to d0 in the second, and the counters 5 and 9.
-// So SNAP_ST is set in the first, and MUTE_ST in the second. The retention of both is locked.
+// Two monitors of which no two bytes are the same: 21 to 70 in the first and 8d to dc in the second, and between them the counters 5 and
+// 9. So SNAP_ST is set in the first, and MUTE_ST in the second. The retention of both is locked.
 pub(crate) fn two() -> Bytes {
-    let mut table = [0u8; 2310];
+    let mut table = [0u8; ROOM];
     bytes::put(
         &mut table,
         0,
         b"\x21\x22\x23\x24\x25\x26\x27\x28\x29\x2a\x2b\x2c\x2d\x2e\x2f\x30\x31\x32\x33\x34\x35\x36\x37\x38\
         \x39\x3a\x3b\x3c\x3d\x3e\x3f\x40\x41\x42\x43\x44\x45\x46\x47\x48\x49\x4a\x4b\x4c\x4d\x4e\x4f\x50\
         \x51\x52\x53\x54\x55\x56\x57\x58\x59\x5a\x5b\x5c\x5d\x5e\x5f\x60\x61\x62\x63\x64\x05\x00\
+        \x65\x66\x67\x68\x69\x6a\x6b\x6c\x6d\x6e\x6f\x70\
         \x8d\x8e\x8f\x90\x91\x92\x93\x94\x95\x96\x97\x98\x99\x9a\x9b\x9c\x9d\x9e\x9f\xa0\xa1\xa2\xa3\xa4\
         \xa5\xa6\xa7\xa8\xa9\xaa\xab\xac\xad\xae\xaf\xb0\xb1\xb2\xb3\xb4\xb5\xb6\xb7\xb8\xb9\xba\xbb\xbc\
-        \xbd\xbe\xbf\xc0\xc1\xc2\xc3\xc4\xc5\xc6\xc7\xc8\xc9\xca\xcb\xcc\xcd\xce\xcf\xd0\x09\x00",
+        \xbd\xbe\xbf\xc0\xc1\xc2\xc3\xc4\xc5\xc6\xc7\xc8\xc9\xca\xcb\xcc\xcd\xce\xcf\xd0\x09\x00\
+        \xd1\xd2\xd3\xd4\xd5\xd6\xd7\xd8\xd9\xda\xdb\xdc",
     );
     table
 }

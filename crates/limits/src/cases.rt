@@ -1,5 +1,9 @@
 // A case on a table: what it begins with, what is done, and what is expected of it.
 use crate::bench::Bytes;
+use crate::bench::ONE;
+use crate::bench::RECORD;
+use crate::bench::ROOM;
+use crate::bench::TWO;
 use crate::bench::lay;
 use crate::bench::same;
 use crate::deeds::Came;
@@ -8,7 +12,6 @@ use crate::deeds::loaded;
 use crate::frames::frame;
 use crate::say;
 use crate::say::text;
-use crate::say::words;
 use crate::starts::start;
 use crate::words::AND;
 use crate::words::FLAGS;
@@ -18,6 +21,7 @@ use crate::words::REPLY;
 use crate::words::SENT;
 use crate::words::STAYS;
 use crate::words::TAKEN;
+use crate::words::words;
 
 pub(crate) struct Case {
     pub given: u64,
@@ -47,19 +51,24 @@ fn wanted(c: Case, before: Bytes) -> Bytes {
     let count = c.sizes / 10 % 100;
     let registers = lay(
         lay(before, place, count, c.at_first),
-        place + 70,
+        place + RECORD,
         count,
         c.at_second,
     );
     if is_load(c.given) {
         return lay(
             registers,
-            c.given / 0x1000_0000_0000 % 16 * 70 + 2290,
+            (c.given / 0x1000_0000_0000 + 15) % 16 * RECORD + 50,
             4,
             c.given,
         );
     }
-    lay(lay(registers, 68, 2, c.given / 65536), 138, 2, c.given)
+    lay(
+        lay(registers, 68, 2, c.given / 65536),
+        RECORD + 68,
+        2,
+        c.given,
+    )
 }
 
 // Says what came. Are they the numbers expected, with the replies in turn, and the buffer past them as before?
@@ -81,12 +90,12 @@ fn told(c: Case, came: Came) -> bool {
     if c.sizes / 100_000 % 10 == 1 {
         long = 8 * takers;
     }
-    let each = lay([0xee; 2310], 0, long, c.first);
+    let each = lay([0xee; ROOM], 0, long, c.first);
     let both = lay(each, 8, long / 16 % 2 * 8, c.second);
     (number == c.sizes / 100_000_000 % 10)
         & (taken == takers)
         & (reply == long)
-        & same(buffer, both, 0, 2310)
+        & same(buffer, both, 0, ROOM)
 }
 
 // What is shown of the table and the buffer after the case.
@@ -102,7 +111,7 @@ fn shown(kind: u64, before: Bytes, after: Bytes, buffer: Bytes) {
         text(FLAGS);
         say::bytes(after, 50, 54);
         text(AND);
-        say::bytes(after, 120, 124);
+        say::bytes(after, ONE + 50, ONE + 54);
     }
 }
 
@@ -127,7 +136,7 @@ pub(crate) fn tried(c: Case, label: u64) -> bool {
     }
     let told = told(c, came);
     shown(end, before, after, buffer);
-    let right = told & same(after, wanted(c, before), 0, 140);
+    let right = told & same(after, wanted(c, before), 0, TWO);
     if right {
         text(STAYS + end);
     }

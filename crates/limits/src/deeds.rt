@@ -1,5 +1,8 @@
 // What is done to a table: a frame is handled, or codes are loaded, stored or compared.
 use crate::bench::Bytes;
+use crate::bench::RECORD;
+use crate::bench::ROOM;
+use crate::bench::TWO;
 use chain::Numbers;
 
 // The table and the reply buffer after it, and the numbers that came.
@@ -15,8 +18,8 @@ const CODES: [i16; 8] = [0, -32768, 1600, 1601, -16, -17, 800, -32767];
 // A frame handled: of its sizes the monitors of the table, the bytes of the frame, and the room for a reply.
 pub(crate) fn handled(table: Bytes, frame: Bytes, sizes: u64) -> Came {
     let mut after = table;
-    let mut buffer = [0xee; 2310];
-    let end = (sizes / 1_000_000_000_000_000 % 100 * 70 % 2311) as usize;
+    let mut buffer = [0xee; ROOM];
+    let end = (sizes / 1_000_000_000_000_000 % 100 % 34 * RECORD) as usize;
     let size = (sizes / 1_000_000_000_000 % 1000) as usize;
     let room = (sizes / 1_000_000_000 % 1000) as usize;
     let numbers = chain::numbers_of(chain::handle(
@@ -49,14 +52,14 @@ pub(crate) fn loaded(table: Bytes, given: u64) -> Came {
     let size = (given / 0x0001_0000_0000 % 256 % 18) as usize;
     let position = (given / 0x1000_0000_0000 % 16) as usize;
     let came = match given >> 62 {
-        0 => loads::load(&mut after[0..140], position, &codes[0..size]),
-        1 => loads::store(&mut after[0..140], position, &codes[0..size]),
-        _ => loads::compare(&mut after[0..140], position),
+        0 => loads::load(&mut after[0..TWO], position, &codes[0..size]),
+        1 => loads::store(&mut after[0..TWO], position, &codes[0..size]),
+        _ => loads::compare(&mut after[0..TWO], position),
     };
     let number = loads::load_number(came);
     Came {
         table: after,
-        buffer: [0xee; 2310],
+        buffer: [0xee; ROOM],
         numbers: Numbers {
             number,
             taken: 0,

@@ -1,5 +1,6 @@
 // The frames that are tried.
 use crate::bench::Bytes;
+use crate::bench::ROOM;
 use crate::bench::lay;
 
 fn six(number: u64) -> [u8; 6] {
@@ -24,13 +25,10 @@ pub(crate) fn payload(frame: Bytes, at: u64, sent: u64) -> Bytes {
     lay(frame, at, 8, check_words::number_in(&eight) ^ bit)
 }
 
-// A frame: of what is given the code, and the bits of its check that are wrong. A write, of kind 2, has the payload of the farthest
-// monitor first. What else follows the command is FF.
+// A frame: of what is given the code and its check. A write, of kind 2, has the payload of the farthest monitor first. What else follows
+// the command is FF.
 pub(crate) fn frame(given: u64, kind: u64, first: u64, second: u64) -> Bytes {
-    let code = given / 0x0001_0000_0000_0000;
-    let check = check_words::command_check((code % 65536) as u16);
-    let sent = (check[0] as u64) << 8 | check[1] as u64;
-    let bare = lay(lay([0xff; 2310], 0, 2, code), 2, 2, sent ^ given >> 32);
+    let bare = lay([0xff; ROOM], 0, 4, given >> 32);
     if kind == 2 {
         return payload(payload(bare, 4, second), 12, first);
     }

@@ -1,15 +1,15 @@
 // The frames that our host builds, at their limits.
-use crate::say::words;
 use crate::words::BUILDS;
 use crate::words::LENGTH;
 use crate::words::REFUSED;
+use crate::words::words;
 use host::Built;
 
-// WRCFGB, RDCFGB, MUTE, and a code that no command has.
-const CODES: [u16; 4] = [0x0024, 0x0026, 0x0028, 0x0003];
+// WRCFGB, RDCFGB, MUTE, a code that no command has, WRPWMA and RDPWMB.
+const CODES: [u16; 6] = [0x0024, 0x0026, 0x0028, 0x0003, 0x0020, 0x0023];
 
 // Which code; monitors; bytes of values; room; a refusal's number, or the length of the frame.
-const ROWS: [u64; 16] = [
+const ROWS: [u64; 20] = [
     0_01_006_012_0_012,
     0_02_012_020_0_020,
     0_32_192_260_0_260,
@@ -26,6 +26,10 @@ const ROWS: [u64; 16] = [
     1_02_012_020_8_000,
     2_32_000_004_0_004,
     2_32_000_003_6_000,
+    4_32_192_260_0_260,
+    4_32_191_260_8_000,
+    5_32_000_260_0_260,
+    5_32_000_259_6_000,
 ];
 
 // Says what came: a refusal's number, or else the length, by which the two numbers of a row are one.
@@ -44,8 +48,8 @@ fn told(came: Built) -> u64 {
 }
 
 pub(crate) fn build(i: usize) -> bool {
-    let row = ROWS[i % 16];
-    let which = row / 1_000_000_000_000 % 4;
+    let row = ROWS[i % 20];
+    let which = row / 1_000_000_000_000 % 6;
     let n = row / 10_000_000_000 % 100;
     let values = row / 10_000_000 % 1000;
     let room = row / 10_000 % 1000;

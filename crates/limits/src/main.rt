@@ -8,6 +8,7 @@ mod frames;
 mod hosts;
 mod longest;
 mod order;
+mod outputs;
 mod say;
 mod soundness;
 mod starts;
@@ -16,8 +17,8 @@ mod volts;
 mod words;
 
 use say::text;
-use say::words;
 use tally::Tally;
+use words::words;
 
 // The kinds of case.
 const COMMAND: u8 = 0;
@@ -34,6 +35,8 @@ const VOLTS: u8 = 5;
 
 const PACK: u8 = 6;
 
+const OUTPUTS: u8 = 7;
+
 fn tried(kind: u8, i: usize) -> bool {
     match kind {
         COMMAND => commands::command(i),
@@ -42,7 +45,8 @@ fn tried(kind: u8, i: usize) -> bool {
         LONGEST => longest::write(),
         BUILD => hosts::build(i),
         VOLTS => volts::read(i),
-        _ => volts::summary(i),
+        PACK => volts::summary(i),
+        _ => outputs::asked(i),
     }
 }
 
@@ -61,18 +65,19 @@ fn run(t: Tally, heading: u64, kind: u8, from: usize, to: usize) -> Tally {
 fn main() {
     let t = Tally { lines: 0, right: 0 };
     let t = run(t, words::TABLES, COMMAND, 0, 4);
-    let t = run(t, 0, SOUND, 0, 16);
+    let t = run(t, 0, SOUND, 0, 19);
     let t = run(t, words::ROOM, COMMAND, 4, 12);
-    let t = run(t, words::COMMANDS, COMMAND, 12, 38);
+    let t = run(t, words::COMMANDS, COMMAND, 12, 43);
     let t = run(t, words::LONGEST, LONGEST, 0, 1);
-    let t = run(t, words::ORDER, ORDER, 0, 19);
-    let t = run(t, 0, COMMAND, 38, 39);
-    let t = run(t, words::DAMAGE, COMMAND, 39, 43);
-    let t = run(t, words::COUNTERS, COMMAND, 43, 45);
-    let t = run(t, words::LOADS, COMMAND, 45, 61);
-    let t = run(t, words::STORES, COMMAND, 61, 73);
-    let t = run(t, words::COMPARES, COMMAND, 73, 88);
-    let t = run(t, words::HOSTS, BUILD, 0, 16);
+    let t = run(t, words::ORDER, ORDER, 0, 26);
+    let t = run(t, 0, COMMAND, 43, 44);
+    let t = run(t, words::DAMAGE, COMMAND, 44, 50);
+    let t = run(t, words::COUNTERS, COMMAND, 50, 52);
+    let t = run(t, words::LOADS, COMMAND, 52, 68);
+    let t = run(t, words::STORES, COMMAND, 68, 80);
+    let t = run(t, words::COMPARES, COMMAND, 80, 95);
+    let t = run(t, words::OUTPUTS, OUTPUTS, 0, 51);
+    let t = run(t, words::HOSTS, BUILD, 0, 20);
     let t = run(t, words::VOLTS, VOLTS, 0, 5);
     let t = run(t, 0, PACK, 0, 5);
     words(words::SUMMARY, t.lines, t.right, 0, 0);

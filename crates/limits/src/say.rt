@@ -1,13 +1,14 @@
 // What is written to standard output. A write that fails shows as output that is missing.
 use crate::bench::Bytes;
+use crate::bench::ONE;
+use crate::bench::ROOM;
+use crate::bench::TWO;
 use crate::bench::same;
 use crate::words::AS_BEFORE;
 use crate::words::AT;
 use crate::words::MONITOR;
-use crate::words::SIZE;
 use crate::words::SPACE;
-use crate::words::Text;
-use crate::words::WORDS;
+use crate::words::words;
 use libc::STDOUT_FILENO;
 
 // A byte of the words. In place of a # stands a number, and of a @ one of 16 hexadecimal digits: then the next one's turn has come.
@@ -24,13 +25,13 @@ fn one(byte: u8, number: u64) -> bool {
     false
 }
 
-fn words_of(all: Text, k: u64, a: u64, b: u64, c: u64, d: u64) {
+pub(crate) fn words_of(all: &[u8], k: u64, a: u64, b: u64, c: u64, d: u64) {
     let mut left = k;
     let mut first = a;
     let mut second = b;
     let mut third = c;
     let mut i = 0;
-    while i < SIZE {
+    while i < all.len() {
         let byte = all[i];
         if left > 0 {
             if byte == b'|' {
@@ -47,11 +48,6 @@ fn words_of(all: Text, k: u64, a: u64, b: u64, c: u64, d: u64) {
     }
 }
 
-// The words of a number, with the numbers in them.
-pub(crate) fn words(k: u64, a: u64, b: u64, c: u64, d: u64) {
-    words_of(WORDS, k, a, b, c, d);
-}
-
 pub(crate) fn text(k: u64) {
     words(k, 0, 0, 0, 0);
 }
@@ -65,7 +61,7 @@ fn byte(b: u8) {
 pub(crate) fn bytes(list: Bytes, from: usize, to: usize) {
     let mut i = from;
     while i < to {
-        byte(list[i % 2310]);
+        byte(list[i % ROOM]);
         i += 1;
     }
 }
@@ -86,15 +82,15 @@ fn change(i: usize, before: u8, after: u8, in_run: bool) -> bool {
 pub(crate) fn changes(before: Bytes, after: Bytes) {
     let mut in_run = false;
     let mut i = 0;
-    while i < 140 {
-        if i % 70 == 0 {
+    while i < TWO {
+        if i % ONE == 0 {
             in_run = false;
-            words(MONITOR, i as u64 / 70 + 1, 0, 0, 0);
-            if same(before, after, i, i + 70) {
+            words(MONITOR, (i / ONE) as u64 + 1, 0, 0, 0);
+            if same(before, after, i, i + ONE) {
                 text(AS_BEFORE);
             }
         }
-        in_run = change(i % 70, before[i], after[i], in_run);
+        in_run = change(i % ONE, before[i], after[i], in_run);
         i += 1;
     }
 }

@@ -1,6 +1,5 @@
 // Voltages and pack summaries, at their limits.
 use crate::say::text;
-use crate::say::words;
 use crate::words::CODES;
 use crate::words::IS_CLEARED;
 use crate::words::MICROVOLTS;
@@ -8,6 +7,7 @@ use crate::words::NONE;
 use crate::words::READING;
 use crate::words::REFUSED;
 use crate::words::WHOLE;
+use crate::words::words;
 use readings::Pack;
 use readings::Reading;
 use thresholds::ResultCode;

@@ -1,7 +1,5 @@
 // All that is written, in words that are called by their number: a bar stands before each, and the first are 1.
-pub(crate) type Text = [u8; 3194];
-
-pub(crate) const SIZE: usize = 3194;
+use crate::say::words_of;
 
 pub(crate) const REFUSED: u64 = 1;
 
@@ -69,25 +67,34 @@ pub(crate) const AND: u64 = 41;
 
 pub(crate) const BUILDS: u64 = 42;
 
-pub(crate) const LENGTH: u64 = 46;
+pub(crate) const LENGTH: u64 = 48;
 
-pub(crate) const READING: u64 = 47;
+pub(crate) const READING: u64 = 49;
 
-pub(crate) const IS_CLEARED: u64 = 48;
+pub(crate) const IS_CLEARED: u64 = 50;
 
-pub(crate) const CODES: u64 = 49;
+pub(crate) const CODES: u64 = 51;
 
-pub(crate) const NONE: u64 = 50;
+pub(crate) const NONE: u64 = 52;
 
-pub(crate) const WHOLE: u64 = 51;
+pub(crate) const WHOLE: u64 = 53;
 
-pub(crate) const MICROVOLTS: u64 = 52;
+pub(crate) const OUTPUTS: u64 = 54;
 
-pub(crate) const ORDERED: u64 = 62;
+pub(crate) const ON: u64 = 55;
 
-pub(crate) const CASES: u64 = 81;
+pub(crate) const MICROVOLTS: u64 = 56;
 
-pub(crate) const WORDS: Text = *b"\
+pub(crate) const ORDERED: u64 = 66;
+
+pub(crate) const CASES: u64 = 92;
+
+pub(crate) const ASKED: u64 = 187;
+
+// The words of a number, with the numbers in them.
+pub(crate) fn words(k: u64, a: u64, b: u64, c: u64, d: u64) {
+    words_of(
+        b"\
     |: refused #\
     |: taken by #, reply #\
     | \
@@ -133,12 +140,16 @@ pub(crate) const WORDS: Text = *b"\
     |RDCFGB, monitors #, value bytes #, room #\
     |MUTE, monitors #, value bytes #, room #\
     |0003, monitors #, value bytes #, room #\
+    |WRPWMA, monitors #, value bytes #, room #\
+    |RDPWMB, monitors #, value bytes #, room #\
     |: length #\
     |, reading @\
     |, cleared\
     |summary of codes #\
     |: none\
     |: cells #, lowest @, highest @, total @\
+    |discharge outputs\n\
+    |: on #;\
     |code -10000\
     |: microvolts 0\
     |code 0\
@@ -157,16 +168,23 @@ pub(crate) const WORDS: Text = *b"\
     |RDCFGA with the check 2b 0b\
     |RDCFGA with the check 2b 08\
     |the same, four bytes\
+    |WRPWMA with the check 00 01\
+    |WRPWMA with the check 00 02\
     |0003, check wrong\
     |0003, four bytes\
     |0003, twenty bytes\
     |0003, seven bytes, no room\
+    |001f, twenty bytes\
+    |0025, twenty bytes\
     |RDCFGA, nineteen bytes\
     |RDCFGA, four bytes\
     |MUTE, five bytes\
     |WRCFGA, twelve bytes\
+    |WRPWMA, nineteen bytes\
+    |WRPWMB, twenty-one bytes\
     |RDCFGA, nineteen bytes, no room\
     |RDCFGA, room 15\
+    |RDPWMB, room 15\
     |RDCFGA, room 0\
     |MUTE, monitors #\
     |MUTE, monitors #\
@@ -192,10 +210,15 @@ pub(crate) const WORDS: Text = *b"\
     |RDCVD\
     |RDCVE\
     |RDCVF\
+    |RDPWMA\
+    |RDPWMB\
     |WRCFGA\
     |WRCFGB\
     |CLRFLAG\
     |CLOVUV\
+    |WRPWMA with the check 00 00\
+    |WRPWMB\
+    |WRPWMB, monitors of 0\
     |WRRR, locked\
     |ULRR\
     |WRRR, after ULRR\
@@ -211,6 +234,8 @@ pub(crate) const WORDS: Text = *b"\
     |WRCFGB, the first monitor's check damaged\
     |WRCFGB, both damaged\
     |WRCFGB, counter bits 9 and 63\
+    |WRPWMA, the second monitor's data damaged\
+    |WRPWMB, the first monitor's check damaged\
     |MUTE\
     |RSTCC\
     |unsound table\
@@ -256,4 +281,62 @@ pub(crate) const WORDS: Text = *b"\
     |the same cell, code 1600 after 1601\
     |VUV 0, VOV 100, code 1601, a second time\
     |after ULRR, position 1\
-    |";
+    |unsound table\
+    |unsound table, position 3, phase 15, room 15\
+    |33 monitors\
+    |position 0\
+    |position 3 of 2\
+    |position 3 of 2, phase 15, room 15\
+    |position 0, room 15\
+    |position 33 of 32\
+    |phase 15\
+    |phase 255\
+    |phase 15, room 15\
+    |room 15\
+    |room 0\
+    |duties 15, phase 14, room 16\
+    |duties 15, phase 14, room 17\
+    |position 32 of 32, duties 0, DCC of cell 1\
+    |duties 7, phase 6\
+    |duties 7, phase 7\
+    |duties 0 to 15, phase 0\
+    |duties 0 to 15, phase 7\
+    |duties 0 to 15, phase 14\
+    |a duty for cell 1 alone\
+    |a duty for cell 2 alone\
+    |a duty for cell 12 alone\
+    |a duty for cell 13 alone\
+    |a duty for cell 16 alone\
+    |DCC of cell 1 alone\
+    |DCC of cell 8 alone\
+    |DCC of cell 9 alone\
+    |DCC of cell 16 alone\
+    |DCC of all but cell 8, phase 14\
+    |DCC of all but cell 9, measurement\
+    |shutdown\
+    |WRCFGB\
+    |measurement\
+    |measurement, duties 0\
+    |WRPWM\
+    |WRPWM, duties 0\
+    |DCC of cell 1, WRPWM\
+    |DCC of cell 1, measurement\
+    |DCC of cell 1, measurement, WRPWM\
+    |DCC of cell 1, WRCFGB\
+    |DCC of cell 1, WRCFGB, measurement, WRPWM\
+    |DCC of cell 1, shutdown\
+    |DCC of cell 1, muted, position 2\
+    |the same, WRCFGB, measurement, WRPWM\
+    |the same, all four\
+    |duties 0 to 15, phase 7, DCC of cell 1\
+    |the same, after MUTE\
+    |the same, after MUTE and UNMUTE\
+    |the same, position 2\
+    |",
+        k,
+        a,
+        b,
+        c,
+        d,
+    );
+}

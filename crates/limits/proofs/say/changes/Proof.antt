@@ -1,4 +1,4 @@
--- `limits::say::changes` is safe and ends: the measure is the number of bytes that are left. Assumes nothing.
+-- `limits::say::changes` is safe and ends: the measure falls with each byte; 1000 is more than two records have. Assumes nothing.
 use borrow.Author.Needs.{needs}
 use Prim.Native.Nat.{_-_}
 use Rattle.limits.proofs.say.changes.Statement.{statement}
@@ -8,7 +8,7 @@ abbrev Inv-loop : tie.InvT-loop
 Inv-loop before after in-run₀ i₀ in-run i = Unit {0}
 
 abbrev μ-loop : tie.MeasureT-loop
-μ-loop before after in-run₀ i₀ in-run i = 140 - i
+μ-loop before after in-run₀ i₀ in-run i = 1000 - i
 
 loop-holds : tie.Need-loop-holds Inv-loop μ-loop
 loop-holds c = search needs

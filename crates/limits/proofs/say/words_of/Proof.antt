@@ -1,20 +1,21 @@
 -- `limits::say::words_of` is safe and ends: the measure is the number of bytes that are left. Assumes nothing.
 use borrow.Author.Needs.{needs}
 use Prim.Native.Nat.{_-_}
+use lib.ListN.{length}
 use Rattle.limits.proofs.say.words_of.Statement.{statement}
 use Rattle.limits.proofs.say.words_of.Tie as tie
 
 abbrev Inv-loop : tie.InvT-loop
-Inv-loop k a b c d all left₀ first₀ second₀ third₀ i₀ left first second third i = Unit {0}
+Inv-loop all k a b c d left₀ first₀ second₀ third₀ i₀ left first second third i = Unit {0}
 
 abbrev μ-loop : tie.MeasureT-loop
-μ-loop k a b c d all left₀ first₀ second₀ third₀ i₀ left first second third i = 3194 - i
+μ-loop all k a b c d left₀ first₀ second₀ third₀ i₀ left first second third i = length all - i
 
 loop-holds : tie.Need-loop-holds Inv-loop μ-loop
 loop-holds c = search needs
 
-array-read-byte : tie.Need-array-read-byte Inv-loop μ-loop
-array-read-byte c = search needs
+shared-slice-read-byte : tie.Need-shared-slice-read-byte Inv-loop μ-loop
+shared-slice-read-byte c = search needs
 
 sub-left : tie.Need-sub-left Inv-loop μ-loop
 sub-left c = search needs
@@ -44,7 +45,7 @@ words-of-spec =
     Inv-loop
     μ-loop
     loop-holds
-    array-read-byte
+    shared-slice-read-byte
     sub-left
     returns
     one-requires
