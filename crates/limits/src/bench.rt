@@ -4,14 +4,16 @@ ghost use mathlib.Core.Bool.{true};
 ghost use Prim.Native.Nat.{ℕ, _≤_, _<_};
 ghost use lib.ListN.{getD};
 
-// The bytes of a record. This program is a witness from outside, and takes no place or size from the crates below it.
+// The bytes of a record. This program is a witness from outside: it takes no place or size from the crates below it. A record that grows
+// changes this number, the bytes of `two`, and the rows of soundness.rt.
 pub(crate) const RECORD: u64 = 82;
 
+// The sizes of one and of two of them.
 pub(crate) const ONE: usize = RECORD as usize;
 
 pub(crate) const TWO: usize = 2 * ONE;
 
-// A table of up to 33 records, a frame, or a reply buffer: as much of it as a case asks for.
+// More than 33 records have. A table, a frame or a reply buffer is as much of it as a case asks for.
 pub(crate) const ROOM: usize = 6000;
 
 pub(crate) type Bytes = [u8; ROOM];

@@ -51,10 +51,12 @@ pub(crate) fn loaded(table: Bytes, given: u64) -> Came {
     let codes = codes_of((given / 0x0100_0000_0000 % 16) as usize);
     let size = (given / 0x0001_0000_0000 % 256 % 18) as usize;
     let position = (given / 0x1000_0000_0000 % 16) as usize;
+    let lent = &mut after[0..TWO];
+    let some = &codes[0..size];
     let came = match given >> 62 {
-        0 => loads::load(&mut after[0..TWO], position, &codes[0..size]),
-        1 => loads::store(&mut after[0..TWO], position, &codes[0..size]),
-        _ => loads::compare(&mut after[0..TWO], position),
+        0 => loads::load(lent, position, some),
+        1 => loads::store(lent, position, some),
+        _ => loads::compare(lent, position),
     };
     let number = loads::load_number(came);
     Came {

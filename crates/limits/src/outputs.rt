@@ -1,4 +1,5 @@
-// Which discharge outputs of a monitor are on, and the rows of Table 27 that decide them.
+// Which discharge outputs of a monitor are on, and the rows of Table 27 that decide them. The table is lent to be read only, so that it
+// stays needs no case.
 use crate::bench::Bytes;
 use crate::bench::RECORD;
 use crate::bench::ROOM;
@@ -325,10 +326,10 @@ fn answered(table: Bytes, row: u64) -> Answer {
         &table[0..end],
         (row / 10_000_000_000 % 100) as usize,
         Events {
-            shutdown: events % 2 == 1,
-            measurement: events / 2 % 2 == 1,
-            wrcfgb: events / 4 % 2 == 1,
-            wrpwm: events / 8 % 2 == 1,
+            shutdown: events & 1 != 0,
+            measurement: events & 2 != 0,
+            wrcfgb: events & 4 != 0,
+            wrpwm: events & 8 != 0,
         },
         (row / 100_000 % 1000 % 256) as u8,
         &mut out[0..room],
@@ -356,7 +357,7 @@ pub(crate) fn asked(i: usize) -> bool {
     let first = lay([0xee; ROOM], 0, 8, number(k + 3));
     let right = (came == row % 1000) & same(out, lay(first, 8, 8, number(k + 4)), 0, ROOM);
     if came < 100 {
-        say::bytes(out, 0, 16);
+        say::bytes(out, 0, (row / 1000 % 100) as usize);
     } else if right {
         text(STAYS + 1);
     }

@@ -40,16 +40,16 @@ pub(crate) fn sound(i: usize) -> bool {
     let value = row / 10 % 1000;
     let table = lay([0u8; ROOM], place, 1, value);
     let end = size as usize;
-    if value == 0 {
-        words(OF_SIZE, size, 0, 0, 0);
-    } else {
-        words(WITH_BYTE, place, value, 0, 0);
+    let mut label = OF_SIZE;
+    if value > 0 {
+        label = WITH_BYTE;
     }
+    words(label, size, place, value, 0);
     let sound = judging::sound(&table[0..end]);
+    let mut verdict = NOT_SOUND;
     if sound {
-        text(IS_SOUND);
-    } else {
-        text(NOT_SOUND);
+        verdict = IS_SOUND;
     }
+    text(verdict);
     sound == (row % 10 == 1)
 }

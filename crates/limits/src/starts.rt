@@ -14,8 +14,8 @@ const BARE: u64 = 02_004_000_0_00_0_00_00_0;
 const WRITE: u64 = 02_020_000_0_00_2_00_00_0;
 
 // What two monitors are after a frame, of which the code and its check are given, and in which both are sent the same.
-fn after(table: Bytes, code: u64, sizes: u64, six: u64) -> Bytes {
-    let sent = frame(code << 32, sizes / 100_000 % 10, six, six);
+fn after(table: Bytes, code: u64, sizes: u64, eight: u64) -> Bytes {
+    let sent = frame(code << 32, sizes / 100_000 % 10, eight, eight);
     let came = handled(table, sent, sizes);
     came.table
 }
@@ -32,15 +32,15 @@ fn stored(table: Bytes, compare: u64) -> Bytes {
     load(table, 0x4000_0010_0000_0000 | position << 44 | code)
 }
 
-fn thresholds(six: u64) -> Bytes {
-    after([0u8; ROOM], 0x0024_b19e, WRITE, six)
+fn thresholds(eight: u64) -> Bytes {
+    after([0u8; ROOM], 0x0024_b19e, WRITE, eight)
 }
 
-fn cleared(six: u64) -> Bytes {
-    after(thresholds(six), 0x0711_c9c0, BARE, 0)
+fn cleared(eight: u64) -> Bytes {
+    after(thresholds(eight), 0x0711_c9c0, BARE, 0)
 }
 
-pub(crate) fn start(which: u64, six: u64, given: u64) -> Bytes {
+pub(crate) fn start(which: u64, eight: u64, given: u64) -> Bytes {
     match which {
         0 => [0u8; ROOM],
         1 => two(),
@@ -49,21 +49,21 @@ pub(crate) fn start(which: u64, six: u64, given: u64) -> Bytes {
         4 => after(after(two(), 0x0038_b320, BARE, 0), 0x0028_e80e, BARE, 0),
         5 => lay(lay([0u8; ROOM], 68, 1, 62), RECORD + 68, 1, 63),
         6 => lay(two(), 69, 1, 2),
-        7 => thresholds(six),
-        8 => load(thresholds(0x0040_0600_0000_0000), 0x0000_2310_0000_0000),
+        7 => thresholds(eight),
+        8 => load(thresholds(0x0040_0600_0000_01c2), 0x0000_2310_0000_0000),
         9 => load(
-            load(thresholds(0x0040_0600_0000_0000), 0x0000_2310_0000_0000),
+            load(thresholds(0x0040_0600_0000_01c2), 0x0000_2310_0000_0000),
             0x0000_2210_0000_0000,
         ),
-        10 => stored(thresholds(six), given),
-        11 => cleared(six),
+        10 => stored(thresholds(eight), given),
+        11 => cleared(eight),
         // cell 6 of monitor 2 is 01 80
-        12 => lay(cleared(six), RECORD + 22, 1, 0x01),
+        12 => lay(cleared(eight), RECORD + 22, 1, 0x01),
         13 => stored(
-            load(thresholds(0x0040_0600_0000_0000), 0x0000_2310_0000_0000),
+            load(thresholds(0x0040_0600_0000_01c2), 0x0000_2310_0000_0000),
             given,
         ),
-        14 => load(stored(thresholds(six), given), given),
+        14 => load(stored(thresholds(eight), given), given),
         15 => after([0u8; ROOM], 0x0038_b320, BARE, 0),
         16 => after(two(), 0x0028_e80e, BARE, 0),
         _ => after(after(two(), 0x0028_e80e, BARE, 0), 0x0029_633c, BARE, 0),

@@ -60,11 +60,11 @@ pub(crate) fn read(i: usize) -> bool {
         text(label + 1);
     }
     let bits = bits_read(code);
+    let mut label = READING;
     if bits == CLEARED {
-        text(IS_CLEARED);
-    } else {
-        words(READING, bits, 0, 0, 0);
+        label = IS_CLEARED;
     }
+    words(label, bits, 0, 0, 0);
     right & (bits == BITS[k])
 }
 

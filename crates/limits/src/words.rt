@@ -119,7 +119,7 @@ pub(crate) fn words(k: u64, a: u64, b: u64, c: u64, d: u64) {
     |frames of our host\n\
     |voltages, with the bits of the f64\n\
     |table, bytes #\
-    |two monitors of 0, at # the value #\
+    |table, bytes #, at # the value #\
     |: not sound\
     |: sound\
     |\

@@ -16,20 +16,20 @@ frame-requires c κs = search needs
 loop-holds : tie.Need-loop-holds Inv-loop μ-loop
 loop-holds c = search needs
 
-mul-payload : tie.Need-mul-payload Inv-loop μ-loop
-mul-payload c = search needs
+mul-lay : tie.Need-mul-lay Inv-loop μ-loop
+mul-lay c = search needs
 
-sub-payload : tie.Need-sub-payload Inv-loop μ-loop
-sub-payload c = search needs
+sub-lay : tie.Need-sub-lay Inv-loop μ-loop
+sub-lay c = search needs
 
-add-payload : tie.Need-add-payload Inv-loop μ-loop
-add-payload c = search needs
+mul-lay-2 : tie.Need-mul-lay-2 Inv-loop μ-loop
+mul-lay-2 c = search needs
 
-mul-payload-2 : tie.Need-mul-payload-2 Inv-loop μ-loop
-mul-payload-2 c = search needs
+array-read-lay : tie.Need-array-read-lay Inv-loop μ-loop
+array-read-lay c = search needs
 
-payload-requires : tie.Need-payload-requires Inv-loop μ-loop
-payload-requires c κs = search needs
+lay-requires : tie.Need-lay-requires Inv-loop μ-loop
+lay-requires c κs = search needs
 
 add-i : tie.Need-add-i Inv-loop μ-loop
 add-i c = search needs
@@ -51,11 +51,11 @@ positions-spec =
     μ-loop
     frame-requires
     loop-holds
-    mul-payload
-    sub-payload
-    add-payload
-    mul-payload-2
-    payload-requires
+    mul-lay
+    sub-lay
+    mul-lay-2
+    array-read-lay
+    lay-requires
     add-i
     loop-less
     loop-again
