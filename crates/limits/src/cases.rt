@@ -78,13 +78,16 @@ fn told(c: Case, came: Came) -> bool {
     let number = numbers.number as u64;
     let taken = numbers.taken as u64;
     let reply = numbers.reply as u64;
-    if number != 0 {
-        words(REFUSED, number, 0, 0, 0);
-    } else if is_load(c.given) {
-        text(LOADED + (c.given >> 62));
-    } else {
-        words(TAKEN, taken, reply, 0, 0);
+    let mut label = TAKEN;
+    let mut with = taken;
+    if is_load(c.given) {
+        label = LOADED + (c.given >> 62);
     }
+    if number != 0 {
+        label = REFUSED;
+        with = number;
+    }
+    words(label, with, reply, 0, 0);
     let takers = c.sizes / 1_000_000 % 100;
     let mut long = 0;
     if c.sizes / 100_000 % 10 == 1 {

@@ -6,7 +6,7 @@ use crate::bench::lay;
 use crate::bench::same;
 use crate::deeds::handled;
 use crate::frames::frame;
-use crate::tally::count;
+use crate::say::text;
 use crate::words::OWN;
 use crate::words::words;
 
@@ -46,35 +46,39 @@ const ROWS: [u64; 32] = [
     0x2020_2020_2020_037c,
 ];
 
-// A frame with all of them. The first is that of monitor 32.
-fn positions() -> Bytes {
-    let mut sent = frame(0x0024_b19e_0000_0000, 0, 0, 0);
+// The frame has that of monitor 32 first.
+fn sent() -> Bytes {
+    let mut list = frame(0x0024_b19e_0000_0000, 0, 0, 0);
     let mut i = 0;
     while i < 32 {
-        let more = lay(sent, 252 - 8 * i, 8, ROWS[i as usize]);
-        sent = more;
+        let more = lay(list, 252 - 8 * i, 8, ROWS[i as usize]);
+        list = more;
         i += 1;
     }
-    sent
+    list
 }
 
-// How many of 32 monitors hold their own position in configuration B.
-fn holding(table: Bytes) -> u64 {
-    let mut n = 0;
+// Each monitor holds its own in configuration B, and has counted one command.
+fn wanted() -> Bytes {
+    let mut list = [0u8; ROOM];
     let mut i = 0;
     while i < 32 {
-        let own = lay(table, RECORD * i + 6, 6, (i + 1) * 0x0101_0101_0101);
-        n = count(n, same(table, own, 0, ROOM));
+        let held = lay(list, RECORD * i + 6, 6, ROWS[i as usize] >> 16);
+        let more = lay(held, RECORD * i + 68, 1, 1);
+        list = more;
         i += 1;
     }
-    n
+    list
 }
 
 pub(crate) fn write() -> bool {
-    let came = handled([0u8; ROOM], positions(), 32_260_000_000_000_000);
-    let table = came.table;
+    let came = handled([0u8; ROOM], sent(), 32_260_000_000_000_000);
     let numbers = came.numbers;
-    let n = holding(table);
-    words(OWN, numbers.taken as u64, numbers.reply as u64, n, 0);
-    (n == 32) & (numbers.taken == 32) & (numbers.reply == 0)
+    let table = came.table;
+    let right = same(table, wanted(), 0, ROOM);
+    words(OWN, numbers.taken as u64, numbers.reply as u64, 0, 0);
+    if right {
+        text(OWN + 1);
+    }
+    right & (numbers.taken == 32) & (numbers.reply == 0)
 }

@@ -59,37 +59,37 @@ pub(crate) const STAYS: u64 = 28;
 
 pub(crate) const OWN: u64 = 36;
 
-pub(crate) const LOADED: u64 = 37;
+pub(crate) const LOADED: u64 = 38;
 
-pub(crate) const FLAGS: u64 = 40;
+pub(crate) const FLAGS: u64 = 41;
 
-pub(crate) const AND: u64 = 41;
+pub(crate) const AND: u64 = 42;
 
-pub(crate) const BUILDS: u64 = 42;
+pub(crate) const BUILDS: u64 = 43;
 
-pub(crate) const LENGTH: u64 = 48;
+pub(crate) const LENGTH: u64 = 49;
 
-pub(crate) const READING: u64 = 49;
+pub(crate) const READING: u64 = 50;
 
-pub(crate) const IS_CLEARED: u64 = 50;
+pub(crate) const IS_CLEARED: u64 = 51;
 
-pub(crate) const CODES: u64 = 51;
+pub(crate) const CODES: u64 = 52;
 
-pub(crate) const NONE: u64 = 52;
+pub(crate) const NONE: u64 = 53;
 
-pub(crate) const WHOLE: u64 = 53;
+pub(crate) const WHOLE: u64 = 54;
 
-pub(crate) const OUTPUTS: u64 = 54;
+pub(crate) const OUTPUTS: u64 = 55;
 
-pub(crate) const ON: u64 = 55;
+pub(crate) const ON: u64 = 56;
 
-pub(crate) const MICROVOLTS: u64 = 56;
+pub(crate) const MICROVOLTS: u64 = 57;
 
-pub(crate) const ORDERED: u64 = 66;
+pub(crate) const ORDERED: u64 = 67;
 
-pub(crate) const CASES: u64 = 92;
+pub(crate) const CASES: u64 = 93;
 
-pub(crate) const ASKED: u64 = 187;
+pub(crate) const ASKED: u64 = 188;
 
 // The words of a number, with the numbers in them.
 pub(crate) fn words(k: u64, a: u64, b: u64, c: u64, d: u64) {
@@ -130,7 +130,8 @@ pub(crate) fn words(k: u64, a: u64, b: u64, c: u64, d: u64) {
     |\
     |\
     |\
-    |WRCFGB: taken by #, reply #; monitors that hold their own #\
+    |WRCFGB: taken by #, reply #\
+    |; each holds its own\
     |: loaded\
     |: stored\
     |: compared\

@@ -1,14 +1,14 @@
--- `limits::longest::positions` is safe and ends: the measure is the number of monitors that are left. Assumes nothing.
+-- `limits::longest::sent` is safe and ends: the measure is the number of monitors that are left. Assumes nothing.
 use borrow.Author.Needs.{needs}
 use Prim.Native.Nat.{_-_}
-use Rattle.limits.proofs.longest.positions.Statement.{statement}
-use Rattle.limits.proofs.longest.positions.Tie as tie
+use Rattle.limits.proofs.longest.sent.Statement.{statement}
+use Rattle.limits.proofs.longest.sent.Tie as tie
 
 abbrev Inv-loop : tie.InvT-loop
-Inv-loop sent₀ i₀ sent i = Unit {0}
+Inv-loop list₀ i₀ list i = Unit {0}
 
 abbrev μ-loop : tie.MeasureT-loop
-μ-loop sent₀ i₀ sent i = 32 - i
+μ-loop list₀ i₀ list i = 32 - i
 
 frame-requires : tie.Need-frame-requires Inv-loop μ-loop
 frame-requires c κs = search needs
@@ -43,8 +43,8 @@ loop-again c = search needs
 returns : tie.Need-returns Inv-loop μ-loop
 returns c = search needs
 
-pub positions-spec : {M : Type 1} → statement M
-positions-spec =
+pub sent-spec : {M : Type 1} → statement M
+sent-spec =
     tie.close
     (tie.spec
     Inv-loop
