@@ -25,31 +25,40 @@ pub(crate) const OFFERED: usize = 13;
 // How often each command was accepted.
 pub(crate) const COMMANDS: usize = 14;
 
-pub(crate) const COMMAND_COUNT: usize = 22;
+pub(crate) const COMMAND_COUNT: usize = 26;
 
 // How many frames came to each number by hand, 0 to 6.
-pub(crate) const NUMBERS_BY_HAND: usize = 36;
+pub(crate) const NUMBERS_BY_HAND: usize = COMMANDS + COMMAND_COUNT;
 
-// Of looks; and of stores, compares and loads, by their kind: and after each of those that were refused.
-pub(crate) const LOOKS: usize = 43;
+// Of looks; of stores, compares and loads, by their kind; and of questions: and after each of those that were refused.
+pub(crate) const LOOKS: usize = NUMBERS_BY_HAND + 7;
 
-pub(crate) const LOADS: usize = 45;
+pub(crate) const LOADS: usize = LOOKS + 2;
 
-pub(crate) const DIFFERENCES: usize = 51;
+pub(crate) const QUESTIONS: usize = LOADS + 6;
 
-pub(crate) type Book = [usize; 52];
+// The outputs that were on, and how many each row decided, from row 7 down.
+pub(crate) const OUTPUTS_ON: usize = QUESTIONS + 2;
 
-// No count here comes near the largest number.
-pub(crate) fn count(mut w: World, place: usize, more: usize) -> World
-    requires { ⌜ place < 52 ⌝ }
-{
-    w.book[place] = wrapping_add_usize(w.book[place], more);
+pub(crate) const ROWS: usize = OUTPUTS_ON + 1;
+
+pub(crate) const DIFFERENCES: usize = ROWS + 7;
+
+pub(crate) const BOOK_SIZE: usize = DIFFERENCES + 1;
+
+pub(crate) type Book = [usize; BOOK_SIZE];
+
+// No count here comes near the largest number. A place past the last is none.
+pub(crate) fn count(mut w: World, place: usize, more: usize) -> World {
+    if place < BOOK_SIZE {
+        w.book[place] = wrapping_add_usize(w.book[place], more);
+    }
     w
 }
 
 // One more that came to a number, from the place of 0 on. The last place has all the greater numbers.
 pub(crate) fn numbered(w: World, from: usize, last: usize, number: u8) -> World
-    requires { ⌜ from + last < 52 ⌝ }
+    requires { ⌜ from + last < 66 ⌝ }
 {
     let more = number as usize;
     if more < last {

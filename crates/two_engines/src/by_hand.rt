@@ -1,6 +1,7 @@
 // A frame clocked by hand: a byte at a time, with looks at the windows between, and a release. The table that is lent with a byte
 // matters with byte four alone; another N or an unsound table there, or another N at the release, is refusal 1.
-ghost use Prim.Native.Nat.{_+_, _<_, _≤_};
+ghost use Prim.Native.Nat.{_+_, _*_, _<_, _≤_};
+ghost use Rattle.records.specs.Record.{recordSize};
 use crate::book::NUMBERS_BY_HAND;
 use crate::book::numbered;
 use crate::digest::adler;
@@ -19,6 +20,7 @@ use crate::outcomes::of;
 use crate::outcomes::refused;
 use crate::world::World;
 use clock_state::STATE_SIZE;
+use records::RECORD_SIZE;
 use std::num::wrapping_sub_usize;
 
 // When a table is lent: with byte four this is 1, with another byte 0.
@@ -27,16 +29,20 @@ const RELEASE: usize = 2;
 // How many bytes of the table are lent, in one of eight ways.
 fn lent(way: usize, time: usize, n: usize) -> usize
     requires { ⌜ (way < 8) × (0 < n) × (n ≤ 32) ⌝ }
-    ensures { λ r. ⌜ r ≤ 2241 ⌝ }
+    ensures { λ r. ⌜ r ≤ 32 * recordSize + 1 ⌝ }
 {
     match 3 * way + time % 3 {
         // another N at the release, or with byte four
-        5 | 16 => if n == 1 { 140 } else { 70 * n - 70 },
+        5 | 16 => if n == 1 {
+            2 * RECORD_SIZE
+        } else {
+            RECORD_SIZE * n - RECORD_SIZE
+        },
         // an unsound table with byte four, or at the release
-        7 | 14 => 70 * n + 1,
+        7 | 14 => RECORD_SIZE * n + 1,
         // none with the other bytes, which matter not
         9 => 0,
-        _ => 70 * n,
+        _ => RECORD_SIZE * n,
     }
 }
 
@@ -51,13 +57,13 @@ fn due(table: Outcome, way: usize, n: usize, frame: &[u8]) -> Outcome
             refused(table, 1)
         },
         4 => refused(table, 1),
-        _ => through(false, table, 70 * n, frame, REPLY_ROOM),
+        _ => through(false, table, RECORD_SIZE * n, frame, REPLY_ROOM),
     }
 }
 
 // What a byte answers, with so many bytes of the table.
 fn clock(state: &mut [u8; STATE_SIZE], table: Outcome, size: usize, byte: u8) -> u8
-    requires { ⌜ size ≤ 2241 ⌝ }
+    requires { ⌜ size ≤ 32 * recordSize + 1 ⌝ }
 {
     let end = TABLE + size;
     clocking::clock(state, &table[TABLE..end], byte)
@@ -65,7 +71,7 @@ fn clock(state: &mut [u8; STATE_SIZE], table: Outcome, size: usize, byte: u8) ->
 
 // Byte i, counted from 0. What it answers after byte four goes to the buffer, as far as that has room.
 fn clock_one(mut w: World, size: usize, i: usize, byte: u8) -> World
-    requires { ⌜ size ≤ 2241 ⌝ }
+    requires { ⌜ size ≤ 32 * recordSize + 1 ⌝ }
 {
     let table = w.table;
     let mut state = w.state;
@@ -94,7 +100,7 @@ fn clock_all(world: World, way: usize, n: usize, frame: &[u8]) -> World
 
 // A release, with so many bytes of the table. What was answered after byte four is a reply only where a read is accepted.
 fn release(state: &mut [u8; STATE_SIZE], before: Outcome, size: usize, back: Reply) -> Outcome
-    requires { ⌜ size ≤ 2241 ⌝ }
+    requires { ⌜ size ≤ 32 * recordSize + 1 ⌝ }
 {
     let mut table = before;
     let end = TABLE + size;
@@ -107,7 +113,7 @@ fn release(state: &mut [u8; STATE_SIZE], before: Outcome, size: usize, back: Rep
 
 // What comes of the release, and what is due.
 fn released(mut w: World, size: usize, due: Outcome) -> World
-    requires { ⌜ size ≤ 2241 ⌝ }
+    requires { ⌜ size ≤ 32 * recordSize + 1 ⌝ }
 {
     let table = w.table;
     let back = w.back;
@@ -115,7 +121,7 @@ fn released(mut w: World, size: usize, due: Outcome) -> World
     let one = release(&mut state, table, size, back);
     w.state = state;
     w.by_hand = adler(w.by_hand, &one);
-    compared(numbered(w, NUMBERS_BY_HAND, 6, one[0]), one, due)
+    compared(numbered(w, NUMBERS_BY_HAND, 6, one[0]), &one, &due)
 }
 
 // The state is as the last release left it; now and then a frame that had begun is given up.

@@ -1,5 +1,6 @@
 // One frame through both engines, from equal tables and equal reply buffers.
-ghost use Prim.Native.Nat.{_<_, _≤_};
+ghost use Prim.Native.Nat.{_+_, _*_, _<_, _≤_};
+ghost use Rattle.records.specs.Record.{recordSize};
 use crate::book::BARES;
 use crate::book::COMMANDS;
 use crate::book::FRAMES;
@@ -10,7 +11,6 @@ use crate::book::TOOK;
 use crate::book::WRITES;
 use crate::book::count;
 use crate::book::numbered;
-use crate::digest::adler;
 use crate::frames::FIRST_BARE;
 use crate::frames::FIRST_WRITE;
 use crate::outcomes::BEFORE;
@@ -19,6 +19,8 @@ use crate::outcomes::TABLE;
 use crate::outcomes::compared;
 use crate::outcomes::of;
 use crate::outcomes::refused;
+use crate::outcomes::weighed;
+use crate::questions::asked;
 use crate::tables::spoil;
 use crate::world::World;
 use chain::Numbers;
@@ -40,7 +42,7 @@ pub(crate) fn through(
     frame: &[u8],
     room: usize,
 ) -> Outcome
-    requires { ⌜ (size ≤ 2241) × (room ≤ 272) ⌝ }
+    requires { ⌜ (size ≤ 32 * recordSize + 1) × (room ≤ 272) ⌝ }
 {
     let mut table = lent;
     let mut reply = BEFORE;
@@ -50,10 +52,8 @@ pub(crate) fn through(
 }
 
 // What became of a frame that was accepted.
-fn accepted(world: World, n: usize, command: usize, taken: u8) -> World
-    requires { ⌜ command < 22 ⌝ }
-{
-    let w = count(world, COMMANDS + command, 1);
+fn accepted(world: World, n: usize, command: usize, taken: u8) -> World {
+    let w = count(world, wrapping_add_usize(COMMANDS, command), 1);
     if command < FIRST_WRITE {
         return count(w, READS, 1);
     }
@@ -64,20 +64,18 @@ fn accepted(world: World, n: usize, command: usize, taken: u8) -> World
 }
 
 // What became of a frame, from the table that was lent.
-fn noted(world: World, n: usize, command: usize, lent: Outcome, one: Outcome) -> World
-    requires { ⌜ command < 22 ⌝ }
-{
+fn noted(world: World, n: usize, command: usize, lent: Outcome, one: Outcome) -> World {
     let number = one[0];
     let mut w = numbered(count(world, FRAMES, 1), NUMBERS, 6, number);
     if number != 0 {
-        return compared(w, one, refused(lent, number));
+        return compared(w, &one, &refused(lent, number));
     }
     w.table = one;
     accepted(w, n, command, one[1])
 }
 
 pub(crate) fn both(mut w: World, n: usize, command: usize, frame: &[u8]) -> World
-    requires { ⌜ (0 < n) × (n ≤ 32) × (command < 22) ⌝ }
+    requires { ⌜ (0 < n) × (n ≤ 32) ⌝ }
 {
     let table = w.table;
     let s = spoil(table, n, w.luck);
@@ -86,7 +84,6 @@ pub(crate) fn both(mut w: World, n: usize, command: usize, frame: &[u8]) -> Worl
     let other = through(true, lent, s.size, frame, s.room);
     w.luck = s.luck;
     w.frames = wrapping_add_usize(w.frames, 1);
-    w.whole = adler(w.whole, &one);
-    w.clocked = adler(w.clocked, &other);
-    noted(compared(w, one, other), n, command, lent, one)
+    let w = asked(weighed(w, &one, &other), n, s.size, one, other);
+    noted(w, n, command, lent, one)
 }

@@ -27,11 +27,15 @@ const CODES: [u16; COMMAND_COUNT + 16] = [
     0x0033,
     0x002c,
     0x003a,
+    0x0022,
+    0x0023,
     0x0001,
     0x0024,
     0x0039,
     0x0717,
     0x0715,
+    0x0020,
+    0x0021,
     0x0028,
     0x0029,
     0x002e,
@@ -55,9 +59,9 @@ const CODES: [u16; COMMAND_COUNT + 16] = [
     0x8002,
 ];
 
-pub(crate) const FIRST_WRITE: usize = 12;
+pub(crate) const FIRST_WRITE: usize = 14;
 
-pub(crate) const FIRST_BARE: usize = 17;
+pub(crate) const FIRST_BARE: usize = 21;
 
 // One bit turned over, from a byte on, the lowest of that byte counted as 0. No byte has a bit that was not drawn.
 fn flip(bytes: &mut [u8], from: usize, bit: usize)
@@ -71,7 +75,7 @@ fn flip(bytes: &mut [u8], from: usize, bit: usize)
 
 // A code and its check.
 fn head_of(place: usize) -> [u8; 4]
-    requires { ⌜ place < 38 ⌝ }
+    requires { ⌜ place < 42 ⌝ }
 {
     let codes = CODES;
     let code = codes[place];
@@ -86,8 +90,8 @@ fn head_of(place: usize) -> [u8; 4]
 
 // The place of a command's code, or of one that is not listed.
 fn place_of(command: usize, unlisted: usize) -> usize
-    requires { ⌜ command < 22 ⌝ }
-    ensures { λ r. ⌜ r < 38 ⌝ }
+    requires { ⌜ command < 26 ⌝ }
+    ensures { λ r. ⌜ r < 42 ⌝ }
 {
     if unlisted < 16 {
         return COMMAND_COUNT + unlisted;
@@ -117,7 +121,7 @@ fn head_bit(luck: usize) -> Drawn
 
 // The first four bytes of a frame. What luck is left is answered.
 pub(crate) fn start(frame: &mut [u8], command: usize, luck: usize) -> usize
-    requires { ⌜ command < 22 ⌝ }
+    requires { ⌜ command < 26 ⌝ }
 {
     let unlisted = now_and_then(luck, 12, 16);
     let bit = head_bit(unlisted.luck);
@@ -220,7 +224,7 @@ pub(crate) struct Frame {
 
 pub(crate) fn make(n: usize, luck: usize) -> Frame
     requires { ⌜ n ≤ 32 ⌝ }
-    ensures { λ r. ⌜ (r .length ≤ 600) × (r .command < 22) ⌝ }
+    ensures { λ r. ⌜ r .length ≤ 600 ⌝ }
 {
     let command = draw(luck, COMMAND_COUNT);
     let mut bytes = [0; LONGEST];

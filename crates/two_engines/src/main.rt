@@ -1,6 +1,6 @@
 // Both engines on the same generated frames, for 1, 2, 3, 31 and 32 monitors: good frames of every command, frames damaged in every
-// way that has a number; stores, compares and loads between. Printed: what became of the frames, how much differed, and digests of
-// every table and reply.
+// way that has a number; stores, compares and loads between; and after each frame the question about the discharge, put to both engines'
+// tables. Printed: what became of the frames, how much differed, and digests of every table, reply and answer.
 // What that must be is worked out by tools/two-engines-model, from the paper alone.
 mod book;
 mod by_hand;
@@ -10,11 +10,13 @@ mod frames;
 mod looks;
 mod luck;
 mod outcomes;
+mod questions;
 mod say;
 mod tables;
 mod world;
 
 ghost use Prim.Native.Nat.{_<_, _≤_};
+use crate::book::BOOK_SIZE;
 use crate::book::COMMAND_COUNT;
 use crate::frames::LONGEST;
 use crate::luck::SEED;
@@ -30,7 +32,7 @@ const TURNS: usize = 800;
 
 // A frame at the start of an array, now and then by hand, and through both engines.
 fn sent(w: World, n: usize, command: usize, bytes: [u8; LONGEST], length: usize) -> World
-    requires { ⌜ (0 < n) × (n ≤ 32) × (command < 22) × (length ≤ 600) ⌝ }
+    requires { ⌜ (0 < n) × (n ≤ 32) × (length ≤ 600) ⌝ }
 {
     let frame = &bytes[0..length];
     engines::both(by_hand::now_and_then(w, n, frame), n, command, frame)
@@ -83,7 +85,7 @@ fn main() {
         whole: 1,
         clocked: 1,
         by_hand: 1,
-        book: [0; 52],
+        book: [0; BOOK_SIZE],
         table: [0; REPLY + REPLY_ROOM],
         state,
         back: BEFORE,

@@ -1,14 +1,16 @@
 // What comes of a frame, as bytes: its numbers, the table, and the reply buffer, all of them whole.
 use crate::book::DIFFERENCES;
 use crate::book::count;
+use crate::digest::adler;
 use crate::world::World;
 use chain::Numbers;
+use records::RECORD_SIZE;
 use std::num::wrapping_add_usize;
 
 // The numbers, and where the table starts: 32 records and one byte more.
 pub(crate) const TABLE: usize = 4;
 
-pub(crate) const REPLY: usize = TABLE + 2241;
+pub(crate) const REPLY: usize = TABLE + 32 * RECORD_SIZE + 1;
 
 pub(crate) const REPLY_ROOM: usize = 272;
 
@@ -52,10 +54,17 @@ pub(crate) fn refused(other: Outcome, number: u8) -> Outcome {
 }
 
 // Counts a difference in any byte.
-pub(crate) fn compared(mut w: World, one: Outcome, other: Outcome) -> World {
-    if check::same(&one, &other) {
+pub(crate) fn compared(mut w: World, one: &[u8], other: &[u8]) -> World {
+    if check::same(one, other) {
         return w;
     }
     w.differences = wrapping_add_usize(w.differences, 1);
     count(w, DIFFERENCES, 1)
+}
+
+// What comes of the two engines: to the digest of each, and compared.
+pub(crate) fn weighed(mut w: World, one: &[u8], other: &[u8]) -> World {
+    w.whole = adler(w.whole, one);
+    w.clocked = adler(w.clocked, other);
+    compared(w, one, other)
 }

@@ -33,9 +33,10 @@ pub(crate) fn counts(book: Book) {
         b"N = #: frames #, accepted: reads #, writes #, bare #, in all #\n\
         \x20 refused 1: #, 2: #, 3: #, 4: #, 5: #, 6: #\n\
         \x20 writes taken by # of # monitors\n\
-        \x20 accepted of each command: # # # # # # # # # # # # # # # # # # # # # #\n\
+        \x20 accepted of each command: # # # # # # # # # # # # # # # # # # # # # # # # # #\n\
         \x20 by hand: accepted #, refused 1: #, 2: #, 3: #, 4: #, 5: #, 6: #; looks #, refused #\n\
         \x20 stores #, refused #; compares #, refused #; loads #, refused #\n\
+        \x20 questions #, refused #; outputs on #; rows 7: #, 6: #, 5: #, 4: #, 3: #, 2: #, 1: #\n\
         \x20 differences: #\n",
         &book,
     );

@@ -2,6 +2,8 @@
 ghost use mathlib.Core.Path.{_≡_};
 ghost use Prim.Native.Nat.{_+_, _*_, _<_, _≤_};
 ghost use lib.ListN.{length};
+ghost use Rattle.records.specs.Record.{recordSize};
+use crate::book::BOOK_SIZE;
 use crate::book::LOADS;
 use crate::book::MONITORS;
 use crate::book::count;
@@ -13,9 +15,10 @@ use crate::outcomes::REPLY;
 use crate::outcomes::REPLY_ROOM;
 use crate::outcomes::TABLE;
 use crate::world::World;
+use records::RECORD_SIZE;
 
 // Where the first record has its counter, and its lock after it.
-const COUNTER: usize = TABLE + 68;
+const COUNTER: usize = TABLE + records::COUNTER;
 
 // Codes to store or load: sixteen that follow one another are taken. One near the end is the cleared code, which neither takes.
 const CODES: [i16; 32] = [
@@ -62,7 +65,7 @@ const KINDS: usize = 3;
 
 // Every counter and every lock anew: so counters come to their end, and retentions are found unlocked. What luck is left is answered.
 fn stir(table: &mut [u8], luck: usize) -> usize
-    requires { ⌜ length (now table) ≡ 2517 ⌝ }
+    requires { ⌜ length (now table) ≡ 32 * recordSize + 277 ⌝ }
 {
     let mut last = luck;
     let mut at = COUNTER;
@@ -72,7 +75,7 @@ fn stir(table: &mut [u8], luck: usize) -> usize
         table[at] = counter.number as u8;
         table[at + 1] = lock.number as u8;
         last = lock.luck;
-        at += 70;
+        at += RECORD_SIZE;
     }
     last
 }
@@ -98,7 +101,7 @@ pub(crate) fn new(mut w: World, n: usize) -> World {
     let mut table = [0; REPLY + REPLY_ROOM];
     w.luck = fill(&mut table[TABLE..REPLY], w.luck);
     w.table = table;
-    w.book = [0; 52];
+    w.book = [0; BOOK_SIZE];
     count(stirred(w), MONITORS, n)
 }
 
@@ -112,8 +115,8 @@ pub(crate) struct Lent {
 
 // Room for the reply and more, and now and then a byte too little.
 fn with_room(table: Outcome, size: usize, n: usize, luck: usize) -> Lent
-    requires { ⌜ (size ≤ 2241) × (0 < n) × (n ≤ 32) ⌝ }
-    ensures { λ r. ⌜ (r .size ≤ 2241) × (r .room ≤ 272) ⌝ }
+    requires { ⌜ (size ≤ 32 * recordSize + 1) × (0 < n) × (n ≤ 32) ⌝ }
+    ensures { λ r. ⌜ (r .size ≤ 32 * recordSize + 1) × (r .room ≤ 272) ⌝ }
 {
     let chance = draw(luck, 16);
     if chance.number == 0 {
@@ -134,29 +137,29 @@ fn with_room(table: Outcome, size: usize, n: usize, luck: usize) -> Lent
 
 // A byte of the table, from the first counter on, that is at least so much.
 fn spoilt(whole: Outcome, n: usize, at: usize, least: usize, luck: usize) -> Lent
-    requires { ⌜ (0 < n) × (n ≤ 32) × (at < 2300) × (least ≤ 64) ⌝ }
-    ensures { λ r. ⌜ (r .size ≤ 2241) × (r .room ≤ 272) ⌝ }
+    requires { ⌜ (0 < n) × (n ≤ 32) × (at < 32 * recordSize) × (least ≤ 64) ⌝ }
+    ensures { λ r. ⌜ (r .size ≤ 32 * recordSize + 1) × (r .room ≤ 272) ⌝ }
 {
     let byte = draw(luck, 256 - least);
     let mut table = whole;
     table[COUNTER + at] = (least + byte.number) as u8;
-    with_room(table, 70 * n, n, byte.luck)
+    with_room(table, RECORD_SIZE * n, n, byte.luck)
 }
 
 // Now and then it is not sound: a counter above 63, a lock above 1, a byte too many.
 pub(crate) fn spoil(whole: Outcome, n: usize, luck: usize) -> Lent
     requires { ⌜ (0 < n) × (n ≤ 32) ⌝ }
-    ensures { λ r. ⌜ (r .size ≤ 2241) × (r .room ≤ 272) ⌝ }
+    ensures { λ r. ⌜ (r .size ≤ 32 * recordSize + 1) × (r .room ≤ 272) ⌝ }
 {
     let chance = draw(luck, 36);
     let k = draw(chance.luck, n);
-    let at = 70 * k.number;
+    let at = RECORD_SIZE * k.number;
     let what = chance.number;
     match what {
         0 => spoilt(whole, n, at, 64, k.luck),
         1 => spoilt(whole, n, at + 1, 2, k.luck),
-        2 => with_room(whole, 70 * n + 1, n, k.luck),
-        _ => with_room(whole, 70 * n, n, k.luck),
+        2 => with_room(whole, RECORD_SIZE * n + 1, n, k.luck),
+        _ => with_room(whole, RECORD_SIZE * n, n, k.luck),
     }
 }
 
@@ -186,7 +189,7 @@ fn loaded(
     from: usize,
     to: usize,
 ) -> Came
-    requires { ⌜ (size ≤ 2241) × (from ≤ to) × (to ≤ 32) ⌝ }
+    requires { ⌜ (size ≤ 32 * recordSize + 1) × (from ≤ to) × (to ≤ 32) ⌝ }
 {
     let mut table = before;
     let end = TABLE + size;
@@ -212,7 +215,7 @@ pub(crate) fn now_and_then_loaded(mut w: World, n: usize) -> World
     let start = draw(what.luck, 16);
     w.luck = start.luck;
     let from = start.number;
-    let size = 70 * n;
+    let size = RECORD_SIZE * n;
     let before = w.table;
     let way = what.number;
     let came = match way {

@@ -2,17 +2,18 @@
 -- Assumes nothing.
 use borrow.Author.Needs.{needs}
 use mathlib.Core.Path.{_≡_}
-use Prim.Native.Nat.{_-_}
+use Prim.Native.Nat.{_+_, _-_, _*_}
 use native.Mathlib.Omega.{arith}
 use lib.ListN.{length, length-set}
+use Rattle.records.specs.Record.{recordSize}
 use Rattle.two_engines.proofs.tables.stir.Statement.{statement}
 use Rattle.two_engines.proofs.tables.stir.Tie as tie
 
 abbrev Inv-loop : tie.InvT-loop
-Inv-loop table₀ luck last₀ at₀ table last at = length table ≡ 2517
+Inv-loop table₀ luck last₀ at₀ table last at = length table ≡ 32 * recordSize + 277
 
 abbrev μ-loop : tie.MeasureT-loop
-μ-loop table₀ luck last₀ at₀ table last at = 2245 - at
+μ-loop table₀ luck last₀ at₀ table last at = 32 * recordSize + 5 - at
 
 loop-holds : tie.Need-loop-holds Inv-loop μ-loop
 loop-holds c = search needs
