@@ -37,12 +37,10 @@ pub(crate) const LOADS: usize = LOOKS + 2;
 
 pub(crate) const QUESTIONS: usize = LOADS + 6;
 
-// The outputs that were on, and how many each row decided, from row 7 down.
-pub(crate) const OUTPUTS_ON: usize = QUESTIONS + 2;
+// After this place: the outputs that each row left off, from row 1 on, and those that each put on.
+pub(crate) const OUTPUTS: usize = QUESTIONS + 1;
 
-pub(crate) const ROWS: usize = OUTPUTS_ON + 1;
-
-pub(crate) const DIFFERENCES: usize = ROWS + 7;
+pub(crate) const DIFFERENCES: usize = OUTPUTS + 15;
 
 pub(crate) const BOOK_SIZE: usize = DIFFERENCES + 1;
 
@@ -58,7 +56,7 @@ pub(crate) fn count(mut w: World, place: usize, more: usize) -> World {
 
 // One more that came to a number, from the place of 0 on. The last place has all the greater numbers.
 pub(crate) fn numbered(w: World, from: usize, last: usize, number: u8) -> World
-    requires { ⌜ from + last < 66 ⌝ }
+    requires { ⌜ from + last < 72 ⌝ }
 {
     let more = number as usize;
     if more < last {

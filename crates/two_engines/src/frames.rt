@@ -65,7 +65,7 @@ pub(crate) const FIRST_BARE: usize = 21;
 
 // One bit turned over, from a byte on, the lowest of that byte counted as 0. No byte has a bit that was not drawn.
 fn flip(bytes: &mut [u8], from: usize, bit: usize)
-    requires { ⌜ (from < 600) × (bit ≤ 65536) ⌝ }
+    requires { ⌜ from < 600 ⌝ }
 {
     let at = from + bit / 8;
     if at < bytes.len() {
@@ -99,40 +99,25 @@ fn place_of(command: usize, unlisted: usize) -> usize
     command
 }
 
-// Now and then a bit of the code or of its check, or the 0 place after the check.
-fn head_bit(luck: usize) -> Drawn
-    ensures { λ r. ⌜ r .number ≤ 65536 ⌝ }
-{
-    let chance = draw(luck, 24);
-    if chance.number == 0 {
-        return draw(chance.luck, 32);
-    }
-    if chance.number == 1 {
-        return Drawn {
-            luck: chance.luck,
-            number: 24,
-        };
-    }
-    Drawn {
-        luck: chance.luck,
-        number: NONE,
-    }
-}
-
 // The first four bytes of a frame. What luck is left is answered.
 pub(crate) fn start(frame: &mut [u8], command: usize, luck: usize) -> usize
     requires { ⌜ command < 26 ⌝ }
 {
     let unlisted = now_and_then(luck, 12, 16);
-    let bit = head_bit(unlisted.luck);
+    let bit = now_and_then(unlisted.luck, 12, 64);
     bytes::put(frame, 0, &head_of(place_of(command, unlisted.number)));
-    flip(frame, 0, bit.number);
+    // a bit of the code or of its check; or the 0 place after the check
+    if bit.number / 32 == 1 {
+        flip(frame, 0, 24);
+    } else {
+        flip(frame, 0, bit.number);
+    }
     bit.luck
 }
 
 // A payload gets its check, over the counter bits as they were drawn; and then a bit of it may be turned over.
 fn put_check(frame: &mut [u8], at: usize, bit: usize)
-    requires { ⌜ (at < 260) × (bit ≤ 65536) × (length (now frame) ≡ 600) ⌝ }
+    requires { ⌜ (at < 260) × (length (now frame) ≡ 600) ⌝ }
 {
     let end = at + 6;
     let check = remainders::seal(&frame[at..end], frame[end] / 4);
@@ -141,9 +126,7 @@ fn put_check(frame: &mut [u8], at: usize, bit: usize)
 }
 
 // In some frames now and then a bit of a payload.
-fn payload_bit(some: usize, luck: usize) -> Drawn
-    ensures { λ r. ⌜ r .number ≤ 65536 ⌝ }
-{
+fn payload_bit(some: usize, luck: usize) -> Drawn {
     if some == 0 {
         return now_and_then(luck, 4, 64);
     }
@@ -166,12 +149,13 @@ fn put_payloads(frame: &mut [u8], n: usize, luck: usize) -> usize
     last
 }
 
-// The length in one of the ways: mostly the right one.
-fn length_in(way: usize, right: usize, full: usize) -> usize
-    requires { ⌜ (0 < right) × (right ≤ 260) × (full ≤ 260) ⌝ }
+// The length in one of 32 ways, mostly the right one; and where it is another, so much more.
+fn length_in(drawn: usize, right: usize, full: usize) -> usize
+    requires { ⌜ (drawn < 10880) × (0 < right) × (right ≤ 260) × (full ≤ 260) ⌝ }
     ensures { λ r. ⌜ r ≤ 600 ⌝ }
 {
-    match way {
+    match drawn % 32 {
+        0 => drawn / 32 % 4,
         1 => right - 1,
         2 => right + 1,
         3 => right + 8,
@@ -181,6 +165,8 @@ fn length_in(way: usize, right: usize, full: usize) -> usize
         5 => 4,
         // a count of bytes that wraps at 256 would take these for right
         6 => right + 256,
+        // more than any frame has
+        7 => 261 + drawn / 32,
         _ => right,
     }
 }
@@ -189,28 +175,17 @@ fn length_of(command: usize, n: usize, luck: usize) -> Drawn
     requires { ⌜ n ≤ 32 ⌝ }
     ensures { λ r. ⌜ r .number ≤ 600 ⌝ }
 {
-    let way = draw(luck, 32);
-    if way.number == 0 {
-        return draw(way.luck, 4);
-    }
-    if way.number == 7 {
-        // more than any frame has
-        let more = draw(way.luck, 340);
-        return Drawn {
-            luck: more.luck,
-            number: 261 + more.number,
-        };
-    }
+    let drawn = draw(luck, 10880);
     let full = 4 + 8 * n;
     if command < FIRST_BARE {
         return Drawn {
-            luck: way.luck,
-            number: length_in(way.number, full, full),
+            luck: drawn.luck,
+            number: length_in(drawn.number, full, full),
         };
     }
     Drawn {
-        luck: way.luck,
-        number: length_in(way.number, 4, full),
+        luck: drawn.luck,
+        number: length_in(drawn.number, 4, full),
     }
 }
 

@@ -1,7 +1,7 @@
 // What frames, tables and damage are drawn from: a linear congruential generator, so that tools/two-engines-model draws the same.
 ghost use Prim.Native.Nat.{_<_, _≤_};
 
-pub(crate) const SEED: usize = 6838;
+pub(crate) const SEED: usize = 6833;
 
 const FACTOR: usize = 1664525;
 
@@ -32,8 +32,7 @@ pub(crate) fn draw(luck: usize, below: usize) -> Drawn
 
 // A number once in so many times, and otherwise none.
 pub(crate) fn now_and_then(luck: usize, times: usize, below: usize) -> Drawn
-    requires { ⌜ (0 < times) × (0 < below) × (below < 65536) ⌝ }
-    ensures { λ r. ⌜ r .number ≤ 65536 ⌝ }
+    requires { ⌜ (0 < times) × (0 < below) ⌝ }
 {
     let chance = draw(luck, times);
     if chance.number == 0 {

@@ -1,9 +1,8 @@
 // After a frame: the question about one monitor's discharge, put to both engines' tables.
-ghost use Prim.Native.Nat.{_+_, _*_, _<_, _≤_};
+ghost use Prim.Native.Nat.{_+_, _*_, _≤_};
 ghost use Rattle.records.specs.Record.{recordSize};
-use crate::book::OUTPUTS_ON;
+use crate::book::OUTPUTS;
 use crate::book::QUESTIONS;
-use crate::book::ROWS;
 use crate::book::count;
 use crate::book::numbered;
 use crate::luck::draw;
@@ -14,53 +13,43 @@ use crate::world::World;
 use discharge::Discharged;
 use priorities::Events;
 
-// The ways to ask it of one monitor: each event once in four times, phases 0 to 17, room for 14 to 27 bytes.
-const WAYS: usize = 256 * 18 * 14;
+// What is answered: how many outputs are on, or the number and 0x80; and the whole buffer.
+type Answer = [u8; 25];
 
-// What is answered: the number, how many outputs are on, and the whole buffer.
-type Answer = [u8; 29];
-
+// The events, the phase, 0 to 16, and the room, 14 to 24 bytes, are remainders of the way by numbers that have no common divisor.
 fn answer(lent: Outcome, size: usize, position: usize, way: usize) -> Answer
-    requires { ⌜ (size ≤ 32 * recordSize + 1) × (way < 64512) ⌝ }
+    requires { ⌜ size ≤ 32 * recordSize + 1 ⌝ }
 {
-    let end = TABLE + size;
-    let end_of_room = 16 + way / 4608;
     let events = Events {
-        shutdown: way % 4 == 0,
-        measurement: way / 4 % 4 == 0,
-        wrcfgb: way / 16 % 4 == 0,
-        wrpwm: way / 64 % 4 == 0,
+        shutdown: way % 7 == 0,
+        measurement: way % 3 == 0,
+        wrcfgb: way % 5 == 0,
+        wrpwm: way % 4 == 0,
     };
-    let phase = (way / 256 % 18) as u8;
-    let mut all = [0xa5; 29];
+    let end = TABLE + size;
+    let room = 15 + way % 11;
+    let mut all = [0xa5; 25];
     let came = discharge::discharge(
         &lent[TABLE..end],
         position,
         events,
-        phase,
-        &mut all[2..end_of_room],
+        (way % 17) as u8,
+        &mut all[1..room],
     );
-    match came {
-        Discharged::Refused(refusal) => {
-            all[0] = refusals::number_of(refusal);
-            all[1] = 0;
-        }
-        Discharged::On(on) => {
-            all[0] = 0;
-            all[1] = (on % 256) as u8;
-        }
-    }
+    all[0] = match came {
+        Discharged::Refused(refusal) => refusals::number_of(refusal) | 0x80,
+        Discharged::On(on) => (on % 128) as u8,
+    };
     all
 }
 
-// What became of it. A row that is none of the table's counts as a difference.
+// What became of it. Since 0x80 is 121 and 7 more, an output that is on comes seven places after one that its row leaves off; and the
+// bytes of a buffer that stayed as it was come to no place.
 fn told(world: World, answer: Answer) -> World {
-    let accepted = (answer[0] == 0) as usize;
-    let mut w = numbered(world, QUESTIONS, 1, answer[0]);
-    w = count(w, OUTPUTS_ON, answer[1] as usize);
-    let mut i = 2;
-    while i < 18 {
-        w = count(w, ROWS + 7 - (answer[i] % 8) as usize, accepted);
+    let mut w = numbered(world, QUESTIONS, 1, answer[0] / 128);
+    let mut i = 1;
+    while i < 17 {
+        w = count(w, OUTPUTS + (answer[i] % 121) as usize, 1);
         i += 1;
     }
     w
@@ -71,7 +60,7 @@ pub(crate) fn asked(mut w: World, n: usize, size: usize, one: Outcome, other: Ou
     requires { ⌜ (n ≤ 32) × (size ≤ 32 * recordSize + 1) ⌝ }
 {
     let position = draw(w.luck, n + 2);
-    let way = draw(position.luck, WAYS);
+    let way = draw(position.luck, 65536);
     w.luck = way.luck;
     let a = answer(one, size, position.number, way.number);
     let b = answer(other, size, position.number, way.number);

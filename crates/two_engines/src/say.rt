@@ -36,7 +36,7 @@ pub(crate) fn counts(book: Book) {
         \x20 accepted of each command: # # # # # # # # # # # # # # # # # # # # # # # # # #\n\
         \x20 by hand: accepted #, refused 1: #, 2: #, 3: #, 4: #, 5: #, 6: #; looks #, refused #\n\
         \x20 stores #, refused #; compares #, refused #; loads #, refused #\n\
-        \x20 questions #, refused #; outputs on #; rows 7: #, 6: #, 5: #, 4: #, 3: #, 2: #, 1: #\n\
+        \x20 questions #, refused #; outputs off by row 1: #, 2: #, 3: #, 4: #, 5: #, 6: #, 7: #, on by row 1: #, 2: #, 3: #, 4: #, 5: #, 6: #, 7: #\n\
         \x20 differences: #\n",
         &book,
     );

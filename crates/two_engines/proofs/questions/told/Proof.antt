@@ -6,16 +6,10 @@ use Rattle.two_engines.proofs.questions.told.Statement.{statement}
 use Rattle.two_engines.proofs.questions.told.Tie as tie
 
 abbrev Inv-loop : tie.InvT-loop
-Inv-loop answer accepted w₀ i₀ w i = Unit {0}
+Inv-loop answer w₀ i₀ w i = Unit {0}
 
 abbrev μ-loop : tie.MeasureT-loop
-μ-loop answer accepted w₀ i₀ w i = 18 - i
-
-array-read-accepted : tie.Need-array-read-accepted Inv-loop μ-loop
-array-read-accepted c = search needs
-
-cast-accepted : tie.Need-cast-accepted Inv-loop μ-loop
-cast-accepted c = search needs
+μ-loop answer w₀ i₀ w i = 17 - i
 
 array-read-numbered : tie.Need-array-read-numbered Inv-loop μ-loop
 array-read-numbered c = search needs
@@ -23,32 +17,20 @@ array-read-numbered c = search needs
 numbered-requires : tie.Need-numbered-requires Inv-loop μ-loop
 numbered-requires c κs = search needs
 
+loop-holds : tie.Need-loop-holds Inv-loop μ-loop
+loop-holds c = search needs
+
 array-read-count : tie.Need-array-read-count Inv-loop μ-loop
 array-read-count c = search needs
 
 cast-count : tie.Need-cast-count Inv-loop μ-loop
 cast-count c = search needs
 
-count-requires : tie.Need-count-requires Inv-loop μ-loop
-count-requires c κs = search needs
-
-loop-holds : tie.Need-loop-holds Inv-loop μ-loop
-loop-holds c = search needs
-
 add-count : tie.Need-add-count Inv-loop μ-loop
 add-count c = search needs
 
-array-read-count-2 : tie.Need-array-read-count-2 Inv-loop μ-loop
-array-read-count-2 c = search needs
-
-cast-count-2 : tie.Need-cast-count-2 Inv-loop μ-loop
-cast-count-2 c = search needs
-
-sub-count : tie.Need-sub-count Inv-loop μ-loop
-sub-count c = search needs
-
-count-requires-2 : tie.Need-count-requires-2 Inv-loop μ-loop
-count-requires-2 c κs = search needs
+count-requires : tie.Need-count-requires Inv-loop μ-loop
+count-requires c κs = search needs
 
 add-i : tie.Need-add-i Inv-loop μ-loop
 add-i c = search needs
@@ -68,19 +50,13 @@ told-spec =
     (tie.spec
     Inv-loop
     μ-loop
-    array-read-accepted
-    cast-accepted
     array-read-numbered
     numbered-requires
+    loop-holds
     array-read-count
     cast-count
-    count-requires
-    loop-holds
     add-count
-    array-read-count-2
-    cast-count-2
-    sub-count
-    count-requires-2
+    count-requires
     add-i
     loop-less
     loop-again
