@@ -99,19 +99,32 @@ fn place_of(command: usize, unlisted: usize) -> usize
     command
 }
 
+// Now and then a bit of the code or of its check, or the 0 place after the check.
+fn head_bit(luck: usize) -> Drawn {
+    let chance = draw(luck, 24);
+    if chance.number == 0 {
+        return draw(chance.luck, 32);
+    }
+    if chance.number == 1 {
+        return Drawn {
+            luck: chance.luck,
+            number: 24,
+        };
+    }
+    Drawn {
+        luck: chance.luck,
+        number: NONE,
+    }
+}
+
 // The first four bytes of a frame. What luck is left is answered.
 pub(crate) fn start(frame: &mut [u8], command: usize, luck: usize) -> usize
     requires { ⌜ command < 26 ⌝ }
 {
     let unlisted = now_and_then(luck, 12, 16);
-    let bit = now_and_then(unlisted.luck, 12, 64);
+    let bit = head_bit(unlisted.luck);
     bytes::put(frame, 0, &head_of(place_of(command, unlisted.number)));
-    // a bit of the code or of its check; or the 0 place after the check
-    if bit.number / 32 == 1 {
-        flip(frame, 0, 24);
-    } else {
-        flip(frame, 0, bit.number);
-    }
+    flip(frame, 0, bit.number);
     bit.luck
 }
 

@@ -112,29 +112,53 @@ pub(crate) struct Lent {
     pub luck: usize,
 }
 
-// Now and then it is not sound: a counter above 63, a lock above 1, a byte too many. There is room for the reply and more, and now and
-// then a byte too little.
+// Room for the reply and more, and now and then a byte too little.
+fn with_room(table: Outcome, size: usize, n: usize, luck: usize) -> Lent
+    requires { ⌜ (size ≤ 32 * recordSize + 1) × (0 < n) × (n ≤ 32) ⌝ }
+    ensures { λ r. ⌜ (r .size ≤ 32 * recordSize + 1) × (r .room ≤ 272) ⌝ }
+{
+    let chance = draw(luck, 16);
+    if chance.number == 0 {
+        return Lent {
+            table,
+            size,
+            room: 8 * n - 1,
+            luck: chance.luck,
+        };
+    }
+    Lent {
+        table,
+        size,
+        room: 8 * n + 16,
+        luck: chance.luck,
+    }
+}
+
+// A byte of the table, from the first counter on, that is at least so much.
+fn spoilt(whole: Outcome, n: usize, at: usize, least: usize, luck: usize) -> Lent
+    requires { ⌜ (0 < n) × (n ≤ 32) × (at < 32 * recordSize) × (least ≤ 64) ⌝ }
+    ensures { λ r. ⌜ (r .size ≤ 32 * recordSize + 1) × (r .room ≤ 272) ⌝ }
+{
+    let byte = draw(luck, 256 - least);
+    let mut table = whole;
+    table[COUNTER + at] = (least + byte.number) as u8;
+    with_room(table, RECORD_SIZE * n, n, byte.luck)
+}
+
+// Now and then it is not sound: a counter above 63, a lock above 1, a byte too many.
 pub(crate) fn spoil(whole: Outcome, n: usize, luck: usize) -> Lent
     requires { ⌜ (0 < n) × (n ≤ 32) ⌝ }
     ensures { λ r. ⌜ (r .size ≤ 32 * recordSize + 1) × (r .room ≤ 272) ⌝ }
 {
-    let chance = draw(luck, 576);
+    let chance = draw(luck, 36);
     let k = draw(chance.luck, n);
-    let byte = draw(k.luck, 256);
-    let what = chance.number % 36;
-    let at = COUNTER + RECORD_SIZE * k.number;
-    let mut table = whole;
-    if what == 0 {
-        table[at] = (64 + byte.number % 192) as u8;
-    }
-    if what == 1 {
-        table[at + 1] = (2 + byte.number % 254) as u8;
-    }
-    Lent {
-        table,
-        size: RECORD_SIZE * n + (what + 1) / 36,
-        room: 8 * n - 1 + 17 * ((chance.number / 36 + 15) / 16),
-        luck: byte.luck,
+    let at = RECORD_SIZE * k.number;
+    let what = chance.number;
+    match what {
+        0 => spoilt(whole, n, at, 64, k.luck),
+        1 => spoilt(whole, n, at + 1, 2, k.luck),
+        2 => with_room(whole, RECORD_SIZE * n + 1, n, k.luck),
+        _ => with_room(whole, RECORD_SIZE * n, n, k.luck),
     }
 }
 
@@ -186,15 +210,19 @@ pub(crate) fn now_and_then_loaded(mut w: World, n: usize) -> World
     }
     let place = draw(w.luck, n + 2);
     let position = place.number;
-    let what = draw(place.luck, 256);
-    w.luck = what.luck;
+    let what = draw(place.luck, 16);
+    let start = draw(what.luck, 16);
+    w.luck = start.luck;
+    let from = start.number;
+    let size = RECORD_SIZE * n;
     let before = w.table;
-    let way = what.number / 16;
-    let from = what.number % 16;
-    // a code too few in way 0, one too many in way 14, and a byte too many in way 15
-    let to = from + 15 + (way + 15) / 16 + (way + 2) / 16;
-    let size = RECORD_SIZE * n + (way + 1) / 16;
-    let came = loaded(before, size, kind, position, from, to);
+    let way = what.number;
+    let came = match way {
+        0 => loaded(before, size + 1, kind, position, from, from + 16),
+        1 => loaded(before, size, kind, position, from, from + 15),
+        2 => loaded(before, size, kind, position, from, from + 17),
+        _ => loaded(before, size, kind, position, from, from + 16),
+    };
     let table = came.table;
     w.table = table;
     numbered(w, LOADS + 2 * kind, 1, came.number)
