@@ -121,7 +121,7 @@ fn released(mut w: World, size: usize, due: Outcome) -> World
     let one = release(&mut state, table, size, back);
     w.state = state;
     w.by_hand = adler(w.by_hand, &one);
-    compared(numbered(w, NUMBERS_BY_HAND, 6, one[0]), &one, &due)
+    compared(numbered(w, NUMBERS_BY_HAND, 6, one[0]), one, due)
 }
 
 // The state is as the last release left it; now and then a frame that had begun is given up.

@@ -68,7 +68,7 @@ fn noted(world: World, n: usize, command: usize, lent: Outcome, one: Outcome) ->
     let number = one[0];
     let mut w = numbered(count(world, FRAMES, 1), NUMBERS, 6, number);
     if number != 0 {
-        return compared(w, &one, &refused(lent, number));
+        return compared(w, one, refused(lent, number));
     }
     w.table = one;
     accepted(w, n, command, one[1])
@@ -83,7 +83,6 @@ pub(crate) fn both(mut w: World, n: usize, command: usize, frame: &[u8]) -> Worl
     let one = through(false, lent, s.size, frame, s.room);
     let other = through(true, lent, s.size, frame, s.room);
     w.luck = s.luck;
-    w.frames = wrapping_add_usize(w.frames, 1);
     let w = asked(weighed(w, &one, &other), n, s.size, one, other);
     noted(w, n, command, lent, one)
 }

@@ -80,8 +80,6 @@ fn main() {
     clock_state::start(&mut state);
     let w = World {
         luck: SEED,
-        frames: 0,
-        differences: 0,
         whole: 1,
         clocked: 1,
         by_hand: 1,
@@ -95,5 +93,5 @@ fn main() {
     let w = run(w, 3);
     let w = run(w, 31);
     let w = run(w, 32);
-    say::totals(w);
+    say::digests(w);
 }

@@ -56,10 +56,10 @@ fn told(world: World, answer: Answer) -> World {
 pub(crate) fn asked(mut w: World, n: usize, size: usize, one: Outcome, other: Outcome) -> World
     requires { ⌜ (n ≤ 32) × (size ≤ 32 * recordSize + 1) ⌝ }
 {
-    let position = draw(w.luck, n + 2);
-    let way = draw(position.luck, 65536);
+    let way = draw(w.luck, 65536);
     w.luck = way.luck;
-    let a = answer(one, size, position.number, way.number);
-    let b = answer(other, size, position.number, way.number);
+    let position = way.number / 8 % (n + 2);
+    let a = answer(one, size, position, way.number);
+    let b = answer(other, size, position, way.number);
     told(weighed(w, &a, &b), a)
 }

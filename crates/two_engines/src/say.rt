@@ -42,9 +42,9 @@ pub(crate) fn counts(book: Book) {
     );
 }
 
-pub(crate) fn totals(w: World) {
+pub(crate) fn digests(w: World) {
     text(
-        b"frames: #, differences: #\ndigests: whole frames @, clocked @, by hand @\n",
-        &[w.frames, w.differences, w.whole, w.clocked, w.by_hand],
+        b"digests: whole frames @, clocked @, by hand @\n",
+        &[w.whole, w.clocked, w.by_hand],
     );
 }

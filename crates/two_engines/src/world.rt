@@ -7,9 +7,6 @@ use clock_state::STATE_SIZE;
 pub(crate) struct World {
     // The generator's last number.
     pub luck: usize,
-    // The frames of every N, and what differed.
-    pub frames: usize,
-    pub differences: usize,
     // The digests: of the whole-frame engine, of the clocked engine as it drives itself, and of the one clocked by hand.
     pub whole: usize,
     pub clocked: usize,
