@@ -162,7 +162,7 @@ fn put_payloads(frame: &mut [u8], n: usize, luck: usize) -> usize
     last
 }
 
-// The length in one of 32 ways, mostly the right one; and where it is another, so much more.
+// The length in one of 32 ways, mostly the right one; the rest of what was drawn says how short or how long, where that is open.
 fn length_in(drawn: usize, right: usize, full: usize) -> usize
     requires { ⌜ (drawn < 10880) × (0 < right) × (right ≤ 260) × (full ≤ 260) ⌝ }
     ensures { λ r. ⌜ r ≤ 600 ⌝ }

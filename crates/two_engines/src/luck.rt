@@ -1,5 +1,5 @@
 // What frames, tables and damage are drawn from: a linear congruential generator, so that tools/two-engines-model draws the same.
-ghost use Prim.Native.Nat.{_<_, _≤_};
+ghost use Prim.Native.Nat.{_<_};
 
 pub(crate) const SEED: usize = 6831;
 
