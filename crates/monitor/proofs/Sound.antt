@@ -17,11 +17,11 @@ use Rattle.records.specs.declared.commands.Bare.{Bare}
 use Rattle.records.specs.declared.commands.Bare.the-variants.{Mute, Unmute, Rstcc, Ulrr, Clrcell}
 use Rattle.records.specs.declared.commands.Command.{Command}
 use Rattle.records.specs.declared.commands.Command.the-variants.{Reads, Writes, Bares, Unlisted}
-use Rattle.records.specs.Record.{cells, counter, unlocked, statusBits, recordSize, byteOf, anew, onBytes, recordSound}
+use Rattle.records.specs.Record.{cells, counter, unlocked, statusBits, recordSize, byteOf, Outside, anew, onBytes, recordSound}
 use Rattle.writes.specs.Writes.{rulesOf, byRules, opens, written}
 use Rattle.monitor.specs.Effects.{locked, nextCount, counted, done, keeps}
 use Rattle.records.proofs.Anew.{length-anew, anew-below, anew-above, anew-inside}
-use Rattle.records.proofs.Parts.{Outside, outside-byte}
+use Rattle.records.proofs.Parts.{outside-byte}
 
 -- ---- lengths
 

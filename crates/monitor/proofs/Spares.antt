@@ -17,32 +17,10 @@ use Rattle.records.specs.declared.record.Part.{Part}
 use Rattle.records.specs.Record.{cells, counter, unlocked, statusBits, bytesOf, byteOf, anew, onBytes}
 use Rattle.writes.specs.Writes.{rulesOf, byRules, opens, written}
 use Rattle.monitor.specs.Effects.{locked, counted, done, keeps}
+use Rattle.monitor.specs.Spares.{sixOf, partOf, Apart, Spares, Before}
 use Rattle.records.proofs.Anew.{length-anew, anew-front}
-use Rattle.records.proofs.Parts.{Outside, outside-anew}
+use Rattle.records.proofs.Parts.{outside-anew}
 use Rattle.monitor.proofs.Sound.{length-locked, length-counted}
-
--- ---- what a command may change, beside the counter and the retention byte
-
-abbrev pub sixOf : Write → Part
-sixOf c = record { at = rulesOf c .at; size = 6 }
-
-abbrev pub partOf : Bare → Part
-partOf Mute = statusBits
-partOf Unmute = statusBits
-partOf Rstcc = counter
-partOf Ulrr = unlocked
-partOf Clrcell = cells
-
--- a part that has no byte of another
-abbrev pub Apart : Part → Part → Type 0
-Apart p q = Outside p (q .at) (q .size)
-
--- a part that has no byte of what a command may change
-abbrev pub Spares : Command → Part → Type 0
-Spares (Reads q) p = Apart p unlocked
-Spares (Writes c) p = Apart p unlocked × (Apart p counter × Apart p (sixOf c))
-Spares (Bares c) p = Apart p unlocked × (Apart p counter × Apart p (partOf c))
-Spares Unlisted p = Unit {0}
 
 -- ---- such a part stays
 
@@ -82,13 +60,6 @@ module _ (p : Part) where
   keeps-spares Unlisted eight r h = refl
 
 -- ---- a record that goes on
-
--- what a command may change lies before a place
-abbrev pub Before : Command → ℕ → Type 0
-Before (Reads q) n = Unit {0}
-Before (Writes c) n = sixOf c .at + sixOf c .size ≤ n
-Before (Bares c) n = partOf c .at + partOf c .size ≤ n
-Before Unlisted n = Unit {0}
 
 module _ (front rest : List ℕ) (long : unlocked .at + 1 ≤ length front) where
   either-front : (b : Bool) (xs' ys' : List ℕ) {xs ys : List ℕ} → xs ≡ xs' ++ rest → ys ≡ ys' ++ rest → cond b xs ys ≡ cond b xs' ys' ++ rest

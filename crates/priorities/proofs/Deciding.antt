@@ -17,21 +17,10 @@ use Rattle.laws.specs.Tables.{tabulate}
 use Rattle.priorities.specs.declared.outputs.Events.{Events}
 use Rattle.priorities.specs.declared.outputs.Output.{Output}
 use Rattle.priorities.specs.Switches.{muted, dcc, dutyByte, duty}
-use Rattle.priorities.specs.Table27.{Row, phases, table27, decided, outputOf}
+use Rattle.priorities.specs.Table27.{Row, phases, table27, decided, outputOf, Decides, Decider}
 use Rattle.priorities.proofs.Rows.{output, past-7, past-6, past-5, by-4}
 
 -- ---- one row
-
--- a row of the list whose event holds, where that of no row above it does
-abbrev pub Decides : List Row → Row → Type 0
-Decides [] q = ⊥
-Decides (row ∷ rows) q = ((row .event ≡ true) × (row ≡ q)) ⊎ ((row .event ≡ false) × Decides rows q)
-
--- the row that decides, and what it makes of the output
-pub record Decider (rows : List Row) : Type 0 where
-  pub row : Row
-  pub decides : Decides rows row
-  pub told : decided rows ≡ output (row .priority) (row .on)
 
 -- the last row's event always holds
 abbrev Ends : List Row → Type 0

@@ -4,11 +4,11 @@
 use mathlib.Core.Path.{_≡_, refl, sym, ap, _∙_}
 use mathlib.Core.Bool.{Bool, true, false, cond}
 use mathlib.Core.List.{List}
-use mathlib.Core.Logic.{_⊎_, inl, inr}
+use mathlib.Core.Logic.{inl, inr}
 use Prim.Native.Nat.{ℕ, _+_, _-_, _/_, _%_, _^_, _≤_, _<_}
 use native.Mathlib.Omega.{arith}
 use lib.Dec.{eqb, leb, ltb}
-use lib.ListN.{length, getD, set}
+use lib.ListN.{length, getD}
 use lib.Seq.{getD-set-same, getD-set-other, set-out}
 use borrow.Author.Tests.{eqb-true, eqb-false, leb-true, leb-false, ltb-true, ltb-false}
 use Rattle.laws.specs.Bits.{_⊕_, odd, bitAt}
@@ -17,27 +17,9 @@ use Rattle.records.specs.Record.{cellCount, statusBits, dccBits, pwmA, pwmB, by
 use Rattle.priorities.specs.declared.outputs.Events.{Events}
 use Rattle.priorities.specs.Switches.{muted, dcc, dutyByte, duty}
 use Rattle.priorities.specs.Table27.{outputOf}
+use Rattle.priorities.specs.OwnBits.{flipped, dutyAt, Own}
 use Rattle.priorities.proofs.Cells.{dcc-byte, in-group-a, in-group-b}
 use Rattle.priorities.proofs.Deciding.{by-switches}
-
--- a record with one bit of one of its bytes flipped, the lowest being 0
-abbrev pub flipped : ℕ → ℕ → List ℕ → List ℕ
-flipped at bit r = set r at (getD r at 0 ⊕ 2 ^ bit)
-
--- ---- a cell's own bits
-
--- the byte of its duty, and the lowest bit of it there
-abbrev pub dutyAt : ℕ → ℕ
-dutyAt c = cond (leb c 12) (pwmA .at + (c - 1) / 2) (pwmB .at + (c - 13) / 2)
-
-abbrev pub dutyBit : ℕ → ℕ
-dutyBit c = cond (odd c) 0 4
-
--- MUTE_ST, which is every cell's; the DCC bit; one of the duty's four
-abbrev pub Own : ℕ → ℕ → ℕ → Type 0
-Own c at bit =
-    ((at ≡ statusBits .at) × (bit ≡ 4))
-    ⊎ (((at ≡ dccBits .at + (c - 1) / 8) × (bit ≡ (c - 1) % 8)) ⊎ ((at ≡ dutyAt c) × ((dutyBit c ≤ bit) × (bit < dutyBit c + 4))))
 
 -- ---- what is read of a byte, where a flip of a bit there leaves it
 

@@ -1,7 +1,9 @@
 -- Document 02, L2, and the sheet's Table 27: the priorities of discharge. From the top, the first row whose event holds decides an output.
 -- Assumes nothing.
+use mathlib.Core.Path.{_≡_}
 use mathlib.Core.Bool.{Bool, true, false, cond}
 use mathlib.Core.List.{List, [], _∷_}
+use mathlib.Core.Logic.{_⊎_}
 use Prim.Native.Nat.{ℕ, suc}
 use lib.Dec.{ltb}
 use Rattle.laws.specs.Tables.{tabulate}
@@ -51,3 +53,16 @@ decided (row ∷ rows) = cond (row .event) (record { row = row .priority; on = r
 -- the output of a cell: the row that decides it, and whether it is on
 unfoldable pub outputOf : Events → ℕ → List ℕ → ℕ → Output
 outputOf events phase r c = decided (table27 events phase r c)
+
+-- ---- which row it is
+
+-- a row of a list whose event holds, where that of no row above it does
+abbrev pub Decides : List Row → Row → Type 0
+Decides [] q = ⊥
+Decides (row ∷ rows) q = ((row .event ≡ true) × (row ≡ q)) ⊎ ((row .event ≡ false) × Decides rows q)
+
+-- one that decides, and what it makes of the output
+pub record Decider (rows : List Row) : Type 0 where
+  pub row : Row
+  pub decides : Decides rows row
+  pub told : decided rows ≡ record { row = row .priority; on = row .on }

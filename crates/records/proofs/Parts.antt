@@ -4,14 +4,14 @@
 use mathlib.Core.Path.{_≡_, refl, sym, ap, ap₂, _∙_}
 use mathlib.Core.Bool.{_&&_}
 use mathlib.Core.List.{List}
-use mathlib.Core.Logic.{_⊎_, inl, inr}
+use mathlib.Core.Logic.{inl, inr}
 use Prim.Native.Nat.{ℕ, zero, suc, _+_, _-_, _≤_, _<_}
 use native.Mathlib.Omega.{arith}
 use lib.Dec.{leb, lit≤}
 use lib.ListN.{take, drop, getD, set}
 use lib.Seq.{getD-take, getD-drop, take-set-le, drop-set-lt, drop-set-add}
 use Rattle.records.specs.declared.record.Part.{Part}
-use Rattle.records.specs.Record.{counter, unlocked, bytesOf, byteOf, anew, recordSound}
+use Rattle.records.specs.Record.{counter, unlocked, bytesOf, byteOf, Outside, anew, recordSound}
 use Rattle.records.proofs.Anew.{anew-below, anew-above}
 
 pub byte-of-part : (p : Part) (r : List ℕ) {i : ℕ} → i < p .size → getD (bytesOf p r) i 0 ≡ getD r (p .at + i) 0
@@ -42,10 +42,6 @@ module _ (p : Part) (f : ℕ → ℕ → ℕ) (at : ℕ) where
   unfolding anew
   after-anew zero r h = refl
   after-anew (suc n) r h = after-set p (anew f at n r) (at + n) (f n (getD r (at + n) 0)) (omega arith) ∙ after-anew n r (omega arith)
-
--- n bytes from a place on are none of a part's
-abbrev pub Outside : Part → ℕ → ℕ → Type 0
-Outside p at n = (at + n ≤ p .at) ⊎ (p .at + p .size ≤ at)
 
 module _ (p : Part) (f : ℕ → ℕ → ℕ) (at n : ℕ) (r : List ℕ) where
   pub outside-anew : Outside p at n → bytesOf p (anew f at n r) ≡ bytesOf p r

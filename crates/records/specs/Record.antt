@@ -2,7 +2,8 @@
 -- Assumes nothing.
 use mathlib.Core.Bool.{Bool, _&&_}
 use mathlib.Core.List.{List}
-use Prim.Native.Nat.{ℕ, zero, suc, _+_, _*_}
+use mathlib.Core.Logic.{_⊎_}
+use Prim.Native.Nat.{ℕ, zero, suc, _+_, _*_, _≤_}
 use lib.Dec.{eqb, leb}
 use lib.ListN.{length, take, drop, getD, set}
 use Rattle.records.specs.declared.record.Part.{Part}
@@ -84,6 +85,10 @@ bytesOf p r = take (p .size) (drop (p .at) r)
 -- the byte of a part that has one
 unfoldable pub byteOf : Part → List ℕ → ℕ
 byteOf p r = getD r (p .at) 0
+
+-- n bytes from a place on are none of a part's
+abbrev pub Outside : Part → ℕ → ℕ → Type 0
+Outside p at n = (at + n ≤ p .at) ⊎ (p .at + p .size ≤ at)
 
 -- n bytes from a place on, each anew: from its place among them, and what it was
 unfoldable pub anew : (ℕ → ℕ → ℕ) → ℕ → ℕ → List ℕ → List ℕ

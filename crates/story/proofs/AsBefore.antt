@@ -20,7 +20,8 @@ use Rattle.records.specs.declared.commands.Write.the-variants.{Wrcfga, Wrcfgb, 
 use Rattle.records.specs.declared.record.Part.{Part}
 use Rattle.records.specs.Record.{counter, unlocked, pwmA, pwmB, bytesOf, byteOf}
 use Rattle.monitor.specs.Effects.{keeps}
-use Rattle.monitor.proofs.Spares.{Before, Spares, keeps-spares, keeps-front}
+use Rattle.monitor.specs.Spares.{Before, Spares}
+use Rattle.monitor.proofs.Spares.{keeps-spares, keeps-front}
 use Rattle.reads.specs.Reply.{register, reply}
 
 -- ---- the base's commands

@@ -51,14 +51,16 @@ use Rattle.loads.proofs.Keeps.{store-keeps, compare-keeps, load-keeps}
 use Rattle.loads.proofs.Bytes.{store-as-long, store-only-cells, compare-as-long, compare-only-flags, compare-only-sets}
 use Rattle.loads.proofs.Judging.{as-stored}
 use Rattle.loads.proofs.Halves.{compare-after-store, store-and-compare, second-judged, second-counts, second-compared, compare-again}
-use Rattle.monitor.proofs.Spares.{Spares, keeps-spares}
+use Rattle.monitor.specs.Spares.{Spares}
+use Rattle.monitor.proofs.Spares.{keeps-spares}
 use Rattle.priorities.specs.declared.outputs.Events.{Events}
 use Rattle.priorities.specs.declared.outputs.Output.{Output}
 use Rattle.priorities.specs.Switches.{muted, dcc, duty}
-use Rattle.priorities.specs.Table27.{Row, lastPhase, phases, table27, outputOf}
+use Rattle.priorities.specs.Table27.{Row, lastPhase, phases, table27, outputOf, Decides, Decider}
+use Rattle.priorities.specs.OwnBits.{flipped, Own}
 use Rattle.priorities.specs.Outputs.{shown, outputs, countOn}
-use Rattle.priorities.proofs.Deciding.{Decides, Decider, its-row, one-decides, row-range, on-by-4-or-1, dcc-on, on-for-its-duty}
-use Rattle.priorities.proofs.OwnBits.{flipped, Own, no-other-bit}
+use Rattle.priorities.proofs.Deciding.{its-row, one-decides, row-range, on-by-4-or-1, dcc-on, on-for-its-duty}
+use Rattle.priorities.proofs.OwnBits.{no-other-bit}
 use Rattle.priorities.proofs.Shown.{row-shown, on-shown, own-output, count-shown, shutdown-none, mute-none, wrcfgb-none}
 use Rattle.discharge.specs.declared.question.Discharged.the-variants.{On}
 use Rattle.discharge.specs.Question.{dischargeRefusals, discharged, outputsAfter}
@@ -69,7 +71,8 @@ use Rattle.ports.specs.Parts.{bytesOf}
 use Rattle.story.specs.Numbers.{First}
 use Rattle.story.proofs.Accepted.{frame-refused, write-answer, read-answer, bare-answer, record-after, reply-own, reply-past, write-no-reply, bare-no-reply, store-done, store-own, store-others, compare-done, compare-own, compare-others, load-done, load-own, load-others, discharge-answer, host-writes}
 use Rattle.story.proofs.OurHost.{own-six, write-taken-by-all, bare-taken-by-all, each-keeps-its-own, reply-right, read-taken-by-all, each-reply-its-own, each-reply-right}
-use Rattle.story.proofs.ReadBack.{ReadsBack, as-written, fixed-behind-two, b-read-back, pwm-a-read-back, pwm-b-read-back}
+use Rattle.story.specs.ReadsBack.{ReadsBack, as-written, fixed-behind-two}
+use Rattle.story.proofs.ReadBack.{b-read-back, pwm-a-read-back, pwm-b-read-back}
 use Rattle.story.proofs.AsBefore.{base-as-before, reply-as-before, pwm-stays, a-stays, b-stays}
 use Rattle.story.proofs.Muting.{mute-answers, unmute-answers}
 use Rattle.story.proofs.BothEnds.{the-replies, handed-from-a, handed-from-b}

@@ -29,7 +29,7 @@ use Rattle.records.specs.Commands.{payloadSize}
 use Rattle.records.proofs.Anew.{anew-inside}
 use Rattle.monitor.specs.Effects.{locked, counted, done, keeps}
 use Rattle.monitor.proofs.Sound.{length-locked, length-counted, length-keeps}
-use Rattle.monitor.proofs.Spares.{Spares, keeps-spares}
+use Rattle.monitor.proofs.Spares.{keeps-spares}
 use Rattle.judging.specs.Table.{monitors, sound}
 use Rattle.judging.specs.Refusals.{commandIn, tableRow, positionRow}
 use Rattle.judging.specs.Places.{placeRefusals}

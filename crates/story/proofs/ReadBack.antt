@@ -36,16 +36,8 @@ use Rattle.judging.proofs.Lent.{lent-length}
 use Rattle.judging.proofs.Soundness.{is-sound}
 use Rattle.host.specs.Frames.{dataSize, sealed, frameFor}
 use Rattle.host.proofs.Payloads.{sealed-right}
+use Rattle.story.specs.ReadsBack.{ReadsBack, as-written, fixed-behind-two}
 use Rattle.story.proofs.OurHost.{each-keeps-its-own, each-reply-its-own, length-register}
-
--- our host's write and then its read: what the write makes of each six comes back
-abbrev pub ReadsBack : Write → Part → (List ℕ → List ℕ) → Type 0
-ReadsBack c p becomes =
-    (table values buffer replies : List ℕ) (write read : ℕ) → commandOf write commands ≡ Writes c → commandOf read commands ≡ Reads p
-    → sound table ≡ true → length values ≡ dataSize * monitors table → ((i : ℕ) → getD values i 0 < 256) → payloadSize * monitors table ≤ length replies
-    → (k : ℕ) → k < monitors table
-    → take dataSize (rowAt payloadSize k (replyAfter (tableAfter table (frameFor write (monitors table) values) (length buffer)) (frameFor read (monitors table) []) replies))
-    ≡ becomes (rowAt dataSize k values)
 
 -- a write that always opens, the part that it writes, and what it makes of six bytes
 record Group (c : Write) (p : Part) (becomes : List ℕ → List ℕ) : Type 0 where
@@ -128,9 +120,6 @@ module _ (c : Write) (p : Part) (becomes : List ℕ → List ℕ) (g : Group c p
 
 -- ---- as they were written
 
-abbrev pub as-written : List ℕ → List ℕ
-as-written six = six
-
 -- of a write that stores all six
 whole-byte : (c : Write) → rulesOf c .stored ≡ six 255 → rulesOf c .kept ≡ six 0 → rulesOf c .ones ≡ six 0
     → (bs sent : List ℕ) → ((i : ℕ) → i < 6 → getD sent i 0 ≡ getD bs i 0) → ((i : ℕ) → i < 6 → getD bs i 0 < 256)
@@ -149,9 +138,6 @@ pwm-a-read-back =
     (record { always = refl; place = refl; six-long = refl; fits = lit≤ tt; as-many = λ six l. l; each = whole-byte Wrpwma refl refl refl })
 
 -- ---- the first two as they were written, and FF
-
-abbrev pub fixed-behind-two : List ℕ → List ℕ
-fixed-behind-two six = getD six 0 0 ∷ getD six 1 0 ∷ 0xFF ∷ 0xFF ∷ 0xFF ∷ 0xFF ∷ []
 
 -- a byte that is stored, and one that is fixed
 stored-byte-of : (s old mask : ℕ) → s < 256 → bitOr (bitOr (bitAnd s 255) (bitAnd old (bitAnd 0 mask))) 0 ≡ s
