@@ -9,6 +9,8 @@ use crate::parts::near_of;
 use host::Built;
 use ports::Port;
 
+const TABLE_SIZE: usize = 2 * records::RECORD_SIZE;
+
 const WRCFGB: u16 = 0x0024;
 
 const RDCFGB: u16 = 0x0026;
@@ -198,7 +200,7 @@ fn read_cells(table: &mut [u8], cells: &mut [i16]) {
 
 // A cabinet from its first day: no threshold set, no cell loaded. Then the frame, the cells, and all that can be read.
 pub(crate) fn play(frame: Frame) -> Played {
-    let mut table = [0u8; 140];
+    let mut table = [0u8; TABLE_SIZE];
     let mut no_reply = [0u8; 16];
     let taken = send(&mut table, frame, &mut no_reply);
     let loaded = load(&mut table);

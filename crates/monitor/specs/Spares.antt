@@ -1,5 +1,5 @@
 -- What a command may change of a record: the retention byte, the counter where it counts, and the part that is its own. Which parts it then
--- spares, and where all that it may change ends.
+-- spares, and where its own part ends.
 -- Assumes nothing.
 use Prim.Native.Nat.{ℕ, _+_, _≤_}
 use Rattle.records.specs.declared.commands.Bare.{Bare}
@@ -36,7 +36,7 @@ Spares (Writes c) p = Apart p unlocked × (Apart p counter × Apart p (sixOf c))
 Spares (Bares c) p = Apart p unlocked × (Apart p counter × Apart p (partOf c))
 Spares Unlisted p = Unit {0}
 
--- what a command may change lies before a place
+-- a command's own part ends before a place
 abbrev pub Before : Command → ℕ → Type 0
 Before (Reads q) n = Unit {0}
 Before (Writes c) n = sixOf c .at + sixOf c .size ≤ n

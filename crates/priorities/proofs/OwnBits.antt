@@ -6,6 +6,7 @@ use mathlib.Core.Bool.{Bool, true, false, cond}
 use mathlib.Core.List.{List}
 use mathlib.Core.Logic.{inl, inr}
 use Prim.Native.Nat.{ℕ, _+_, _-_, _/_, _%_, _^_, _≤_, _<_}
+use native.Mathlib.Nat.{div-one}
 use native.Mathlib.Omega.{arith}
 use lib.Dec.{eqb, leb, ltb}
 use lib.ListN.{length, getD}
@@ -17,7 +18,7 @@ use Rattle.records.specs.Record.{cellCount, statusBits, dccBits, pwmA, pwmB, by
 use Rattle.priorities.specs.declared.outputs.Events.{Events}
 use Rattle.priorities.specs.Switches.{muted, dcc, dutyByte, duty}
 use Rattle.priorities.specs.Table27.{outputOf}
-use Rattle.priorities.specs.OwnBits.{flipped, dutyAt, Own}
+use Rattle.priorities.specs.OwnBits.{flipped, dutyAt, dutyBit, Own}
 use Rattle.priorities.proofs.Cells.{dcc-byte, in-group-a, in-group-b}
 use Rattle.priorities.proofs.Deciding.{by-switches}
 
@@ -47,6 +48,21 @@ module _ (r : List ℕ) (c : ℕ) (first : 1 ≤ c) (last : c ≤ cellCount) whe
       by : (b : Bool) → leb c 12 ≡ b → dutyByte r c ≡ getD r (cond b (pwmA .at + (c - 1) / 2) (pwmB .at + (c - 13) / 2)) 0
       by true e = sym (in-group-a r c first (leb-true c 12 e))
       by false e = sym (in-group-b r c (leb-false c 12 e) last)
+
+-- ---- by their places
+
+pub dcc-at : (r : List ℕ) (c : ℕ) → 1 ≤ c → c ≤ cellCount → dcc r c ≡ bitAt ((c - 1) % 8) (getD r (dccBits .at + (c - 1) / 8) 0)
+unfolding dcc
+dcc-at r c first last = ap (bitAt ((c - 1) % 8)) (sym (dcc-byte r c first last))
+
+pub duty-at : (r : List ℕ) (c : ℕ) → 1 ≤ c → c ≤ cellCount → duty r c ≡ getD r (dutyAt c) 0 / 2 ^ dutyBit c % 16
+unfolding duty
+duty-at r c first last =
+    by (odd c) (dutyByte r c) ∙ ap (λ (n : ℕ). n / 2 ^ dutyBit c % 16) (duty-read r c first last)
+  where
+    by : (b : Bool) (n : ℕ) → cond b (n % 16) (n / 16 % 16) ≡ n / 2 ^ cond b 0 4 % 16
+    by true n = ap (λ (m : ℕ). m % 16) (sym (div-one n))
+    by false n = refl
 
 -- the half of a byte that is a duty
 abbrev half : Bool → ℕ → ℕ

@@ -1,4 +1,5 @@
--- Demand 2. What the chain does with a frame is what the data sheet says as document 01 condenses it, monitor by monitor. What our
+-- Demand 2. What the chain does with a frame is what the data sheet says as document 01 condenses it, with the requests of document 02 that
+-- have landed (L1, L2), monitor by monitor. What our
 -- host writes hands each monitor its own six bytes: nearest first in our list, farthest first on the wire. Monitors are counted
 -- from 0 here: monitor 1 of the paper is k = 0. Each field is proved where it is cited from.
 -- Assumes nothing.
@@ -6,7 +7,7 @@ use mathlib.Core.Path.{_≡_, refl}
 use mathlib.Core.Bool.{Bool, true, false, not, _&&_}
 use mathlib.Core.List.{List, [], _∷_, _++_, map, reverse}
 use mathlib.Core.Logic.{_⊎_}
-use Prim.Native.Nat.{ℕ, suc, _+_, _-_, _*_, _%_, _≤_, _<_}
+use Prim.Native.Nat.{ℕ, suc, _+_, _-_, _*_, _/_, _%_, _^_, _≤_, _<_}
 use lib.Bits.{bitOr}
 use lib.Dec.{eqb, ltb, leb}
 use lib.IntN.{ℤ, pos, negsuc}
@@ -14,7 +15,9 @@ use lib.ListN.{length, take, drop, getD, replicate}
 use mir.Syntax.{w16}
 use mir.Val.{SFits}
 use Rattle.laws.specs.Counts.{all, count}
+use Rattle.laws.specs.Bits.{bitAt}
 use Rattle.laws.specs.Rows.{rows, rowAt}
+use Rattle.laws.specs.Tables.{tabulate}
 use Rattle.pec.specs.Words.{seal, commandRight, payloadRight}
 use Rattle.wire.specs.Order.{replyData}
 use Rattle.refusals.specs.declared.Refusal.{Refusal}
@@ -28,7 +31,7 @@ use Rattle.records.specs.declared.commands.Command.the-variants.{Reads, Writes,
 use Rattle.records.specs.declared.commands.Write.{Write}
 use Rattle.records.specs.declared.commands.Write.the-variants.{Wrcfgb, Wrpwma, Wrpwmb}
 use Rattle.records.specs.declared.record.Part.{Part}
-use Rattle.records.specs.Record.{cellCount, cells, flags, pwmA, pwmB, recordSize, counter, unlocked, bytesOf as partOf, byteOf}
+use Rattle.records.specs.Record.{cellCount, cells, flags, statusBits, dccBits, pwmA, pwmB, recordSize, counter, unlocked, bytesOf as partOf, byteOf}
 use Rattle.records.specs.Commands.{commands, commandOf, isListed, rdcfgb, rdpwma, rdpwmb, mostMonitors, payloadSize, frameLength, replyLength}
 use Rattle.writes.specs.Writes.{written}
 use Rattle.monitor.specs.Effects.{locked, counted, done, keeps}
@@ -56,11 +59,12 @@ use Rattle.monitor.proofs.Spares.{keeps-spares}
 use Rattle.priorities.specs.declared.outputs.Events.{Events}
 use Rattle.priorities.specs.declared.outputs.Output.{Output}
 use Rattle.priorities.specs.Switches.{muted, dcc, duty}
-use Rattle.priorities.specs.Table27.{Row, lastPhase, phases, table27, outputOf, Decides, Decider}
-use Rattle.priorities.specs.OwnBits.{flipped, Own}
+use Rattle.priorities.specs.Table27.{Row, phases, table27, decided, outputOf, Decides, Decider}
+use Rattle.priorities.specs.OwnBits.{flipped, dutyAt, dutyBit, Own}
 use Rattle.priorities.specs.Outputs.{shown, outputs, countOn}
 use Rattle.priorities.proofs.Deciding.{its-row, one-decides, row-range, on-by-4-or-1, dcc-on, on-for-its-duty}
-use Rattle.priorities.proofs.OwnBits.{no-other-bit}
+use Rattle.priorities.proofs.OwnBits.{dcc-at, duty-at, no-other-bit}
+use Rattle.priorities.proofs.Vectors.{SheetBits, sheet-bits}
 use Rattle.priorities.proofs.Shown.{row-shown, on-shown, own-output, count-shown, shutdown-none, mute-none, wrcfgb-none}
 use Rattle.discharge.specs.declared.question.Discharged.the-variants.{On}
 use Rattle.discharge.specs.Question.{dischargeRefusals, discharged, outputsAfter}
@@ -112,7 +116,7 @@ pub record Demand2 : Type 0 where
   -- a command changes no part of a record but the retention byte, the counter and the part that is its own
   spares : (p : Part) (c : Command) (eight r : List ℕ) → Spares c p → partOf p (keeps c eight r) ≡ partOf p r
   -- the record has grown behind its byte 69, and every command but the two that write there does to the front what it does without the rest,
-  -- leaves the rest, and replies from the front
+  -- and leaves the rest; a read of a part of the front replies from it
   as-before : (c : Command) → (c ≡ Writes Wrpwma → ⊥) → (c ≡ Writes Wrpwmb → ⊥) → (eight front rest : List ℕ) → length front ≡ pwmA .at
       → keeps c eight (front ++ rest) ≡ keeps c eight front ++ rest
   replies-as-before : (p : Part) (front rest : List ℕ) → p .at + p .size ≤ pwmA .at → length front ≡ pwmA .at → reply p (front ++ rest) ≡ reply p front
@@ -211,14 +215,15 @@ pub record Demand2 : Type 0 where
   discharge-refusals : (table : List ℕ) (position phase room : ℕ) → dischargeRefusals table position phase room
       ≡ (not (sound table) gives TableNotSound)
       ∷ (not (leb 1 position && leb position (monitors table)) gives PositionWrong)
-      ∷ (ltb lastPhase phase gives PositionWrong)
-      ∷ (ltb room cellCount gives NoRoom)
+      ∷ (ltb 14 phase gives PositionWrong)
+      ∷ (ltb room 16 gives NoRoom)
       ∷ []
   -- none holds: how many are on of the monitor at the position, and the bytes of the sixteen at the start of the buffer; bytes past them stay
   discharge-answer : (table : List ℕ) (position : ℕ) (events : Events) (phase : ℕ) (out : List ℕ) → Passed (dischargeRefusals table position phase (length out))
       → (discharged table position events phase (length out) ≡ On (countOn events phase (rowAt recordSize (position - 1) table)))
       × (outputsAfter table position events phase out ≡ outputs events phase (rowAt recordSize (position - 1) table) ++ drop cellCount out)
-  -- cell c's byte is its own, and tells its row and whether it is on; as many say on as are counted
+  -- there are sixteen bytes; cell c's is its own, and tells its row and whether it is on; as many say on as are counted
+  sixteen : (events : Events) (phase : ℕ) (r : List ℕ) → length (outputs events phase r) ≡ 16
   own-output : (events : Events) (phase : ℕ) (r : List ℕ) (c : ℕ) → 1 ≤ c → c ≤ cellCount
       → getD (outputs events phase r) (c - 1) 0 ≡ shown (outputOf events phase r c)
   shown-row : (o : Output) → o .row ≤ 7 → shown o % 0x80 ≡ o .row
@@ -234,7 +239,13 @@ pub record Demand2 : Type 0 where
       ∷ record { priority = 2; event = events .wrpwm; on = false }
       ∷ record { priority = 1; event = true; on = ltb phase (duty r c) }
       ∷ []
-  -- exactly one of them decides each output, and its number is 1 to 7
+  -- MUTE_ST, a cell's DCC bit and its duty, by their places in the record; and bits of the sheet's tables, worked out by hand
+  mute-at : (r : List ℕ) → muted r ≡ bitAt 4 (getD r (statusBits .at) 0)
+  dcc-at : (r : List ℕ) (c : ℕ) → 1 ≤ c → c ≤ cellCount → dcc r c ≡ bitAt ((c - 1) % 8) (getD r (dccBits .at + (c - 1) / 8) 0)
+  duty-at : (r : List ℕ) (c : ℕ) → 1 ≤ c → c ≤ cellCount → duty r c ≡ getD r (dutyAt c) 0 / 2 ^ dutyBit c % 16
+  sheet-bits : SheetBits
+  -- a cell's output is what they decide: exactly one of them, and its number is 1 to 7
+  by-27 : (events : Events) (phase : ℕ) (r : List ℕ) (c : ℕ) → outputOf events phase r c ≡ decided (table27 events phase r c)
   one-row : (events : Events) (phase : ℕ) (r : List ℕ) (c : ℕ) → Decider (table27 events phase r c)
   no-other-row : (rows : List Row) (p q : Row) → Decides rows p → Decides rows q → p ≡ q
   row-range : (events : Events) (phase : ℕ) (r : List ℕ) (c : ℕ) → (1 ≤ outputOf events phase r c .row) × (outputOf events phase r c .row ≤ 7)
@@ -250,6 +261,7 @@ pub record Demand2 : Type 0 where
   no-other-bit : (r : List ℕ) (c : ℕ) → 1 ≤ c → c ≤ cellCount → (at bit : ℕ) → bit < 8 → (Own c at bit → ⊥) → (events : Events) (phase : ℕ)
       → outputOf events phase (flipped at bit r) c ≡ outputOf events phase r c
   -- of the fifteen phases a cell that row 1 decides is on in as many as its duty says
+  fifteen : phases ≡ 0 ∷ 1 ∷ 2 ∷ 3 ∷ 4 ∷ 5 ∷ 6 ∷ 7 ∷ 8 ∷ 9 ∷ 10 ∷ 11 ∷ 12 ∷ 13 ∷ 14 ∷ []
   on-for-its-duty : (events : Events) (phase : ℕ) (r : List ℕ) (c : ℕ) → outputOf events phase r c .row ≡ 1
       → count (λ p. outputOf events p r c .on) phases ≡ duty r c
   -- after a MUTE, and without a shutdown, every output of every monitor is off by row 6
@@ -312,7 +324,7 @@ pub record Demand2 : Type 0 where
   examples : EitherSide
 
 pub demand-2 : Demand2
-unfolding frameRefusals storeRefusals compareRefusals loadRefusals dischargeRefusals table27 keeps reply
+unfolding frameRefusals storeRefusals compareRefusals loadRefusals dischargeRefusals muted byteOf outputs tabulate phases table27 outputOf keeps reply
 demand-2 =
     record {
       refusals = λ table frame room. refl;
@@ -372,11 +384,17 @@ demand-2 =
       load-flags = load-flags;
       discharge-refusals = λ table position phase room. refl;
       discharge-answer = discharge-answer;
+      sixteen = λ events phase r. refl;
       own-output = own-output;
       shown-row = row-shown;
       shown-on = on-shown;
       counted-on = count-shown;
       rows-27 = λ events phase r c. refl;
+      mute-at = λ r. refl;
+      dcc-at = dcc-at;
+      duty-at = duty-at;
+      sheet-bits = sheet-bits;
+      by-27 = λ events phase r c. refl;
       one-row = its-row;
       no-other-row = one-decides;
       row-range = row-range;
@@ -386,6 +404,7 @@ demand-2 =
       wrcfgb-none = wrcfgb-none;
       dcc-on = dcc-on;
       no-other-bit = λ r c first last at bit small other events phase. no-other-bit r c first last at bit small other events phase;
+      fifteen = refl;
       on-for-its-duty = on-for-its-duty;
       mute-answers = mute-answers;
       unmute-answers = unmute-answers;
