@@ -10,53 +10,20 @@ Inv-loop list₀ i₀ list i = Unit {0}
 abbrev μ-loop : tie.MeasureT-loop
 μ-loop list₀ i₀ list i = 32 - i
 
-frame-requires : tie.Need-frame-requires Inv-loop μ-loop
-frame-requires c κs = search needs
-
-loop-holds : tie.Need-loop-holds Inv-loop μ-loop
-loop-holds c = search needs
-
-mul-lay : tie.Need-mul-lay Inv-loop μ-loop
-mul-lay c = search needs
-
-sub-lay : tie.Need-sub-lay Inv-loop μ-loop
-sub-lay c = search needs
-
-mul-lay-2 : tie.Need-mul-lay-2 Inv-loop μ-loop
-mul-lay-2 c = search needs
-
-array-read-lay : tie.Need-array-read-lay Inv-loop μ-loop
-array-read-lay c = search needs
-
-lay-requires : tie.Need-lay-requires Inv-loop μ-loop
-lay-requires c κs = search needs
-
-add-i : tie.Need-add-i Inv-loop μ-loop
-add-i c = search needs
-
-loop-less : tie.Need-loop-less Inv-loop μ-loop
-loop-less c = search needs
-
-loop-again : tie.Need-loop-again Inv-loop μ-loop
-loop-again c = search needs
-
-returns : tie.Need-returns Inv-loop μ-loop
-returns c = search needs
-
 pub sent-spec : {M : Type 1} → statement M
 sent-spec =
     tie.close
     (tie.spec
     Inv-loop
     μ-loop
-    frame-requires
-    loop-holds
-    mul-lay
-    sub-lay
-    mul-lay-2
-    array-read-lay
-    lay-requires
-    add-i
-    loop-less
-    loop-again
-    returns)
+    (λ c κs. search needs)
+    (λ c. search needs)
+    (λ c. search needs)
+    (λ c. search needs)
+    (λ c. search needs)
+    (λ c. search needs)
+    (λ c κs. search needs)
+    (λ c. search needs)
+    (λ c. search needs)
+    (λ c. search needs)
+    (λ c. search needs))

@@ -16,23 +16,8 @@ abbrev μ-loop : tie.MeasureT-loop
 loop-holds : tie.Need-loop-holds Inv-loop μ-loop
 loop-holds c = making-start _ _ _ _
 
-add-place : tie.Need-add-place Inv-loop μ-loop
-add-place c = omega arith
-
-slice-read-changed-byte : tie.Need-slice-read-changed-byte Inv-loop μ-loop
-slice-read-changed-byte c = omega arith
-
 changed-byte-requires : tie.Need-changed-byte-requires Inv-loop μ-loop
 changed-byte-requires c κs = (omega arith, omega arith)
-
-slice-write-rec : tie.Need-slice-write-rec Inv-loop μ-loop
-slice-write-rec c = omega arith
-
-add-i : tie.Need-add-i Inv-loop μ-loop
-add-i c = omega arith
-
-loop-less : tie.Need-loop-less Inv-loop μ-loop
-loop-less c = omega arith
 
 loop-again : tie.Need-loop-again Inv-loop μ-loop
 loop-again c = making-more _ _ _ _ (c .before .before .before .loop .inv) (c .before .before .loop-test .taken) (c .changed-byte .ensures)
@@ -51,12 +36,12 @@ change-spec =
     Inv-loop
     μ-loop
     loop-holds
-    add-place
-    slice-read-changed-byte
+    (λ c. omega arith)
+    (λ c. omega arith)
     changed-byte-requires
-    slice-write-rec
-    add-i
-    loop-less
+    (λ c. omega arith)
+    (λ c. omega arith)
+    (λ c. omega arith)
     loop-again
     same-length
     returns)

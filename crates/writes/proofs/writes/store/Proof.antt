@@ -18,21 +18,6 @@ abbrev μ-loop : tie.MeasureT-loop
 loop-holds : tie.Need-loop-holds Inv-loop μ-loop
 loop-holds c = making-start _ _ _ _
 
-shared-slice-read-rec : tie.Need-shared-slice-read-rec Inv-loop μ-loop
-shared-slice-read-rec c = omega arith
-
-add-rec : tie.Need-add-rec Inv-loop μ-loop
-add-rec c = omega arith
-
-slice-write-rec : tie.Need-slice-write-rec Inv-loop μ-loop
-slice-write-rec c = omega arith
-
-add-i : tie.Need-add-i Inv-loop μ-loop
-add-i c = omega arith
-
-loop-less : tie.Need-loop-less Inv-loop μ-loop
-loop-less c = omega arith
-
 loop-again : tie.Need-loop-again Inv-loop μ-loop
 loop-again c = making-more _ _ _ _ (c .before .before .loop .inv) (c .before .loop-test .taken) (sym (mod-eq-of-lt (c .shared-slice-known .given (c .before .before .loop .i) .fits)))
 
@@ -49,11 +34,11 @@ store-spec =
     Inv-loop
     μ-loop
     loop-holds
-    shared-slice-read-rec
-    add-rec
-    slice-write-rec
-    add-i
-    loop-less
+    (λ c. omega arith)
+    (λ c. omega arith)
+    (λ c. omega arith)
+    (λ c. omega arith)
+    (λ c. omega arith)
     loop-again
     same-length
     returns)
