@@ -54,7 +54,10 @@ enum {
 
 /* Handles a frame. The table becomes what the monitors keep of it; the reply to a read, nearest monitor first, goes to the start of
  * `reply`, and bytes past it stay.
- * First: how many monitors took the frame (N for a read or a bare command). Second: the length of the reply (8N for a read, else 0).
+ * First: how many monitors took the frame: N for a read, a bare command or a WRRR, and for any other write as many as found the data PEC of
+ * their own eight bytes right. A WRRR is executed whatever its data PEC: each monitor counts it, and stores its own six bytes if its
+ * retention was unlocked.
+ * Second: the length of the reply (8N for a read, else 0).
  * Refusals: 1, 2, 3, 4, 5, 6 (6 only for reads).
  */
 osk_answer osk_frame(uint8_t *table, size_t table_length, const uint8_t *frame, size_t frame_length, uint8_t *reply, size_t reply_length);
