@@ -1,8 +1,8 @@
--- Counting and testing along a list: one element more, and one element that fails. A flag, as the code counts it.
+-- Counting and testing along a list: one element more, one element that fails, and where all pass. A flag, as the code counts it.
 -- Assumes nothing.
 use mathlib.Core.Path.{_≡_, refl, sym, ap, ap₂, _∙_}
 use mathlib.Core.Bool.{Bool, true, false, cond, _&&_}
-use mathlib.Core.List.{List, [], _∷_, _++_}
+use mathlib.Core.List.{List, [], _∷_, _++_, map}
 use Prim.Native.Nat.{ℕ, zero, suc, _+_, _≤_, _<_}
 use native.Mathlib.Nat.{add-zero, zero-add, add-assoc}
 use native.Mathlib.Numerals.{one-add}
@@ -11,6 +11,7 @@ use lib.Dec.{lit≤}
 use lib.ListN.{length, getD}
 use mir.Val.{boolByte}
 use Rattle.laws.specs.Counts.{all, count}
+use Rattle.laws.proofs.Rows.{Every}
 
 pub and-true : (b : Bool) → b && true ≡ b
 and-true true = refl
@@ -45,6 +46,19 @@ module _ {A : Type 0} (test : A → Bool) where
   unfolding count
   count-all h [] = refl
   count-all h (x ∷ xs) = ap₂ _+_ (ap (λ (b : Bool). cond b 1 0) (h x)) (count-all h xs) ∙ one-add (length xs)
+
+-- of what a function makes
+pub count-map : {A B : Type 0} (test : B → Bool) (f : A → B) (xs : List A) → count test (map f xs) ≡ count (λ x. test (f x)) xs
+unfolding count
+count-map test f [] = refl
+count-map test f (x ∷ xs) = ap (λ (n : ℕ). cond (test (f x)) 1 0 + n) (count-map test f xs)
+
+-- of parts of p elements, where each such part passes
+pub count-every : {A : Type 0} (test : List A → Bool) (p : ℕ) → ((r : List A) → length r ≡ p → test r ≡ true) → (rs : List (List A)) → Every p rs
+    → count test rs ≡ length rs
+unfolding count
+count-every test p h [] e = refl
+count-every test p h (r ∷ rs) e = ap₂ _+_ (ap (λ (b : Bool). cond b 1 0) (h r (e .0))) (count-every test p h rs (e .1)) ∙ one-add (length rs)
 
 -- ---- a flag
 

@@ -1,4 +1,5 @@
--- What a monitor keeps of a write, by its own check, and what `act` promises, by whether the slice is a record.
+-- What a monitor keeps of a write, by whether its own eight bytes are good for it, and what `act` promises, by whether the slice is a
+-- record.
 -- Assumes nothing.
 use mathlib.Core.Path.{_≡_, sym, ap, _∙_}
 use mathlib.Core.Bool.{Bool, true, false, cond, _&&_}
@@ -7,40 +8,77 @@ use Prim.Native.Nat.{ℕ}
 use native.Mathlib.Omega.{arith}
 use lib.Dec.{eqb, leb}
 use lib.ListN.{length}
-use borrow.Author.Tests.{eqb-true}
+use borrow.Author.Tests.{eqb-true, eq-eqb}
 use Rattle.pec.specs.Words.{payloadRight}
 use Rattle.records.specs.declared.commands.Write.{Write}
 use Rattle.records.specs.declared.commands.Command.{Command}
 use Rattle.records.specs.declared.commands.Command.the-variants.{Writes}
 use Rattle.records.specs.Record.{unlocked, recordSize, byteOf, isRecord}
-use Rattle.writes.specs.Writes.{written}
-use Rattle.monitor.specs.Effects.{locked, counted, takes, keeps}
+use Rattle.records.specs.Commands.{payloadSize}
+use Rattle.writes.specs.Writes.{rulesOf, written}
+use Rattle.monitor.specs.Effects.{locked, counted, goodFor, takes, keeps}
 use Rattle.records.proofs.Answers.{is-record, no-record, both-first}
 use Rattle.writes.proofs.Written.{six-for-record}
 
 -- ---- one's own eight bytes
 
-pub right-length : (eight : List ℕ) → payloadRight eight ≡ true → length eight ≡ 8
+pub right-length : (eight : List ℕ) → payloadRight eight ≡ true → length eight ≡ payloadSize
 unfolding payloadRight
-right-length eight h = eqb-true (length eight) 8 (both-first (eqb (length eight) 8) _ h)
+right-length eight h = eqb-true (length eight) payloadSize (both-first (eqb (length eight) payloadSize) _ h)
+
+module _ (c : Write) (eight : List ℕ) where
+  -- by whether the write needs its check right
+  abbrev goodWhere : Bool → Bool
+  goodWhere needs = cond needs (payloadRight eight) (eqb (length eight) payloadSize)
+
+  pub good-checked : rulesOf c .«needs_check» ≡ true → goodFor c eight ≡ payloadRight eight
+  unfolding goodFor
+  good-checked e = ap goodWhere e
+
+  pub good-unchecked : rulesOf c .«needs_check» ≡ false → goodFor c eight ≡ eqb (length eight) payloadSize
+  unfolding goodFor
+  good-unchecked e = ap goodWhere e
+
+  -- a right payload is good for every write, and nothing but eight bytes is good for any
+  pub right-good : payloadRight eight ≡ true → goodFor c eight ≡ true
+  unfolding goodFor
+  right-good h = by (rulesOf c .«needs_check»)
+    where
+      by : (needs : Bool) → goodWhere needs ≡ true
+      by true = h
+      by false = eq-eqb (length eight) payloadSize (right-length eight h)
+
+  pub good-length : goodFor c eight ≡ true → length eight ≡ payloadSize
+  unfolding goodFor
+  good-length h = by (rulesOf c .«needs_check») h
+    where
+      by : (needs : Bool) → goodWhere needs ≡ true → length eight ≡ payloadSize
+      by true h = right-length eight h
+      by false h = eqb-true (length eight) payloadSize h
 
 module _ (c : Write) (eight r : List ℕ) where
-  pub keeps-right : payloadRight eight ≡ true → keeps (Writes c) eight r ≡ written c (byteOf unlocked r) eight (counted (locked r))
-  unfolding keeps
-  keeps-right h = ap (λ (b : Bool). cond b (written c (byteOf unlocked r) eight (counted (locked r))) (locked r)) h
+  abbrev keptBy : Bool → List ℕ
+  keptBy good = cond good (written c (byteOf unlocked r) eight (counted (locked r))) (locked r)
 
-  pub keeps-wrong : payloadRight eight ≡ false → keeps (Writes c) eight r ≡ locked r
+  pub keeps-good : goodFor c eight ≡ true → keeps (Writes c) eight r ≡ written c (byteOf unlocked r) eight (counted (locked r))
   unfolding keeps
-  keeps-wrong h = ap (λ (b : Bool). cond b (written c (byteOf unlocked r) eight (counted (locked r))) (locked r)) h
+  keeps-good h = ap keptBy h
+
+  pub keeps-bad : goodFor c eight ≡ false → keeps (Writes c) eight r ≡ locked r
+  unfolding keeps
+  keeps-bad h = ap keptBy h
+
+  pub keeps-right : payloadRight eight ≡ true → keeps (Writes c) eight r ≡ written c (byteOf unlocked r) eight (counted (locked r))
+  keeps-right h = keeps-good (right-good c eight h)
 
   -- what `write` leaves of a record that was counted
-  pub kept-right : payloadRight eight ≡ true → {begun after : List ℕ} → length begun ≡ recordSize → begun ≡ counted (locked r)
+  pub kept-good : goodFor c eight ≡ true → {begun after : List ℕ} → length begun ≡ recordSize → begun ≡ counted (locked r)
       → after ≡ cond (isRecord begun && leb 6 (length eight)) (written c (byteOf unlocked r) eight begun) begun → after ≡ keeps (Writes c) eight r
-  kept-right h {begun} l e w =
+  kept-good h {begun} l e w =
       w
-      ∙ six-for-record c (byteOf unlocked r) eight begun l (omega (arith, right-length eight h))
+      ∙ six-for-record c (byteOf unlocked r) eight begun l (omega (arith, good-length c eight h))
       ∙ ap (written c (byteOf unlocked r) eight) e
-      ∙ sym (keeps-right h)
+      ∙ sym (keeps-good h)
 
 -- ---- a slice that is a record, and one that is not
 

@@ -10,7 +10,6 @@ use native.Mathlib.Omega.{arith}
 use lib.Dec.{leb, ltb, lit<, lit≤}
 use lib.ListN.{length, getD}
 use borrow.Author.Tests.{leb-true, le-leb, ltb-true}
-use Rattle.pec.specs.Words.{payloadRight}
 use Rattle.records.specs.declared.commands.Write.{Write}
 use Rattle.records.specs.declared.commands.Write.the-variants.{Wrcfga, Wrcfgb, Wrrr, Clrflag, Clovuv, Wrpwma, Wrpwmb}
 use Rattle.records.specs.declared.commands.Bare.{Bare}
@@ -19,7 +18,7 @@ use Rattle.records.specs.declared.commands.Command.{Command}
 use Rattle.records.specs.declared.commands.Command.the-variants.{Reads, Writes, Bares, Unlisted}
 use Rattle.records.specs.Record.{cells, counter, unlocked, statusBits, recordSize, byteOf, Outside, anew, onBytes, recordSound}
 use Rattle.writes.specs.Writes.{rulesOf, byRules, opens, written}
-use Rattle.monitor.specs.Effects.{locked, nextCount, counted, done, keeps}
+use Rattle.monitor.specs.Effects.{locked, nextCount, counted, done, goodFor, keeps}
 use Rattle.records.proofs.Anew.{length-anew, anew-below, anew-above, anew-inside}
 use Rattle.records.proofs.Parts.{outside-byte}
 
@@ -53,7 +52,7 @@ pub length-keeps : (c : Command) (eight r : List ℕ) → length (keeps c eight 
 unfolding keeps
 length-keeps (Reads p) eight r = length-locked r
 length-keeps (Writes c) eight r =
-    length-cond (payloadRight eight) _ _ (length r)
+    length-cond (goodFor c eight) _ _ (length r)
     (length-written c (byteOf unlocked r) eight (counted (locked r)) ∙ length-counted (locked r) ∙ length-locked r)
     (length-locked r)
 length-keeps (Bares c) eight r = length-done c (counted (locked r)) ∙ length-counted (locked r) ∙ length-locked r
@@ -145,7 +144,7 @@ fine-keeps : (c : Command) (eight r : List ℕ) → Fine r → Fine (keeps c eig
 unfolding keeps
 fine-keeps (Reads p) eight r s = fine-locked r s
 fine-keeps (Writes c) eight r s =
-    fine-cond (payloadRight eight) _ _ (fine-written c (byteOf unlocked r) eight (counted (locked r)) (fine-counted r s)) (fine-locked r s)
+    fine-cond (goodFor c eight) _ _ (fine-written c (byteOf unlocked r) eight (counted (locked r)) (fine-counted r s)) (fine-locked r s)
 fine-keeps (Bares c) eight r s = fine-done c (counted (locked r)) (fine-counted r s)
 fine-keeps Unlisted eight r s = s
 

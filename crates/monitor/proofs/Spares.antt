@@ -7,7 +7,6 @@ use mathlib.Core.List.{List, _++_}
 use Prim.Native.Nat.{ℕ, _+_, _≤_, _<_}
 use native.Mathlib.Omega.{arith}
 use lib.ListN.{length, List·getD-append}
-use Rattle.pec.specs.Words.{payloadRight}
 use Rattle.records.specs.declared.commands.Bare.{Bare}
 use Rattle.records.specs.declared.commands.Bare.the-variants.{Mute, Unmute, Rstcc, Ulrr, Clrcell}
 use Rattle.records.specs.declared.commands.Command.{Command}
@@ -16,7 +15,7 @@ use Rattle.records.specs.declared.commands.Write.{Write}
 use Rattle.records.specs.declared.record.Part.{Part}
 use Rattle.records.specs.Record.{cells, counter, unlocked, statusBits, bytesOf, byteOf, anew, onBytes}
 use Rattle.writes.specs.Writes.{rulesOf, byRules, opens, written}
-use Rattle.monitor.specs.Effects.{locked, counted, done, keeps}
+use Rattle.monitor.specs.Effects.{locked, counted, done, goodFor, keeps}
 use Rattle.monitor.specs.Spares.{sixOf, partOf, Apart, Spares, Before}
 use Rattle.records.proofs.Anew.{length-anew, anew-front}
 use Rattle.records.proofs.Parts.{outside-anew}
@@ -53,7 +52,7 @@ module _ (p : Part) where
   unfolding keeps
   keeps-spares (Reads q) eight r h = locked-spares r h
   keeps-spares (Writes c) eight r h =
-      either (payloadRight eight) _ _ r
+      either (goodFor c eight) _ _ r
       (written-spares c (byteOf unlocked r) eight (counted (locked r)) (h .1 .1) ∙ counted-spares r (h .0) (h .1 .0))
       (locked-spares r (h .0))
   keeps-spares (Bares c) eight r h = done-spares c (counted (locked r)) (h .1 .1) ∙ counted-spares r (h .0) (h .1 .0)
@@ -99,7 +98,7 @@ module _ (front rest : List ℕ) (long : unlocked .at + 1 ≤ length front) wher
   unfolding keeps
   keeps-front (Reads q) eight h = locked-front
   keeps-front (Writes c) eight h =
-      either-front (payloadRight eight) _ (locked front)
+      either-front (goodFor c eight) _ (locked front)
       (ap₂ (λ (was : ℕ) (r : List ℕ). written c was eight r) was-front counted-front
       ∙ written-front c (byteOf unlocked front) eight (counted (locked front)) (omega (arith, same)))
       locked-front

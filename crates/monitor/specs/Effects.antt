@@ -1,18 +1,21 @@
--- Document 01, "Effects" and "Counter": what one monitor keeps of an accepted frame. It depends on the command, on the
--- monitor's own record and on its own eight bytes.
+-- Document 01, "Effects" and "Counter", and document 02, L3: what one monitor keeps of an accepted frame. It depends on the command, on
+-- the monitor's own record and on its own eight bytes.
 -- Assumes nothing.
 use mathlib.Core.Bool.{Bool, true, false, cond}
 use mathlib.Core.List.{List}
 use Prim.Native.Nat.{ℕ, _+_, _%_}
 use lib.Bits.{bitAnd, bitOr}
 use lib.Dec.{eqb, ltb}
+use lib.ListN.{length}
 use Rattle.pec.specs.Words.{payloadRight}
 use Rattle.records.specs.declared.commands.Bare.{Bare}
 use Rattle.records.specs.declared.commands.Bare.the-variants.{Mute, Unmute, Rstcc, Ulrr, Clrcell}
 use Rattle.records.specs.declared.commands.Command.{Command}
 use Rattle.records.specs.declared.commands.Command.the-variants.{Reads, Writes, Bares, Unlisted}
+use Rattle.records.specs.declared.commands.Write.{Write}
 use Rattle.records.specs.Record.{cells, counter, unlocked, statusBits, byteOf, onBytes}
-use Rattle.writes.specs.Writes.{written}
+use Rattle.records.specs.Commands.{payloadSize}
+use Rattle.writes.specs.Writes.{rulesOf, written}
 
 -- ---- what every accepted command does
 
@@ -42,16 +45,20 @@ done Clrcell r = onBytes cells (λ i old. clearedByte i) r
 
 -- ---- one monitor
 
--- the monitor takes the command: a write only if its own eight bytes are right
+-- its own eight bytes are good for a write: right, or, where the write does not need its check right, whatever eight bytes they are
+unfoldable pub goodFor : Write → List ℕ → Bool
+goodFor c eight = cond (rulesOf c .«needs_check») (payloadRight eight) (eqb (length eight) payloadSize)
+
+-- the monitor takes the command: a write only if its own eight bytes are good for it
 abbrev pub takes : Command → List ℕ → Bool
 takes (Reads c) eight = true
-takes (Writes c) eight = payloadRight eight
+takes (Writes c) eight = goodFor c eight
 takes (Bares c) eight = true
 takes Unlisted eight = false
 
 -- what it then has: every accepted command locks the retention first; one that is taken and is no read counts
 unfoldable pub keeps : Command → List ℕ → List ℕ → List ℕ
 keeps (Reads c) eight r = locked r
-keeps (Writes c) eight r = cond (payloadRight eight) (written c (byteOf unlocked r) eight (counted (locked r))) (locked r)
+keeps (Writes c) eight r = cond (goodFor c eight) (written c (byteOf unlocked r) eight (counted (locked r))) (locked r)
 keeps (Bares c) eight r = done c (counted (locked r))
 keeps Unlisted eight r = r

@@ -3,16 +3,18 @@ ghost use mathlib.Core.Path.{_≡_};
 ghost use mathlib.Core.Bool.{cond, _&&_};
 ghost use lib.ListN.{length};
 ghost use Rattle.records.specs.Record.{recordSize, isRecord};
-ghost use Rattle.monitor.specs.Effects.{locked, nextCount, counted, done, takes, keeps};
+ghost use Rattle.monitor.specs.Effects.{locked, nextCount, counted, done, goodFor, takes, keeps};
 use records::Bare;
 use records::CELLS;
 use records::CELLS_SIZE;
 use records::COUNTER;
 use records::Command;
+use records::PAYLOAD_SIZE;
 use records::RECORD_SIZE;
 use records::STATUS_BITS;
 use records::UNLOCKED;
 use records::Write;
+use writes::needs_check;
 use writes::write;
 
 fn lock(rec: &mut [u8])
@@ -65,14 +67,25 @@ fn act_bare(what: Bare, rec: &mut [u8])
     }
 }
 
-// A write at one monitor: counted and done where its own eight bytes are right.
+// Are a monitor's own eight bytes good for a write: right, or, where it does not need its check right, whatever eight bytes they are?
+fn good_for(what: Write, eight: &[u8]) -> bool
+    ensures { λ r. ⌜ r ≡ goodFor what (now (eight .entry)) ⌝ }
+{
+    if needs_check(what) {
+        check_words::number_right(check_words::number_in(eight))
+    } else {
+        eight.len() == PAYLOAD_SIZE
+    }
+}
+
+// A write at one monitor: counted and done where its own eight bytes are good for it.
 fn act_write(what: Write, rec: &mut [u8], eight: &[u8]) -> bool
     requires { ⌜ length (now rec) ≡ recordSize ⌝ }
     ensures { λ took. ⌜ took ≡ takes (Command.Writes what) (now (eight .entry)) ⌝ }
     ensures { λ _. ⌜ now (rec .exit) ≡ keeps (Command.Writes what) (now (eight .entry)) (now (rec .entry)) ⌝ }
 {
     let was = rec[UNLOCKED];
-    if check_words::number_right(check_words::number_in(eight)) {
+    if good_for(what, eight) {
         count(rec);
         write(what, was, rec, eight);
         true

@@ -2,54 +2,51 @@
 -- payload has do what none do.
 -- Assumes nothing.
 use mathlib.Core.Path.{_≡_, refl, sym, ap, _∙_, subst⁻¹}
-use mathlib.Core.Bool.{Bool, true, false, cond, _&&_}
+use mathlib.Core.Bool.{Bool, true, false, cond}
 use mathlib.Core.List.{List, [], _∷_, append-nil}
-use Prim.Native.Nat.{ℕ, _+_, _%_, _≤_}
+use Prim.Native.Nat.{ℕ, _+_, _≤_}
 use native.Mathlib.Omega.{arith}
 use lib.Dec.{eqb, leb}
 use lib.ListN.{length, take}
 use lib.Seq.{take-all}
-use borrow.Author.Tests.{ne-eqb, leb-true, leb-false}
+use borrow.Author.Tests.{leb-true, leb-false}
 use Rattle.laws.specs.Counts.{count}
 use Rattle.laws.specs.Rows.{rows, joined, along}
-use Rattle.pec.specs.Words.{wordAt, dataPec, counterOf, payloadRight}
 use Rattle.wire.specs.Order.{farthestFirst, writePayloads}
 use Rattle.records.specs.declared.commands.Command.{Command}
 use Rattle.records.specs.declared.commands.Command.the-variants.{Reads, Writes, Bares, Unlisted}
 use Rattle.records.specs.declared.commands.Write.{Write}
-use Rattle.records.specs.Record.{recordSize, unlocked, byteOf}
+use Rattle.records.specs.Record.{recordSize}
 use Rattle.records.specs.Commands.{payloadSize}
-use Rattle.writes.specs.Writes.{written}
-use Rattle.monitor.specs.Effects.{locked, counted, takes, keeps}
+use Rattle.monitor.specs.Effects.{goodFor, takes, keeps}
+use Rattle.monitor.proofs.Keeping.{good-length, keeps-bad}
 
 -- what one monitor makes of bytes, and what it makes of those that are handed on
 unfoldable pub own : List ℕ → List ℕ
 own eight = cond (leb (length eight) payloadSize) eight []
 
-not-right : (eight : List ℕ) → (length eight ≡ payloadSize → ⊥) → payloadRight eight ≡ false
-unfolding payloadRight
-not-right eight h =
-    ap (λ (b : Bool). b && eqb (wordAt eight 6 % 1024) (dataPec (take 6 eight) (counterOf eight))) (ne-eqb (length eight) payloadSize h)
-
--- a write whose payload is not right only locks
-not-kept : (what : Write) (eight r : List ℕ) → payloadRight eight ≡ false → keeps (Writes what) eight r ≡ locked r
-unfolding keeps
-not-kept what eight r e = ap (λ (b : Bool). cond b (written what (byteOf unlocked r) eight (counted (locked r))) (locked r)) e
-
-pub own-right : (eight : List ℕ) → payloadRight (own eight) ≡ payloadRight eight
-unfolding own
-own-right eight = by (leb (length eight) payloadSize) refl
+-- other bytes than eight are good for no write
+not-good : (what : Write) (eight : List ℕ) → (length eight ≡ payloadSize → ⊥) → goodFor what eight ≡ false
+not-good what eight h = by (goodFor what eight) refl
   where
-    by : (t : Bool) → leb (length eight) payloadSize ≡ t → payloadRight (cond (leb (length eight) payloadSize) eight []) ≡ payloadRight eight
-    by true e = ap (λ (b : Bool). payloadRight (cond b eight [])) e
+    by : (b : Bool) → goodFor what eight ≡ b → goodFor what eight ≡ false
+    by true e = absurd (h (good-length what eight e))
+    by false e = e
+
+pub own-good : (what : Write) (eight : List ℕ) → goodFor what (own eight) ≡ goodFor what eight
+unfolding own
+own-good what eight = by (leb (length eight) payloadSize) refl
+  where
+    by : (t : Bool) → leb (length eight) payloadSize ≡ t → goodFor what (cond (leb (length eight) payloadSize) eight []) ≡ goodFor what eight
+    by true e = ap (λ (b : Bool). goodFor what (cond b eight [])) e
     by false e =
         let long = leb-false (length eight) payloadSize e in
-        ap (λ (b : Bool). payloadRight (cond b eight [])) e ∙ not-right [] (λ h. omega (arith, h)) ∙ sym (not-right eight (λ h. omega (arith, h, long)))
+        ap (λ (b : Bool). goodFor what (cond b eight [])) e ∙ not-good what [] (λ h. omega (arith, h)) ∙ sym (not-good what eight (λ h. omega (arith, h, long)))
 
 -- so it takes and keeps the same
 pub own-takes : (c : Command) (eight : List ℕ) → takes c (own eight) ≡ takes c eight
 own-takes (Reads part) eight = refl
-own-takes (Writes what) eight = own-right eight
+own-takes (Writes what) eight = own-good what eight
 own-takes (Bares what) eight = refl
 own-takes Unlisted eight = refl
 
@@ -63,8 +60,8 @@ own-keeps (Writes what) eight r = by (leb (length eight) payloadSize) refl
     by false e =
         let long = leb-false (length eight) payloadSize e in
         ap (λ (b : Bool). keeps (Writes what) (cond b eight []) r) e
-        ∙ not-kept what [] r (not-right [] (λ h. omega (arith, h)))
-        ∙ sym (not-kept what eight r (not-right eight (λ h. omega (arith, h, long))))
+        ∙ keeps-bad what [] r (not-good what [] (λ h. omega (arith, h)))
+        ∙ sym (keeps-bad what eight r (not-good what eight (λ h. omega (arith, h, long))))
 own-keeps (Bares what) eight r = refl
 own-keeps Unlisted eight r = refl
 

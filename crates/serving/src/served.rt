@@ -82,7 +82,7 @@ pub fn serve(table: &mut [u8], command: Command, n: usize, payloads: &[u8]) -> u
     serve_whole(table, command, n, payloads)
 }
 
-// A monitor's own bytes; of more than a payload none, since they are not right either.
+// A monitor's own bytes; of more than a payload none, since no write takes either.
 fn own_of(eight: &[u8]) -> &[u8]
     ensures { λ r. ⌜ now r ≡ cond (leb (length (now (eight .entry))) payloadSize) (now (eight .entry)) [] ⌝ }
 {

@@ -1,5 +1,5 @@
--- Document 01, "Effects", and document 02, L2: what a taken write does to its six bytes. It depends on the write, on what was sent, on the record and on
--- the retention byte before the command.
+-- Document 01, "Effects", and document 02, L2 and L3: whether a write needs its check right, and what a taken write does to its six bytes.
+-- The second depends on the write, on what was sent, on the record and on the retention byte before the command.
 -- Assumes nothing.
 use mathlib.Core.Bool.{Bool, true, false, cond, not, _||_}
 use mathlib.Core.List.{List, [], _∷_}
@@ -19,17 +19,17 @@ all = 0xFF ∷ 0xFF ∷ 0xFF ∷ 0xFF ∷ 0xFF ∷ 0xFF ∷ []
 abbrev none : List ℕ
 none = 0 ∷ 0 ∷ 0 ∷ 0 ∷ 0 ∷ 0 ∷ []
 
--- where a write's six bytes go, and what it does to each bit there: `stored` bits become as sent, `kept` bits stay as they
--- were, but for those that are `clearable` and sent as 1, `ones` become 1; every other bit becomes 0. WRRR does so only where the
--- retention was unlocked
+-- whether a write is taken only with its data check right (`needs_check`), where its six bytes go, and what it does to each bit there:
+-- `stored` bits become as sent, `kept` bits stay as they were, but for those that are `clearable` and sent as 1, `ones` become 1; every
+-- other bit becomes 0. WRRR does so whatever its check, and only where the retention was unlocked
 abbrev pub rulesOf : Write → Rules
-rulesOf Wrcfga = record { «only_unlocked» = false; at = configurationA .at; stored = 0x87 ∷ 0xFF ∷ 0xF8 ∷ 0xFF ∷ 0x03 ∷ 0x0F ∷ []; kept = 0 ∷ 0 ∷ 0 ∷ 0 ∷ 0 ∷ 0x30 ∷ []; clearable = none; ones = none }
-rulesOf Wrcfgb = record { «only_unlocked» = false; at = configurationB .at; stored = all; kept = none; clearable = none; ones = none }
-rulesOf Wrrr = record { «only_unlocked» = true; at = retention .at; stored = all; kept = none; clearable = none; ones = none }
-rulesOf Clrflag = record { «only_unlocked» = false; at = statusC .at; stored = none; kept = all; clearable = 0xFF ∷ 0xFF ∷ 0 ∷ 0 ∷ 0xFF ∷ 0xDF ∷ []; ones = none }
-rulesOf Clovuv = record { «only_unlocked» = false; at = statusD .at; stored = none; kept = all; clearable = 0xFF ∷ 0xFF ∷ 0xFF ∷ 0xFF ∷ 0 ∷ 0 ∷ []; ones = none }
-rulesOf Wrpwma = record { «only_unlocked» = false; at = pwmA .at; stored = all; kept = none; clearable = none; ones = none }
-rulesOf Wrpwmb = record { «only_unlocked» = false; at = pwmB .at; stored = 0xFF ∷ 0xFF ∷ 0 ∷ 0 ∷ 0 ∷ 0 ∷ []; kept = none; clearable = none; ones = 0 ∷ 0 ∷ 0xFF ∷ 0xFF ∷ 0xFF ∷ 0xFF ∷ [] }
+rulesOf Wrcfga = record { «needs_check» = true; «only_unlocked» = false; at = configurationA .at; stored = 0x87 ∷ 0xFF ∷ 0xF8 ∷ 0xFF ∷ 0x03 ∷ 0x0F ∷ []; kept = 0 ∷ 0 ∷ 0 ∷ 0 ∷ 0 ∷ 0x30 ∷ []; clearable = none; ones = none }
+rulesOf Wrcfgb = record { «needs_check» = true; «only_unlocked» = false; at = configurationB .at; stored = all; kept = none; clearable = none; ones = none }
+rulesOf Wrrr = record { «needs_check» = false; «only_unlocked» = true; at = retention .at; stored = all; kept = none; clearable = none; ones = none }
+rulesOf Clrflag = record { «needs_check» = true; «only_unlocked» = false; at = statusC .at; stored = none; kept = all; clearable = 0xFF ∷ 0xFF ∷ 0 ∷ 0 ∷ 0xFF ∷ 0xDF ∷ []; ones = none }
+rulesOf Clovuv = record { «needs_check» = true; «only_unlocked» = false; at = statusD .at; stored = none; kept = all; clearable = 0xFF ∷ 0xFF ∷ 0xFF ∷ 0xFF ∷ 0 ∷ 0 ∷ []; ones = none }
+rulesOf Wrpwma = record { «needs_check» = true; «only_unlocked» = false; at = pwmA .at; stored = all; kept = none; clearable = none; ones = none }
+rulesOf Wrpwmb = record { «needs_check» = true; «only_unlocked» = false; at = pwmB .at; stored = 0xFF ∷ 0xFF ∷ 0 ∷ 0 ∷ 0 ∷ 0 ∷ []; kept = none; clearable = none; ones = 0 ∷ 0 ∷ 0xFF ∷ 0xFF ∷ 0xFF ∷ 0xFF ∷ [] }
 
 -- the writes that store all six bytes as they are sent
 abbrev pub storesWhole : Write → Bool

@@ -1,4 +1,4 @@
-// What a taken write does to its six bytes.
+// Whether a write needs its check right, and what a taken write does to its six bytes.
 ghost use mathlib.Core.Path.{_≡_};
 ghost use mathlib.Core.Bool.{cond, _&&_};
 ghost use Prim.Native.Nat.{_+_, _%_, _<_, _≤_};
@@ -16,10 +16,11 @@ use records::STATUS_C;
 use records::STATUS_D;
 use records::Write;
 
-// Where a write's six bytes go, and what it does to each bit there: stored bits become as sent, kept bits stay as they were,
-// but for those that are clearable and sent as 1, ones become 1; every other bit becomes 0. Only WRRR asks that the
-// retention was unlocked.
+// Whether a write is taken only with its data check right, where its six bytes go, and what it does to each bit there: stored bits
+// become as sent, kept bits stay as they were, but for those that are clearable and sent as 1, ones become 1; every other bit
+// becomes 0. WRRR does so whatever its check, and only where the retention was unlocked.
 pub struct Rules {
+    pub needs_check: bool,
     pub only_unlocked: bool,
     pub at: usize,
     pub stored: [u8; 6],
@@ -37,6 +38,7 @@ fn rules_of(what: Write) -> Rules
 {
     match what {
         Write::Wrcfga => Rules {
+            needs_check: true,
             only_unlocked: false,
             at: CONFIGURATION_A,
             stored: [0x87, 0xff, 0xf8, 0xff, 0x03, 0x0f],
@@ -45,6 +47,7 @@ fn rules_of(what: Write) -> Rules
             ones: NONE,
         },
         Write::Wrcfgb => Rules {
+            needs_check: true,
             only_unlocked: false,
             at: CONFIGURATION_B,
             stored: ALL,
@@ -53,6 +56,7 @@ fn rules_of(what: Write) -> Rules
             ones: NONE,
         },
         Write::Wrrr => Rules {
+            needs_check: false,
             only_unlocked: true,
             at: RETENTION,
             stored: ALL,
@@ -61,6 +65,7 @@ fn rules_of(what: Write) -> Rules
             ones: NONE,
         },
         Write::Clrflag => Rules {
+            needs_check: true,
             only_unlocked: false,
             at: STATUS_C,
             stored: NONE,
@@ -69,6 +74,7 @@ fn rules_of(what: Write) -> Rules
             ones: NONE,
         },
         Write::Clovuv => Rules {
+            needs_check: true,
             only_unlocked: false,
             at: STATUS_D,
             stored: NONE,
@@ -77,6 +83,7 @@ fn rules_of(what: Write) -> Rules
             ones: NONE,
         },
         Write::Wrpwma => Rules {
+            needs_check: true,
             only_unlocked: false,
             at: PWM_A,
             stored: ALL,
@@ -85,6 +92,7 @@ fn rules_of(what: Write) -> Rules
             ones: NONE,
         },
         Write::Wrpwmb => Rules {
+            needs_check: true,
             only_unlocked: false,
             at: PWM_B,
             stored: [0xff, 0xff, 0, 0, 0, 0],
@@ -93,6 +101,14 @@ fn rules_of(what: Write) -> Rules
             ones: [0, 0, 0xff, 0xff, 0xff, 0xff],
         },
     }
+}
+
+// Is a write taken only with its data check right?
+pub fn needs_check(what: Write) -> bool
+    ensures { λ r. ⌜ r ≡ rulesOf what .«needs_check» ⌝ }
+{
+    let rules = rules_of(what);
+    rules.needs_check
 }
 
 // One of the six bytes by a write's rules, from what was sent and what it was.
