@@ -71,6 +71,9 @@ module _ (c : Write) (eight r : List ℕ) where
   pub keeps-right : payloadRight eight ≡ true → keeps (Writes c) eight r ≡ written c (byteOf unlocked r) eight (counted (locked r))
   keeps-right h = keeps-good (right-good c eight h)
 
+  pub keeps-wrong : rulesOf c .«needs_check» ≡ true → payloadRight eight ≡ false → keeps (Writes c) eight r ≡ locked r
+  keeps-wrong needs h = keeps-bad (good-checked c eight needs ∙ h)
+
   -- what `write` leaves of a record that was counted
   pub kept-good : goodFor c eight ≡ true → {begun after : List ℕ} → length begun ≡ recordSize → begun ≡ counted (locked r)
       → after ≡ cond (isRecord begun && leb 6 (length eight)) (written c (byteOf unlocked r) eight begun) begun → after ≡ keeps (Writes c) eight r

@@ -2,7 +2,7 @@
 -- host writes. With no refusal the outcome is the accepted one; it is taken apart by the laws of `chain` and `host`.
 -- Assumes nothing.
 use mathlib.Core.Path.{_≡_, sym, ap, _∙_}
-use mathlib.Core.Bool.{true}
+use mathlib.Core.Bool.{Bool, true, cond}
 use mathlib.Core.List.{List, _++_}
 use Prim.Native.Nat.{ℕ, suc, _-_, _*_, _<_}
 use lib.IntN.{ℤ}
@@ -18,9 +18,11 @@ use Rattle.records.specs.declared.commands.Bare.{Bare}
 use Rattle.records.specs.declared.commands.Command.{Command}
 use Rattle.records.specs.declared.commands.Command.the-variants.{Reads, Writes, Bares}
 use Rattle.records.specs.declared.commands.Write.{Write}
+use Rattle.records.specs.declared.commands.Write.the-variants.{Wrrr}
 use Rattle.records.specs.declared.record.Part.{Part}
 use Rattle.records.specs.Record.{cellCount, recordSize}
-use Rattle.records.specs.Commands.{payloadSize, replyLength}
+use Rattle.records.specs.Commands.{payloadSize, frameLength, replyLength}
+use Rattle.writes.proofs.Written.{needs-but-wrrr}
 use Rattle.monitor.specs.Effects.{keeps}
 use Rattle.reads.specs.Reply.{reply}
 use Rattle.chain.specs.declared.frames.Answer.the-variants.{Refused, Accepted}
@@ -65,16 +67,25 @@ module _ (table frame : List ℕ) (room : ℕ) (none : Passed (frameRefusals tab
   unfolding frameRefusals
   its-sound = not-false (sound table) (none .0)
 
+  whole-frame : length frame ≡ frameLength (commandIn frame) n
+  unfolding frameRefusals
+  whole-frame = eqb-true (length frame) (frameLength (commandIn frame) n) (not-false _ (none .1 .1 .1 .1 .0))
+
   answer-by : {c : Command} → commandIn frame ≡ c → answer table frame room ≡ Accepted (takers c n frame) (replyLength c n)
   unfolding answer
   answer-by {c} its =
       passes (frameRefusals table frame room) Refused _ none
       ∙ ap (λ (x : Command). Accepted (takenBy x n frame) (replyLength x n)) its
-      ∙ ap (λ (taken : ℕ). Accepted taken (replyLength c n)) (same-takers c n frame)
+      ∙ ap (λ (taken : ℕ). Accepted taken (replyLength c n)) (same-takers c n frame (whole-frame ∙ ap (λ (x : Command). frameLength x n) its))
 
-  pub write-answer : (c : Write) → commandIn frame ≡ Writes c → answer table frame room ≡ Accepted (count payloadRight (payloadsIn frame n)) 0
+  pub write-answer : (c : Write) → (c ≡ Wrrr → ⊥) → commandIn frame ≡ Writes c → answer table frame room ≡ Accepted (count payloadRight (payloadsIn frame n)) 0
   unfolding takers
-  write-answer c its = answer-by its
+  write-answer c other its =
+      answer-by its ∙ ap (λ (needs : Bool). Accepted (cond needs (count payloadRight (payloadsIn frame n)) n) 0) (needs-but-wrrr c other)
+
+  pub wrrr-answer : commandIn frame ≡ Writes Wrrr → answer table frame room ≡ Accepted n 0
+  unfolding takers
+  wrrr-answer its = answer-by its
 
   pub read-answer : (part : Part) → commandIn frame ≡ Reads part → answer table frame room ≡ Accepted n (payloadSize * n)
   unfolding takers

@@ -111,6 +111,7 @@ pub record Promises : Type 2 where
   record-sound : Promised records.record_sound.Statement.statement records.record_sound.Reads.Asked
   byte-at : Promised records.byte_at.Statement.statement records.byte_at.Reads.Asked
   reply-of : Promised reads.reply_of.Statement.statement reads.reply_of.Reads.Asked
+  needs-check : Promised writes.needs_check.Statement.statement writes.needs_check.Reads.Asked
   write : Promised writes.write.Statement.statement writes.write.Reads.Asked
   act : Promised monitor.act.Statement.statement monitor.act.Reads.Asked
   -- the chain
@@ -248,6 +249,7 @@ proved =
       record-sound = (λ M. records.record_sound.Met.met, λ κ a. tt);
       byte-at = (λ M. records.byte_at.Met.met, λ κ a. tt);
       reply-of = (λ M. reads.reply_of.Met.met, λ κ a. tt);
+      needs-check = (λ M. writes.needs_check.Met.met, λ κ a. tt);
       write = (λ M. writes.write.Met.met, λ κ a. tt);
       act = (λ M. monitor.act.Met.met, λ κ a. tt);
       sound = (λ M. judging.sound.Met.met, λ κ a. tt);

@@ -1,5 +1,5 @@
 -- Demand 2. What the chain does with a frame is what the data sheet says as document 01 condenses it, with the requests of document 02 that
--- have landed (L1, L2), monitor by monitor. What our
+-- have landed (L1, L2, L3), monitor by monitor. What our
 -- host writes hands each monitor its own six bytes: nearest first in our list, farthest first on the wire. Monitors are counted
 -- from 0 here: monitor 1 of the paper is k = 0. Each field is proved where it is cited from.
 -- Assumes nothing.
@@ -29,11 +29,12 @@ use Rattle.records.specs.declared.commands.Bare.the-variants.{Mute, Unmute, Clr
 use Rattle.records.specs.declared.commands.Command.{Command}
 use Rattle.records.specs.declared.commands.Command.the-variants.{Reads, Writes, Bares}
 use Rattle.records.specs.declared.commands.Write.{Write}
-use Rattle.records.specs.declared.commands.Write.the-variants.{Wrcfgb, Wrpwma, Wrpwmb}
+use Rattle.records.specs.declared.commands.Write.the-variants.{Wrcfgb, Wrrr, Wrpwma, Wrpwmb}
 use Rattle.records.specs.declared.record.Part.{Part}
 use Rattle.records.specs.Record.{cellCount, cells, flags, statusBits, dccBits, pwmA, pwmB, recordSize, counter, unlocked, bytesOf as partOf, byteOf}
 use Rattle.records.specs.Commands.{commands, commandOf, isListed, rdcfgb, rdpwma, rdpwmb, mostMonitors, payloadSize, frameLength, replyLength}
 use Rattle.writes.specs.Writes.{written}
+use Rattle.writes.proofs.Written.{needs-but-wrrr}
 use Rattle.monitor.specs.Effects.{locked, counted, done, keeps}
 use Rattle.reads.specs.Reply.{register, reply}
 use Rattle.monitor.proofs.Keeping.{keeps-right, keeps-wrong}
@@ -73,7 +74,7 @@ use Rattle.host.specs.Frames.{dataSize, sealed, frameFor, buildRefusals, built,
 use Rattle.ports.specs.Ports.{partA}
 use Rattle.ports.specs.Parts.{bytesOf}
 use Rattle.story.specs.Numbers.{First}
-use Rattle.story.proofs.Accepted.{frame-refused, write-answer, read-answer, bare-answer, record-after, reply-own, reply-past, write-no-reply, bare-no-reply, store-done, store-own, store-others, compare-done, compare-own, compare-others, load-done, load-own, load-others, discharge-answer, host-writes}
+use Rattle.story.proofs.Accepted.{frame-refused, write-answer, wrrr-answer, read-answer, bare-answer, record-after, reply-own, reply-past, write-no-reply, bare-no-reply, store-done, store-own, store-others, compare-done, compare-own, compare-others, load-done, load-own, load-others, discharge-answer, host-writes}
 use Rattle.story.proofs.OurHost.{own-six, write-taken-by-all, bare-taken-by-all, each-keeps-its-own, reply-right, read-taken-by-all, each-reply-its-own, each-reply-right}
 use Rattle.story.specs.ReadsBack.{ReadsBack, as-written, fixed-behind-two}
 use Rattle.story.proofs.ReadBack.{b-read-back, pwm-a-read-back, pwm-b-read-back}
@@ -96,9 +97,12 @@ pub record Demand2 : Type 0 where
       ∷ (ltb room (replyLength (commandIn frame) (monitors table)) gives NoRoom)
       ∷ []
   refused : (table frame : List ℕ) (room : ℕ) (r : Refusal) → First (frameRefusals table frame room) r → answer table frame room ≡ Refused r
-  -- none holds: a write is taken by as many monitors as find their own eight bytes right, a read and a bare command by all N
-  write-answer : (table frame : List ℕ) (room : ℕ) → Passed (frameRefusals table frame room) → (c : Write) → commandIn frame ≡ Writes c
+  -- none holds: a write is taken by as many monitors as find their own eight bytes right, but WRRR, which is executed whatever its check, by
+  -- all N; and so are a read and a bare command
+  write-answer : (table frame : List ℕ) (room : ℕ) → Passed (frameRefusals table frame room) → (c : Write) → (c ≡ Wrrr → ⊥) → commandIn frame ≡ Writes c
       → answer table frame room ≡ Accepted (count payloadRight (payloadsIn frame (monitors table))) 0
+  wrrr-answer : (table frame : List ℕ) (room : ℕ) → Passed (frameRefusals table frame room) → commandIn frame ≡ Writes Wrrr
+      → answer table frame room ≡ Accepted (monitors table) 0
   read-answer : (table frame : List ℕ) (room : ℕ) → Passed (frameRefusals table frame room) → (part : Part) → commandIn frame ≡ Reads part
       → answer table frame room ≡ Accepted (monitors table) (payloadSize * monitors table)
   bare-answer : (table frame : List ℕ) (room : ℕ) → Passed (frameRefusals table frame room) → (c : Bare) → commandIn frame ≡ Bares c
@@ -107,12 +111,13 @@ pub record Demand2 : Type 0 where
   own-record : (table frame : List ℕ) (room : ℕ) → Passed (frameRefusals table frame room) → (k : ℕ) → k < monitors table
       → rowAt recordSize k (tableAfter table frame room)
       ≡ keeps (commandIn frame) (rowAt payloadSize (monitors table - suc k) (drop 4 frame)) (rowAt recordSize k table)
-  -- `monitor::act`: every accepted command locks the retention; a taken write or bare command counts; a wrong payload changes no more
+  -- `monitor::act`: every accepted command locks the retention; a taken write or bare command counts; a payload that is wrong changes no more,
+  -- but of WRRR
   read-keeps : (part : Part) (eight r : List ℕ) → keeps (Reads part) eight r ≡ locked r
   bare-keeps : (c : Bare) (eight r : List ℕ) → keeps (Bares c) eight r ≡ done c (counted (locked r))
   right-keeps : (c : Write) (eight r : List ℕ) → payloadRight eight ≡ true
       → keeps (Writes c) eight r ≡ written c (byteOf unlocked r) eight (counted (locked r))
-  wrong-keeps : (c : Write) (eight r : List ℕ) → payloadRight eight ≡ false → keeps (Writes c) eight r ≡ locked r
+  wrong-keeps : (c : Write) → (c ≡ Wrrr → ⊥) → (eight r : List ℕ) → payloadRight eight ≡ false → keeps (Writes c) eight r ≡ locked r
   -- a command changes no part of a record but the retention byte, the counter and the part that is its own
   spares : (p : Part) (c : Command) (eight r : List ℕ) → Spares c p → partOf p (keeps c eight r) ≡ partOf p r
   -- the record has grown behind its byte 69, and every command but the two that write there does to the front what it does without the rest,
@@ -330,13 +335,14 @@ demand-2 =
       refusals = λ table frame room. refl;
       refused = frame-refused;
       write-answer = write-answer;
+      wrrr-answer = wrrr-answer;
       read-answer = read-answer;
       bare-answer = bare-answer;
       own-record = record-after;
       read-keeps = λ part eight r. refl;
       bare-keeps = λ c eight r. refl;
       right-keeps = keeps-right;
-      wrong-keeps = keeps-wrong;
+      wrong-keeps = λ c other eight r wrong. keeps-wrong c eight r (needs-but-wrrr c other) wrong;
       spares = keeps-spares;
       as-before = base-as-before;
       replies-as-before = reply-as-before;

@@ -26,7 +26,7 @@ use Rattle.wire.specs.Order.{writePayloads}
 use Rattle.records.specs.Commands.{commands, commandOf, isListed, frameLength, mostMonitors, replyLength, payloadSize}
 use Rattle.records.specs.Record.{cellCount, isRecord, recordSound, recordSize}
 use Rattle.reads.specs.Reply.{reply}
-use Rattle.writes.specs.Writes.{written}
+use Rattle.writes.specs.Writes.{rulesOf, written}
 use Rattle.thresholds.specs.Thresholds.{vuv, vov, codesOf}
 use Rattle.monitor.specs.Effects.{takes, keeps}
 use Rattle.cells.specs.Cells.{store, compare}
@@ -139,6 +139,7 @@ pub record OneOutcome : Type 0 where
   record-sound : Settles records.record_sound.Reads.Post (λ κ z e. leaves z []) (λ κ a. leaves (isRecord (now (a .0)) && recordSound (now (a .0))) [])
   byte-at : Settles records.byte_at.Reads.Post (λ κ z e. leaves z []) (λ κ a. leaves (getD (now (a .0)) (a .1 .0) 0) [])
   reply-of : Settles reads.reply_of.Reads.Post (λ κ z e. leaves z []) (λ κ a. leaves (reply (a .0) (now (a .1 .0))) [])
+  needs-check : Settles writes.needs_check.Reads.Post (λ κ z e. leaves z []) (λ κ a. leaves (rulesOf (a .0) .«needs_check») [])
   write : Settles writes.write.Reads.Post (λ κ z e. leaves z (now (e .1 .1 .0) ∷ []))
       (λ κ a. leaves tt (cond (isRecord (now (a .1 .1 .0)) && leb 6 (length (now (a .1 .1 .1 .0)))) (written (a .0) (a .1 .0) (now (a .1 .1 .1 .0)) (now (a .1 .1 .0))) (now (a .1 .1 .0)) ∷ []))
   act : Settles monitor.act.Reads.Post (λ κ z e. leaves z (now (e .1 .0) ∷ []))
@@ -234,6 +235,7 @@ one-outcomes =
       record-sound = settles (λ κ a z e p i. leaves (p i) []);
       byte-at = settles (λ κ a z e p i. leaves (p i) []);
       reply-of = settles (λ κ a z e p i. leaves (p i) []);
+      needs-check = settles (λ κ a z e p i. leaves (p i) []);
       write = settles (λ κ a z e p i. leaves z (p i ∷ []));
       act = settles (λ κ a z e p i. leaves (p .0 i) (p .1 i ∷ []));
       sound-table = settles (λ κ a z e p i. leaves (p i) []);

@@ -2,11 +2,10 @@
 -- N monitors take it, and each keeps what it would keep of its own six bytes, the k-th six of the list; in a read every
 -- monitor's part of the reply is right.
 -- Assumes nothing.
-use mathlib.Core.Path.{_≡_, refl, sym, ap, ap₂, _∙_, subst}
-use mathlib.Core.Bool.{Bool, true, cond, not}
-use mathlib.Core.List.{List, [], _∷_, map}
-use Prim.Native.Nat.{ℕ, suc, _+_, _-_, _*_, _≤_, _<_}
-use native.Mathlib.Numerals.{one-add}
+use mathlib.Core.Path.{_≡_, refl, sym, ap, _∙_, subst}
+use mathlib.Core.Bool.{true, not}
+use mathlib.Core.List.{List, [], map}
+use Prim.Native.Nat.{ℕ, suc, _-_, _*_, _≤_, _<_}
 use native.Mathlib.Omega.{arith}
 use lib.ListN.{length, getD, drop}
 use borrow.Author.Tests.{le-ltb, eq-eqb}
@@ -14,7 +13,8 @@ use Rattle.laws.specs.Counts.{count}
 use Rattle.laws.specs.Rows.{rows, rowAt}
 use Rattle.laws.specs.Tables.{tabulate}
 use Rattle.laws.proofs.Lists.{getD-map}
-use Rattle.laws.proofs.Rows.{Every, length-rows, every-rows, row-at}
+use Rattle.laws.proofs.Counts.{count-map, count-every}
+use Rattle.laws.proofs.Rows.{length-rows, every-rows, row-at}
 use Rattle.pec.specs.Words.{payloadRight}
 use Rattle.pec.proofs.CheckWords.{seal-right}
 use Rattle.wire.proofs.Order.{write-at}
@@ -26,7 +26,8 @@ use Rattle.records.specs.declared.commands.Bare.{Bare}
 use Rattle.records.specs.declared.record.Part.{Part}
 use Rattle.records.specs.Record.{recordSize, counter, byteOf}
 use Rattle.records.specs.Commands.{commands, commandOf, isListed, payloadSize, frameLength, replyLength}
-use Rattle.monitor.specs.Effects.{keeps}
+use Rattle.monitor.specs.Effects.{goodFor, keeps}
+use Rattle.monitor.proofs.Keeping.{right-good}
 use Rattle.reads.specs.Reply.{register, reply}
 use Rattle.chain.specs.declared.frames.Answer.the-variants.{Accepted}
 use Rattle.judging.specs.declared.heads.Judged.the-variants.{Bad, Good}
@@ -98,12 +99,6 @@ module _ (table values buffer : List ℕ) (code : ℕ) (c : Command) (its : comm
 
 -- ---- writes
 
-each-right : (rs : List (List ℕ)) → Every dataSize rs → count payloadRight (map sealed rs) ≡ length rs
-unfolding count
-each-right [] e = refl
-each-right (r ∷ rs) e =
-    ap₂ _+_ (ap (λ (b : Bool). cond b 1 0) (sealed-right r (e .0))) (each-right rs (e .1)) ∙ one-add (length rs)
-
 module _ (code n : ℕ) (values : List ℕ) (w : Write) (its : commandOf code commands ≡ Writes w) (right-count : length values ≡ dataSize * n) where
   own-payloads : payloadsIn (frameFor code n values) n ≡ map sealed (rows dataSize n values)
   unfolding payloadsIn
@@ -128,8 +123,11 @@ module _ (table values buffer : List ℕ) (code : ℕ) (w : Write) (its : comman
   all-taken : takenBy (Writes w) (monitors table) written-frame ≡ monitors table
   unfolding takenBy
   all-taken =
-      ap (count payloadRight) (own-payloads code (monitors table) values w its right-count)
-      ∙ each-right (rows dataSize (monitors table) values) (every-rows dataSize (monitors table) values (omega arith))
+      let sixes = rows dataSize (monitors table) values in
+      ap (count (goodFor w)) (own-payloads code (monitors table) values w its right-count)
+      ∙ count-map (goodFor w) sealed sixes
+      ∙ count-every (λ six. goodFor w (sealed six)) dataSize (λ six l. right-good w (sealed six) (sealed-right six l)) sixes
+      (every-rows dataSize (monitors table) values (omega arith))
       ∙ length-rows dataSize (monitors table) values
 
   -- the chain accepts the frame, and all N monitors take it

@@ -11,19 +11,21 @@ use native.Mathlib.Omega.{arith}
 use lib.IntN.{ℤ}
 use lib.ListN.{length, take, drop, replicate, length-map, length-replicate}
 use lib.Seq.{take-at}
-use borrow.Author.Tests.{le-ltb}
+use borrow.Author.Tests.{le-ltb, eqb-true, not-false}
 use Rattle.laws.specs.Counts.{count}
 use Rattle.laws.specs.Rows.{rows}
 use Rattle.laws.proofs.Rows.{length-rows, length-joined, every-image}
 use Rattle.wire.specs.Order.{replyData}
 use Rattle.refusals.specs.declared.Refusal.{Refusal}
 use Rattle.refusals.specs.Order.{Row, decide}
-use Rattle.refusals.proofs.Deciding.{decide-append, passes}
+use Rattle.pec.specs.Words.{payloadRight}
+use Rattle.refusals.proofs.Deciding.{Passed, decide-append, passes, passed-agree}
 use Rattle.records.specs.declared.commands.Command.{Command}
 use Rattle.records.specs.declared.commands.Command.the-variants.{Reads, Writes, Bares, Unlisted}
 use Rattle.records.specs.declared.record.Part.{Part}
 use Rattle.records.specs.Record.{recordSize}
-use Rattle.records.specs.Commands.{payloadSize, replyLength}
+use Rattle.records.specs.Commands.{payloadSize, frameLength, replyLength}
+use Rattle.writes.specs.Writes.{rulesOf}
 use Rattle.monitor.specs.Effects.{takes}
 use Rattle.reads.specs.Reply.{reply}
 use Rattle.reads.proofs.Showing.{length-reply}
@@ -36,7 +38,7 @@ use Rattle.replying.specs.Replied.{replied}
 use Rattle.chain.specs.Frame.{frameRefusals, answer, tableAfter, replyAfter}
 use Rattle.replying.proofs.OwnReply.{length-replied}
 use Rattle.judging.proofs.Decided.{either-way}
-use Rattle.serving.proofs.Taken.{taken-read, taken-bare}
+use Rattle.serving.proofs.Taken.{taken-read, taken-bare, taken-checked, taken-unchecked}
 use Rattle.loads.specs.declared.loads.Loaded.the-variants.{Unloaded}
 use Rattle.loads.specs.Load.{storeRefusals, stored, tableAfterStore, compareRefusals, compared, tableAfterCompare}
 use Rattle.clocking.specs.Clock.{Clock, start, answered}
@@ -72,12 +74,16 @@ unfolding count
 none-take [] = refl
 none-take (eight ∷ eights) = omega (arith, none-take eights)
 
-pub same-takers : (c : Command) (n : ℕ) (frame : List ℕ) → takenBy c n frame ≡ takers c n frame
+pub same-takers : (c : Command) (n : ℕ) (frame : List ℕ) → length frame ≡ frameLength c n → takenBy c n frame ≡ takers c n frame
 unfolding takers takenBy
-same-takers (Reads part) n frame = taken-read part n frame
-same-takers (Writes c) n frame = refl
-same-takers (Bares c) n frame = taken-bare c n frame
-same-takers Unlisted n frame = none-take (payloadsIn frame n)
+same-takers (Reads part) n frame whole = taken-read part n frame
+same-takers (Writes c) n frame whole = by (rulesOf c .«needs_check») refl
+  where
+    by : (needs : Bool) → rulesOf c .«needs_check» ≡ needs → takenBy (Writes c) n frame ≡ cond needs (count payloadRight (payloadsIn frame n)) n
+    by true e = taken-checked c n frame e
+    by false e = taken-unchecked c n frame e whole
+same-takers (Bares c) n frame whole = taken-bare c n frame
+same-takers Unlisted n frame whole = none-take (payloadsIn frame n)
 
 pub length-replies : (part : Part) (n : ℕ) (table : List ℕ) → length (replyData (map (reply part) (rows recordSize n table))) ≡ payloadSize * n
 unfolding replyData
@@ -120,6 +126,11 @@ module _ (table frame buffer : List ℕ) (room : payloadSize * monitors table �
       decide-append (ruleRefusals table frame) sixth refused accepted
       ∙ ap (decide (ruleRefusals table frame) refused) (passes sixth refused accepted (le-ltb (length buffer) (replyLength c n) (le-trans (reply-short c n) room), tt))
 
+  -- a frame that no refusal stops has the length for its command
+  whole-frame : Passed (ruleRefusals table frame) → length frame ≡ frameLength c n
+  unfolding ruleRefusals
+  whole-frame p = eqb-true (length frame) (frameLength c n) (not-false _ (p .1 .1 .1 .1 .0))
+
   pub frame-step : stepTo (tableAfter table frame (length buffer)) (seenIn (answer table frame (length buffer)) (replyAfter table frame buffer)) ≡ ruled table (Frame frame)
   unfolding tableAfter answer replyAfter ruled obeyed kept
   frame-step =
@@ -127,8 +138,9 @@ module _ (table frame buffer : List ℕ) (room : payloadSize * monitors table �
       ap (stepTo (tableAfter table frame (length buffer))) (decide-both seenIn rows Refused (λ r. buffer) _ _)
       ∙ decide-both stepTo rows (λ r. table) (λ r. Answered (Refused r) []) _ _
       ∙ no-sixth (λ r. stepTo table (Answered (Refused r) [])) _
-      ∙ ap₂ (λ (taken : ℕ) (back : List ℕ). decide (ruleRefusals table frame) (λ r. stepTo table (Answered (Refused r) [])) (stepTo (kept c n table frame) (Answered (Accepted taken (replyLength c n)) back)))
-      (same-takers c n frame) (same-replies c n table buffer)
+      ∙ passed-agree (ruleRefusals table frame) (λ r. stepTo table (Answered (Refused r) [])) _ _
+      (λ p. ap₂ (λ (taken : ℕ) (back : List ℕ). stepTo (kept c n table frame) (Answered (Accepted taken (replyLength c n)) back))
+      (same-takers c n frame (whole-frame p)) (same-replies c n table buffer))
 
   -- the buffer stays as long as it was
   pub length-after : length (replyAfter table frame buffer) ≡ length buffer

@@ -2,6 +2,7 @@
 -- frames; by bytes clocked one at a time. The last two are put together from what the functions of the engines promise. Each gives
 -- the table afterwards and, event by event, what was seen.
 -- Assumes nothing.
+use mathlib.Core.Bool.{cond}
 use mathlib.Core.List.{List, [], _∷_, map}
 use Prim.Native.Nat.{ℕ, _-_, _*_, _≤_}
 use lib.IntN.{ℤ}
@@ -14,6 +15,7 @@ use Rattle.refusals.specs.Order.{Row, decide}
 use Rattle.records.specs.declared.commands.Command.{Command}
 use Rattle.records.specs.declared.commands.Command.the-variants.{Reads, Writes, Bares, Unlisted}
 use Rattle.records.specs.Record.{recordSize}
+use Rattle.writes.specs.Writes.{rulesOf}
 use Rattle.monitor.specs.Effects.{keeps}
 use Rattle.reads.specs.Reply.{reply}
 use Rattle.records.specs.Commands.{payloadSize, replyLength}
@@ -79,9 +81,9 @@ ruleRefusals table frame =
     ∷ lengthRow (length frame) (commandIn frame) (monitors table)
     ∷ []
 
--- how many of n monitors took a frame: in a write those whose own eight bytes are good
+-- how many of n monitors took a frame: of a write that needs its check right those whose own eight bytes are right, of any other command all
 unfoldable pub takers : Command → ℕ → List ℕ → ℕ
-takers (Writes c) n frame = count payloadRight (payloadsIn frame n)
+takers (Writes c) n frame = cond (rulesOf c .«needs_check») (count payloadRight (payloadsIn frame n)) n
 takers (Reads part) n frame = n
 takers (Bares c) n frame = n
 takers Unlisted n frame = 0

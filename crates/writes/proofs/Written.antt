@@ -1,7 +1,8 @@
--- What a taken write needs: its rules fit a record, and the retention byte before the command says whether it changes something.
+-- Which writes need their check right. What a taken write needs: its rules fit a record, and the retention byte before the command says
+-- whether it changes something.
 -- And where the promise of `write` comes to what is written, and where to the slice as it was, by the two lengths that it tests.
 -- Assumes nothing.
-use mathlib.Core.Path.{_≡_, ap, ap₂}
+use mathlib.Core.Path.{_≡_, refl, ap, ap₂}
 use mathlib.Core.Bool.{Bool, true, false, cond, not, _&&_, _||_}
 use mathlib.Core.List.{List}
 use Prim.Native.Nat.{ℕ, _+_, _≤_, _<_}
@@ -14,6 +15,15 @@ use Rattle.writes.specs.declared.writes.Rules.{Rules}
 use Rattle.records.specs.Record.{recordSize, isRecord}
 use Rattle.writes.specs.Writes.{rulesOf, opens, written}
 use Rattle.records.proofs.Answers.{is-record, no-record}
+
+pub needs-but-wrrr : (w : Write) → (w ≡ Wrrr → ⊥) → rulesOf w .«needs_check» ≡ true
+needs-but-wrrr Wrcfga other = refl
+needs-but-wrrr Wrcfgb other = refl
+needs-but-wrrr Wrrr other = absurd (other refl)
+needs-but-wrrr Clrflag other = refl
+needs-but-wrrr Clovuv other = refl
+needs-but-wrrr Wrpwma other = refl
+needs-but-wrrr Wrpwmb other = refl
 
 pub rules-fit : (w : Write) → rulesOf w .at + 6 ≤ recordSize
 rules-fit Wrcfga = lit≤ tt
