@@ -25,14 +25,14 @@ use Rattle.refusals.specs.declared.Refusal.the-variants.{TableNotSound, FrameSh
 use Rattle.refusals.specs.Order.{_gives_}
 use Rattle.refusals.proofs.Deciding.{Passed}
 use Rattle.records.specs.declared.commands.Bare.{Bare}
-use Rattle.records.specs.declared.commands.Bare.the-variants.{Mute, Unmute, Clrcell}
+use Rattle.records.specs.declared.commands.Bare.the-variants.{Mute, Unmute, Ulrr, Clrcell}
 use Rattle.records.specs.declared.commands.Command.{Command}
 use Rattle.records.specs.declared.commands.Command.the-variants.{Reads, Writes, Bares}
 use Rattle.records.specs.declared.commands.Write.{Write}
 use Rattle.records.specs.declared.commands.Write.the-variants.{Wrcfgb, Wrrr, Wrpwma, Wrpwmb}
 use Rattle.records.specs.declared.record.Part.{Part}
-use Rattle.records.specs.Record.{cellCount, cells, flags, statusBits, dccBits, pwmA, pwmB, recordSize, counter, unlocked, bytesOf as partOf, byteOf}
-use Rattle.records.specs.Commands.{commands, commandOf, isListed, rdcfgb, rdpwma, rdpwmb, mostMonitors, payloadSize, frameLength, replyLength}
+use Rattle.records.specs.Record.{cellCount, cells, flags, statusBits, dccBits, pwmA, pwmB, recordSize, retention, counter, unlocked, bytesOf as partOf, byteOf, onBytes}
+use Rattle.records.specs.Commands.{commands, commandOf, isListed, rdcfgb, rdrr, rdpwma, rdpwmb, mostMonitors, payloadSize, frameLength, replyLength}
 use Rattle.writes.specs.Writes.{written}
 use Rattle.writes.proofs.Written.{needs-but-wrrr}
 use Rattle.monitor.specs.Effects.{locked, counted, done, keeps}
@@ -78,6 +78,7 @@ use Rattle.story.proofs.Accepted.{frame-refused, write-answer, wrrr-ans
 use Rattle.story.proofs.OurHost.{own-six, write-taken-by-all, bare-taken-by-all, each-keeps-its-own, reply-right, read-taken-by-all, each-reply-its-own, each-reply-right}
 use Rattle.story.specs.ReadsBack.{ReadsBack, as-written, fixed-behind-two}
 use Rattle.story.proofs.ReadBack.{b-read-back, pwm-a-read-back, pwm-b-read-back}
+use Rattle.story.proofs.Retention.{wrrr-unlocked, wrrr-locked, retained}
 use Rattle.story.proofs.AsBefore.{base-as-before, reply-as-before, pwm-stays, a-stays, b-stays}
 use Rattle.story.proofs.Muting.{mute-answers, unmute-answers}
 use Rattle.story.proofs.BothEnds.{the-replies, handed-from-a, handed-from-b}
@@ -118,6 +119,17 @@ pub record Demand2 : Type 0 where
   right-keeps : (c : Write) (eight r : List ℕ) → payloadRight eight ≡ true
       → keeps (Writes c) eight r ≡ written c (byteOf unlocked r) eight (counted (locked r))
   wrong-keeps : (c : Write) → (c ≡ Wrrr → ⊥) → (eight r : List ℕ) → payloadRight eight ≡ false → keeps (Writes c) eight r ≡ locked r
+  -- WRRR's own lines: whatever the last two of its eight bytes are it counts, and stores the first six where byte 69 was 1, and nothing where not
+  wrrr-unlocked : (eight r : List ℕ) → length eight ≡ payloadSize → ((i : ℕ) → i < dataSize → getD eight i 0 < 256) → byteOf unlocked r ≡ 1
+      → keeps (Writes Wrrr) eight r ≡ onBytes retention (λ i old. getD eight i 0) (counted (locked r))
+  wrrr-locked : (eight r : List ℕ) → length eight ≡ payloadSize → (byteOf unlocked r ≡ 1 → ⊥) → keeps (Writes Wrrr) eight r ≡ counted (locked r)
+  -- so after a ULRR, a WRRR with any checks and a RDRR each monitor's part of the reply begins with the six bytes that the WRRR had for it
+  retained : (table unlock write read buffer : List ℕ) (room other : ℕ) → Passed (frameRefusals table unlock room) → commandIn unlock ≡ Bares Ulrr
+      → Passed (frameRefusals (tableAfter table unlock room) write other) → commandIn write ≡ Writes Wrrr → ((i : ℕ) → getD write i 0 < 256)
+      → Passed (frameRefusals (tableAfter (tableAfter table unlock room) write other) read (length buffer)) → commandIn read ≡ Reads rdrr
+      → (k : ℕ) → k < monitors table
+      → take dataSize (rowAt payloadSize k (replyAfter (tableAfter (tableAfter table unlock room) write other) read buffer))
+      ≡ take dataSize (rowAt payloadSize (monitors table - suc k) (drop 4 write))
   -- a command changes no part of a record but the retention byte, the counter and the part that is its own
   spares : (p : Part) (c : Command) (eight r : List ℕ) → Spares c p → partOf p (keeps c eight r) ≡ partOf p r
   -- the record has grown behind its byte 69, and every command but the two that write there does to the front what it does without the rest,
@@ -343,6 +355,9 @@ demand-2 =
       bare-keeps = λ c eight r. refl;
       right-keeps = keeps-right;
       wrong-keeps = λ c other eight r wrong. keeps-wrong c eight r (needs-but-wrrr c other) wrong;
+      wrrr-unlocked = wrrr-unlocked;
+      wrrr-locked = wrrr-locked;
+      retained = retained;
       spares = keeps-spares;
       as-before = base-as-before;
       replies-as-before = reply-as-before;

@@ -16,3 +16,4 @@ pub mod Surface
 pub mod Cleared
 pub mod AsBefore
 pub mod Muting
+pub mod Retention

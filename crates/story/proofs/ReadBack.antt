@@ -1,17 +1,18 @@
--- A group written by our host and read back, monitor by monitor: the first six bytes of monitor k's part of the reply are what the write
--- makes of the k-th six of our list. Configuration B and PWM group A come back as they were written, PWM group B with FF in its last four
--- bytes. One law, over the write, the part that it writes and what it makes of six bytes.
+-- What a read shows after a write: of one monitor, what the write makes of the first six of its own eight bytes. So a group written by our
+-- host and read back: the first six bytes of monitor k's part of the reply are what the write makes of the k-th six of our list.
+-- Configuration B and PWM group A come back as they were written, PWM group B with FF in its last four bytes. One law, over the write, the
+-- part that it writes and what it makes of six bytes.
 -- Assumes nothing.
 use mathlib.Core.Path.{_≡_, refl, sym, ap, ap₂, _∙_}
-use mathlib.Core.Bool.{Bool, true, false, cond, not, _||_}
+use mathlib.Core.Bool.{Bool, true, false, cond}
 use mathlib.Core.List.{List, [], _∷_, _++_}
 use Prim.Native.Nat.{ℕ, zero, suc, _+_, _-_, _*_, _≤_, _<_}
 use native.Mathlib.Nat.{mod-eq-of-lt, lt-of-lt-of-le}
 use native.Mathlib.Omega.{arith}
 use lib.Bits.{bitAnd, bitOr, and-mask, and-zero-l, and-zero-r, or-zero-l, or-zero-r}
-use lib.Dec.{eqb, lit≤}
+use lib.Dec.{lit≤}
 use lib.ListN.{length, getD, take, List·getD-append}
-use lib.Seq.{ext-getD, take-at}
+use lib.Seq.{ext-getD, length-take-le, take-at, getD-take}
 use Rattle.laws.specs.Rows.{rowAt}
 use Rattle.laws.proofs.Rows.{length-row-at, row-element}
 use Rattle.laws.proofs.Tables.{at-each}
@@ -23,10 +24,11 @@ use Rattle.records.specs.Record.{recordSize, byteOf, unlocked}
 use Rattle.records.specs.Commands.{commands, commandOf, rdcfgb, rdpwma, rdpwmb, payloadSize}
 use Rattle.writes.specs.Writes.{rulesOf, changed, byRules, opens, written}
 use Rattle.writes.proofs.Storing.{six, as-sent}
-use Rattle.monitor.specs.Effects.{locked, counted, keeps}
+use Rattle.writes.proofs.Written.{opens-always}
+use Rattle.monitor.specs.Effects.{locked, counted, goodFor, keeps}
 use Rattle.reads.specs.Reply.{register, reply}
 use Rattle.records.proofs.Anew.{length-anew, anew-inside}
-use Rattle.monitor.proofs.Keeping.{keeps-right}
+use Rattle.monitor.proofs.Keeping.{right-good, good-length, keeps-good}
 use Rattle.reads.proofs.Showing.{shows}
 use Rattle.monitor.proofs.Sound.{length-keeps, length-locked, length-counted}
 use Rattle.judging.specs.Table.{monitors, sound}
@@ -39,89 +41,104 @@ use Rattle.host.proofs.Payloads.{sealed-right}
 use Rattle.story.specs.ReadsBack.{ReadsBack, as-written, fixed-behind-two}
 use Rattle.story.proofs.OurHost.{each-keeps-its-own, each-reply-its-own, length-register}
 
--- a write that always opens, the part that it writes, and what it makes of six bytes
-record Group (c : Write) (p : Part) (becomes : List ℕ → List ℕ) : Type 0 where
-  always : rulesOf c .«only_unlocked» ≡ false
-  place : rulesOf c .at ≡ p .at
-  six-long : p .size ≡ 6
-  fits : p .at + 6 ≤ recordSize
-  as-many : (six : List ℕ) → length six ≡ dataSize → length (becomes six) ≡ dataSize
-  each : (six sent : List ℕ) → ((i : ℕ) → i < 6 → getD sent i 0 ≡ getD six i 0) → ((i : ℕ) → i < 6 → getD six i 0 < 256)
+-- a write, the part that it writes, and what it makes of six bytes
+pub record Group (c : Write) (p : Part) (becomes : List ℕ → List ℕ) : Type 0 where
+  pub place : rulesOf c .at ≡ p .at
+  pub six-long : p .size ≡ 6
+  pub fits : p .at + 6 ≤ recordSize
+  pub as-many : (six : List ℕ) → length six ≡ dataSize → length (becomes six) ≡ dataSize
+  pub each : (six sent : List ℕ) → ((i : ℕ) → i < 6 → getD sent i 0 ≡ getD six i 0) → ((i : ℕ) → i < 6 → getD six i 0 < 256)
       → (i old : ℕ) → i < 6 → changed (rulesOf c) sent i old ≡ getD (becomes six) i 0
 
 module _ (c : Write) (p : Part) (becomes : List ℕ → List ℕ) (g : Group c p becomes) where
-  -- ---- one monitor: what it shows after the write
+  -- ---- one monitor: what it shows after a write that is good for it and changes something
 
-  module _ (six r : List ℕ) (l : length six ≡ dataSize) (bytes : (i : ℕ) → i < dataSize → getD six i 0 < 256) (whole : length r ≡ recordSize) where
+  module _ (eight r : List ℕ) (good : goodFor c eight ≡ true) (opened : opens (rulesOf c) (byteOf unlocked r) ≡ true)
+      (bytes : (i : ℕ) → i < dataSize → getD eight i 0 < 256) (whole : length r ≡ recordSize) where
     abbrev after : List ℕ
-    after = keeps (Writes c) (sealed six) r
+    after = keeps (Writes c) eight r
 
     abbrev base : List ℕ
     base = counted (locked r)
 
-    sent-byte : (i : ℕ) → i < 6 → getD (sealed six) i 0 ≡ getD six i 0
-    unfolding sealed
-    sent-byte i h = List·getD-append six _ 0 i (omega arith)
+    abbrev first-six : List ℕ
+    first-six = take dataSize eight
 
-    after-is : after ≡ byRules (rulesOf c) (sealed six) base
-    unfolding written opens
-    after-is =
-        keeps-right c (sealed six) r (sealed-right six l)
-        ∙ ap (λ (b : Bool). cond (not b || eqb (byteOf unlocked r) 1) (byRules (rulesOf c) (sealed six) base) base) (g .always)
+    own-byte : (i : ℕ) → i < 6 → getD eight i 0 ≡ getD first-six i 0
+    own-byte i h = sym (getD-take dataSize eight i 0 h)
+
+    after-is : after ≡ byRules (rulesOf c) eight base
+    unfolding written
+    after-is = keeps-good c eight r good ∙ ap (λ (b : Bool). cond b (byRules (rulesOf c) eight base) base) opened
 
     length-after : length after ≡ recordSize
-    length-after = length-keeps (Writes c) (sealed six) r ∙ whole
+    length-after = length-keeps (Writes c) eight r ∙ whole
 
-    stored-byte : (i : ℕ) → i < 6 → getD after (p .at + i) 0 ≡ getD (becomes six) i 0
+    stored-byte : (i : ℕ) → i < 6 → getD after (p .at + i) 0 ≡ getD (becomes first-six) i 0
     unfolding byRules
     stored-byte i h =
         let size : length base ≡ recordSize = length-counted (locked r) ∙ length-locked r ∙ whole in
         ap (λ (x : List ℕ). getD x (p .at + i) 0) after-is
-        ∙ ap (λ (at : ℕ). getD (byRules (rulesOf c) (sealed six) base) (at + i) 0) (sym (g .place))
+        ∙ ap (λ (at : ℕ). getD (byRules (rulesOf c) eight base) (at + i) 0) (sym (g .place))
         ∙ anew-inside _ (rulesOf c .at) 6 base i h (omega (arith, g .place, g .fits))
-        ∙ g .each six (sealed six) sent-byte bytes i (getD base (rulesOf c .at + i) 0) h
+        ∙ g .each first-six eight own-byte (λ k l. rw (getD-take dataSize eight k 0 l) (bytes k l)) i (getD base (rulesOf c .at + i) 0) h
 
-    reads-back : register p after ≡ becomes six
+    pub reads-back : register p after ≡ becomes first-six
     unfolding register
     reads-back =
-        ext-getD 0 (register p after) (becomes six) (length-register p after ∙ sym (g .as-many six l))
+        let six-bytes : length first-six ≡ dataSize = length-take-le dataSize eight (omega (arith, good-length c eight good)) in
+        ext-getD 0 (register p after) (becomes first-six) (length-register p after ∙ sym (g .as-many first-six six-bytes))
         (λ i h.
         let within : i < 6 = lt-of-lt-of-le h (omega (arith, length-register p after)) in
         at-each _ 6 i within
         ∙ sym (shows p after i (omega (arith, g .six-long)) (omega (arith, length-after, g .fits)))
         ∙ stored-byte i within)
 
-  -- ---- every monitor of the chain
+  -- ---- every monitor of the chain, by a write of our host that always opens
 
-  group-reads-back : (table values buffer : List ℕ) (code : ℕ) → commandOf code commands ≡ Writes c → sound table ≡ true
-      → length values ≡ dataSize * monitors table → ((i : ℕ) → getD values i 0 < 256) → (k : ℕ) → k < monitors table
-      → register p (rowAt recordSize k (tableAfter table (frameFor code (monitors table) values) (length buffer))) ≡ becomes (rowAt dataSize k values)
-  group-reads-back table values buffer code its s count bytes k h =
-      let n = monitors table in
-      let t = is-sound table s in
-      let fits : k * recordSize + recordSize ≤ length table = omega (arith, t .whole) in
-      ap (register p) (each-keeps-its-own table values buffer code c its s count k h)
-      ∙ reads-back (rowAt dataSize k values) (rowAt recordSize k table) (length-row-at dataSize n values k h (omega arith)) row-bytes (lent-length k table fits)
-    where
-      row-bytes : (i : ℕ) → i < dataSize → getD (rowAt dataSize k values) i 0 < 256
-      row-bytes i j = rw (row-element dataSize k values i 0 j) (bytes (k * dataSize + i))
+  module _ (always : rulesOf c .«only_unlocked» ≡ false) where
+    group-reads-back : (table values buffer : List ℕ) (code : ℕ) → commandOf code commands ≡ Writes c → sound table ≡ true
+        → length values ≡ dataSize * monitors table → ((i : ℕ) → getD values i 0 < 256) → (k : ℕ) → k < monitors table
+        → register p (rowAt recordSize k (tableAfter table (frameFor code (monitors table) values) (length buffer))) ≡ becomes (rowAt dataSize k values)
+    unfolding sealed
+    group-reads-back table values buffer code its s count bytes k h =
+        let t = is-sound table s in
+        let fits : k * recordSize + recordSize ≤ length table = omega (arith, t .whole) in
+        ap (register p) (each-keeps-its-own table values buffer code c its s count k h)
+        ∙ reads-back (sealed six) r (right-good c (sealed six) (sealed-right six six-bytes)) (opens-always (rulesOf c) (byteOf unlocked r) always) sent-bytes (lent-length k table fits)
+        ∙ ap becomes sealed-six
+      where
+        six : List ℕ
+        six = rowAt dataSize k values
 
-  written-and-read-back : ReadsBack c p becomes
-  unfolding reply
-  written-and-read-back table values buffer replies write read its its-read s count bytes enough k h =
-      let frame = frameFor write (monitors table) values in
-      let after = tableAfter table frame (length buffer) in
-      let same : monitors after ≡ monitors table = monitors-after-frame table frame (length buffer) s in
-      let its-own = each-reply-its-own after replies read p its-read (sound-after-frame table frame (length buffer) s) (omega (arith, same)) k (omega (arith, same)) in
-      ap (λ (n : ℕ). take dataSize (rowAt payloadSize k (replyAfter after (frameFor read n []) replies))) (sym same)
-      ∙ ap (take dataSize) its-own
-      ∙ take-at (register p (rowAt recordSize k after)) _ dataSize (length-register p (rowAt recordSize k after))
-      ∙ group-reads-back table values buffer write its s count bytes k h
+        r : List ℕ
+        r = rowAt recordSize k table
+
+        six-bytes : length six ≡ dataSize
+        six-bytes = length-row-at dataSize (monitors table) values k h (omega arith)
+
+        sealed-six : take dataSize (sealed six) ≡ six
+        sealed-six = take-at six _ dataSize six-bytes
+
+        sent-bytes : (i : ℕ) → i < dataSize → getD (sealed six) i 0 < 256
+        sent-bytes i j = rw (List·getD-append six _ 0 i (omega (arith, six-bytes))) (rw (row-element dataSize k values i 0 j) (bytes (k * dataSize + i)))
+
+    written-and-read-back : ReadsBack c p becomes
+    unfolding reply
+    written-and-read-back table values buffer replies write read its its-read s count bytes enough k h =
+        let frame = frameFor write (monitors table) values in
+        let after = tableAfter table frame (length buffer) in
+        let same : monitors after ≡ monitors table = monitors-after-frame table frame (length buffer) s in
+        let its-own = each-reply-its-own after replies read p its-read (sound-after-frame table frame (length buffer) s) (omega (arith, same)) k (omega (arith, same)) in
+        ap (λ (n : ℕ). take dataSize (rowAt payloadSize k (replyAfter after (frameFor read n []) replies))) (sym same)
+        ∙ ap (take dataSize) its-own
+        ∙ take-at (register p (rowAt recordSize k after)) _ dataSize (length-register p (rowAt recordSize k after))
+        ∙ group-reads-back table values buffer write its s count bytes k h
 
 -- ---- as they were written
 
 -- of a write that stores all six
-whole-byte : (c : Write) → rulesOf c .stored ≡ six 255 → rulesOf c .kept ≡ six 0 → rulesOf c .ones ≡ six 0
+pub whole-byte : (c : Write) → rulesOf c .stored ≡ six 255 → rulesOf c .kept ≡ six 0 → rulesOf c .ones ≡ six 0
     → (bs sent : List ℕ) → ((i : ℕ) → i < 6 → getD sent i 0 ≡ getD bs i 0) → ((i : ℕ) → i < 6 → getD bs i 0 < 256)
     → (i old : ℕ) → i < 6 → changed (rulesOf c) sent i old ≡ getD bs i 0
 whole-byte c st ke on bs sent same bytes i old h =
@@ -130,12 +147,12 @@ whole-byte c st ke on bs sent same bytes i old h =
 pub b-read-back : ReadsBack Wrcfgb rdcfgb as-written
 b-read-back =
     written-and-read-back Wrcfgb rdcfgb as-written
-    (record { always = refl; place = refl; six-long = refl; fits = lit≤ tt; as-many = λ six l. l; each = whole-byte Wrcfgb refl refl refl })
+    (record { place = refl; six-long = refl; fits = lit≤ tt; as-many = λ six l. l; each = whole-byte Wrcfgb refl refl refl }) refl
 
 pub pwm-a-read-back : ReadsBack Wrpwma rdpwma as-written
 pwm-a-read-back =
     written-and-read-back Wrpwma rdpwma as-written
-    (record { always = refl; place = refl; six-long = refl; fits = lit≤ tt; as-many = λ six l. l; each = whole-byte Wrpwma refl refl refl })
+    (record { place = refl; six-long = refl; fits = lit≤ tt; as-many = λ six l. l; each = whole-byte Wrpwma refl refl refl }) refl
 
 -- ---- the first two as they were written, and FF
 
@@ -164,4 +181,4 @@ byte-of-b six sent same bytes (suc (suc (suc (suc (suc (suc i)))))) old h = absu
 pub pwm-b-read-back : ReadsBack Wrpwmb rdpwmb fixed-behind-two
 pwm-b-read-back =
     written-and-read-back Wrpwmb rdpwmb fixed-behind-two
-    (record { always = refl; place = refl; six-long = refl; fits = lit≤ tt; as-many = λ six l. refl; each = byte-of-b })
+    (record { place = refl; six-long = refl; fits = lit≤ tt; as-many = λ six l. refl; each = byte-of-b }) refl
