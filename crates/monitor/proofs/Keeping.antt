@@ -74,14 +74,21 @@ module _ (c : Write) (eight r : List ℕ) where
   pub keeps-wrong : rulesOf c .«needs_check» ≡ true → payloadRight eight ≡ false → keeps (Writes c) eight r ≡ locked r
   keeps-wrong needs h = keeps-bad (good-checked c eight needs ∙ h)
 
-  -- what `write` leaves of a record that was counted
-  pub kept-good : goodFor c eight ≡ true → {begun after : List ℕ} → length begun ≡ recordSize → begun ≡ counted (locked r)
-      → after ≡ cond (isRecord begun && leb 6 (length eight)) (written c (byteOf unlocked r) eight begun) begun → after ≡ keeps (Writes c) eight r
-  kept-good h {begun} l e w =
-      w
-      ∙ six-for-record c (byteOf unlocked r) eight begun l (omega (arith, good-length c eight h))
-      ∙ ap (written c (byteOf unlocked r) eight) e
-      ∙ sym (keeps-good h)
+  -- a record that was begun by whether the write is taken, and what is left of it: `write` follows where it is, and nothing where not
+  module _ {took : Bool} (by : took ≡ goodFor c eight) {begun : List ℕ} (b : begun ≡ cond took (counted (locked r)) (locked r)) where
+    begun-by : {t : Bool} → took ≡ t → begun ≡ cond t (counted (locked r)) (locked r)
+    begun-by e = b ∙ ap (λ (t : Bool). cond t (counted (locked r)) (locked r)) e
+
+    pub kept-good : took ≡ true → length begun ≡ recordSize → {after : List ℕ}
+        → after ≡ cond (isRecord begun && leb 6 (length eight)) (written c (byteOf unlocked r) eight begun) begun → after ≡ keeps (Writes c) eight r
+    kept-good e l w =
+        w
+        ∙ six-for-record c (byteOf unlocked r) eight begun l (omega (arith, good-length c eight (sym by ∙ e)))
+        ∙ ap (written c (byteOf unlocked r) eight) (begun-by e)
+        ∙ sym (keeps-good (sym by ∙ e))
+
+    pub kept-bad : took ≡ false → begun ≡ keeps (Writes c) eight r
+    kept-bad e = begun-by e ∙ sym (keeps-bad (sym by ∙ e))
 
 -- ---- a slice that is a record, and one that is not
 

@@ -31,13 +31,15 @@ fn next_count(n: u8) -> u8
     if n < 63 { n + 1 } else { 1 }
 }
 
-// Locked and counted: so begins every command that is taken and is no read.
-fn count(rec: &mut [u8])
+// Locked, and counted where it is taken: so begins every command that is no read.
+fn begin(rec: &mut [u8], taken: bool)
     requires { ⌜ length (now rec) ≡ recordSize ⌝ }
-    ensures { λ _. ⌜ now (rec .exit) ≡ counted (locked (now (rec .entry))) ⌝ }
+    ensures { λ _. ⌜ now (rec .exit) ≡ cond taken (counted (locked (now (rec .entry)))) (locked (now (rec .entry))) ⌝ }
 {
     lock(rec);
-    rec[COUNTER] = next_count(rec[COUNTER]);
+    if taken {
+        rec[COUNTER] = next_count(rec[COUNTER]);
+    }
 }
 
 // The code -32768 in every cell, low byte first.
@@ -57,7 +59,7 @@ fn act_bare(what: Bare, rec: &mut [u8])
     requires { ⌜ length (now rec) ≡ recordSize ⌝ }
     ensures { λ _. ⌜ now (rec .exit) ≡ done what (counted (locked (now (rec .entry)))) ⌝ }
 {
-    count(rec);
+    begin(rec, true);
     match what {
         Bare::Mute => rec[STATUS_BITS] = rec[STATUS_BITS] | 0x10,
         Bare::Unmute => rec[STATUS_BITS] = rec[STATUS_BITS] & 0xef,
@@ -85,14 +87,12 @@ fn act_write(what: Write, rec: &mut [u8], eight: &[u8]) -> bool
     ensures { λ _. ⌜ now (rec .exit) ≡ keeps (Command.Writes what) (now (eight .entry)) (now (rec .entry)) ⌝ }
 {
     let was = rec[UNLOCKED];
-    if good_for(what, eight) {
-        count(rec);
+    let took = good_for(what, eight);
+    begin(rec, took);
+    if took {
         write(what, was, rec, eight);
-        true
-    } else {
-        lock(rec);
-        false
     }
+    took
 }
 
 // What one monitor does with an accepted command: its record changes as the rules say, and the answer is whether it took

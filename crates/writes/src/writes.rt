@@ -107,8 +107,8 @@ fn rules_of(what: Write) -> Rules
 pub fn needs_check(what: Write) -> bool
     ensures { λ r. ⌜ r ≡ rulesOf what .«needs_check» ⌝ }
 {
-    let rules = rules_of(what);
-    rules.needs_check
+    let its = rules_of(what);
+    its.needs_check
 }
 
 // One of the six bytes by a write's rules, from what was sent and what it was.

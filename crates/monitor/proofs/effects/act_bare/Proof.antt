@@ -7,8 +7,8 @@ use borrow.Author.Needs.{needs}
 use Rattle.monitor.proofs.effects.act_bare.Statement.{statement}
 use Rattle.monitor.proofs.effects.act_bare.Tie as tie
 
-count-requires : tie.Need-count-requires
-count-requires c κs = search needs
+begin-requires : tie.Need-begin-requires
+begin-requires c κs = search needs
 
 enum-told : tie.Need-enum-told
 enum-told c = search needs
@@ -51,41 +51,41 @@ same-length c = search needs
 
 returns : tie.Need-returns
 unfolding done onBytes anew
-returns c = ap₂ done (sym (c .before .enum-told .given .1)) (c .before .before .before .before .before .count .ensures)
+returns c = ap₂ done (sym (c .before .enum-told .given .1)) (c .before .before .before .before .before .begin .ensures)
 
 same-length-2 : tie.Need-same-length-2
 same-length-2 c = search needs
 
 returns-2 : tie.Need-returns-2
 unfolding done onBytes anew
-returns-2 c = ap₂ done (sym (c .before .enum-told2 .given .1)) (c .before .before .before .before .before .count .ensures)
+returns-2 c = ap₂ done (sym (c .before .enum-told2 .given .1)) (c .before .before .before .before .before .begin .ensures)
 
 same-length-3 : tie.Need-same-length-3
 same-length-3 c = search needs
 
 returns-3 : tie.Need-returns-3
 unfolding done onBytes anew
-returns-3 c = ap₂ done (sym (c .enum-told3 .given .1)) (c .before .before .before .before .count .ensures)
+returns-3 c = ap₂ done (sym (c .enum-told3 .given .1)) (c .before .before .before .before .begin .ensures)
 
 same-length-4 : tie.Need-same-length-4
 same-length-4 c = search needs
 
 returns-4 : tie.Need-returns-4
 unfolding done onBytes anew
-returns-4 c = ap₂ done (sym (c .enum-told4 .given .1)) (c .before .before .before .before .count .ensures)
+returns-4 c = ap₂ done (sym (c .enum-told4 .given .1)) (c .before .before .before .before .begin .ensures)
 
 same-length-5 : tie.Need-same-length-5
 same-length-5 c = search needs
 
 returns-5 : tie.Need-returns-5
 returns-5 c =
-    c .before .before .clear-cells .ensures ∙ ap₂ done (sym (c .before .before .before .before .enum-told5 .given .1)) (c .before .before .before .before .before .before .before .before .count .ensures)
+    c .before .before .clear-cells .ensures ∙ ap₂ done (sym (c .before .before .before .before .enum-told5 .given .1)) (c .before .before .before .before .before .before .before .before .begin .ensures)
 
 pub act-bare-spec : {M : Type 1} → statement M
 act-bare-spec =
     tie.close
     (tie.spec
-    count-requires
+    begin-requires
     enum-told
     slice-read-rec
     slice-write-rec
