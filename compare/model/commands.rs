@@ -1,4 +1,4 @@
-//! "Commands": the list of codes, and the lengths of their frames.
+//! "Commands": the list of codes, the lengths of their frames, and which writes need their check (L3).
 
 use crate::check_words::command_bytes;
 use crate::numbers::Refusal;
@@ -94,6 +94,16 @@ pub fn received(head: [u8; 4]) -> Result<Command, Refusal> {
         return Err(Refusal::CommandWrong);
     }
     listed(code).ok_or(Refusal::CodeNotListed)
+}
+
+impl Write {
+    /// Whether a monitor takes it only with a right data PEC. The chip executes WRRR even if that does not match the data (L3).
+    pub fn needs_check(self) -> bool {
+        match self {
+            Write::Wrrr => false,
+            Write::Wrcfga | Write::Wrcfgb | Write::Clrflag | Write::Clovuv | Write::Wrpwma | Write::Wrpwmb => true,
+        }
+    }
 }
 
 impl Command {

@@ -1,4 +1,4 @@
-//! Document 01, with requests L1 and L2 of document 02, written once more from the papers alone: one file for each section.
+//! Document 01, with requests L1, L2 and L3 of document 02, written once more from the papers alone: one file for each section.
 //!
 //! It shares nothing with the proved code, so that a difference between the two shows a mistake in one of them. Each public function
 //! stands beside a function of include/oskorbine.h and packs its answer the same way. Nothing here allocates.
@@ -17,6 +17,8 @@ mod readings;
 mod worked_discharge;
 #[cfg(test)]
 mod worked_examples;
+#[cfg(test)]
+mod worked_retention;
 
 pub use chain::{compare, frame, load, store};
 pub use check_words::{

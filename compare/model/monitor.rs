@@ -1,5 +1,5 @@
 //! One monitor's record: what a command does to it, what it replies, and its cells stored, compared and loaded ("Effects", "Counter",
-//! "Thresholds", L1, and the PWM groups of L2).
+//! "Thresholds", L1, the PWM groups of L2, and retention by L3).
 
 use crate::check_words::{payload, payload_right};
 use crate::commands::{at, Bare, Read, Write};
@@ -38,7 +38,7 @@ pub fn lock(record: &mut Record) {
 pub fn write(record: &mut Record, write: Write, sent: &[u8; 8]) -> bool {
     let unlocked = record[at::UNLOCKED] == 1;
     lock(record);
-    if !payload_right(sent) {
+    if write.needs_check() && !payload_right(sent) {
         return false;
     }
     let data = &sent[..6];
