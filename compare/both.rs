@@ -2,13 +2,12 @@
 
 use crate::cells;
 use crate::difference::{listed, refused, Difference, Faults};
-use crate::inputs::{at, shape, Shape, RECORD};
+use crate::effects;
 use crate::lent::{Both, Lent};
 use crate::outputs::{self, Question};
 use crate::run::{Done, Run};
 use crate::surface::{self, Function};
-use crate::tally::Situation;
-use model::MUTE_ST;
+use crate::tally::{Engine, Situation};
 
 pub type Answered = Result<u32, Box<Difference>>;
 /// With the bytes of the buffer that the call was lent to write in.
@@ -42,51 +41,9 @@ pub fn frame_into(run: &mut Run, table: &mut Both<u8>, frame: &[u8], reply: &mut
         vec![("table", listed(&table.before)), ("frame", listed(frame)), ("reply", listed(&reply.before))]
     })?;
     if !refused(library) {
-        let code = u16::from_be_bytes([frame[0], frame[1]]);
-        run.tally.accepted_whole(code);
-        note_effects(run, frame, library, table);
+        effects::note(run, Engine::Whole, frame, table);
     }
     Ok(library)
-}
-
-const WRPWMA: u16 = 0x0020;
-const WRPWMB: u16 = 0x0021;
-
-/// Which situations an accepted frame was, read off the table before and after.
-pub fn note_effects(run: &mut Run, frame: &[u8], answer: u32, table: &Both<u8>) {
-    let code = u16::from_be_bytes([frame[0], frame[1]]);
-    let monitors = table.before.len() / RECORD;
-    let took = (answer >> 8 & 0xFF) as usize;
-    if shape(code) == Some(Shape::Write) && took < monitors {
-        run.tally.saw(if took == 0 { Situation::TakenByNone } else { Situation::TakenBySome });
-    }
-    for (record, (before, after)) in table.before.chunks(RECORD).zip(table.contents().chunks(RECORD)).enumerate() {
-        let taken = before[at::COUNTER] != after[at::COUNTER];
-        if before[at::COUNTER] == 63 && after[at::COUNTER] == 1 {
-            run.tally.saw(Situation::CounterAfter63);
-        }
-        if code == 0x0001 && taken && before[5] & MUTE_ST != 0 {
-            run.tally.saw(Situation::WrcfgaWhileMuted);
-        }
-        if code == 0x0039 && taken {
-            run.tally.saw(if before[at::UNLOCKED] == 1 { Situation::WrrrStores } else { Situation::WrrrLocked });
-        }
-        if let WRPWMA | WRPWMB = code {
-            let sent = &frame[4 + 8 * (monitors - 1 - record)..][..6];
-            note_pwm(run, code, taken, sent, &before[at::PWM_B..]);
-        }
-    }
-}
-
-/// A write to a PWM group, sent with these six bytes where group B held those.
-fn note_pwm(run: &mut Run, code: u16, taken: bool, sent: &[u8], group_b: &[u8]) {
-    const FIXED: [u8; 4] = [0xFF; 4];
-    if !taken {
-        run.tally.saw(Situation::WrpwmDamaged);
-    } else if code == WRPWMB {
-        run.tally.saw_if(Situation::WrpwmbSentOther, sent[2..6] != FIXED);
-        run.tally.saw_if(Situation::WrpwmbMakesFf, group_b[2..6] != FIXED);
-    }
 }
 
 pub fn store(run: &mut Run, table: &mut Both<u8>, position: usize, codes: &[i16]) -> Answered {

@@ -87,7 +87,8 @@ impl Chain {
         }
     }
 
-    pub fn frame(&mut self, run: &mut Run, frame: &[u8]) -> Done {
+    /// The answer and, where it is an accepted read's, the reply.
+    pub fn frame(&mut self, run: &mut Run, frame: &[u8]) -> Written {
         let mut reply = reply_buffer(run, 8 * self.monitors);
         let answer = frame_into(run, &mut self.whole, frame, &mut reply)?;
 
@@ -111,6 +112,6 @@ impl Chain {
         if !faults.none() {
             run.settle(Function::ClockRelease, release, faults, || vec![("table", listed(&table)), ("frame", listed(frame))])?;
         }
-        Ok(())
+        Ok((answer, reply.contents().to_vec()))
     }
 }

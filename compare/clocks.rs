@@ -1,12 +1,13 @@
 //! One clock of the library and one of the model, driven together. After every byte the windows of all positions are compared.
 
-use crate::both::{note_effects, Answered};
+use crate::both::Answered;
 use crate::difference::{listed, refused, Difference, Faults};
+use crate::effects;
 use crate::inputs::{at, RECORD};
 use crate::lent::{Both, Lent};
 use crate::run::{Done, Run};
 use crate::surface::{self, Function, CLOCK_STATE};
-use crate::tally::Situation;
+use crate::tally::{Engine, Situation};
 
 /// Positions that are looked at: each that a chain can have, and two beyond.
 const POSITIONS: usize = 34;
@@ -160,9 +161,7 @@ impl Clocks {
 
     fn note(&self, run: &mut Run, answer: u32, table: &Both<u8>) {
         if !refused(answer) {
-            let code = u16::from_be_bytes([self.came[0], self.came[1]]);
-            run.tally.accepted_clocked(code);
-            note_effects(run, &self.came, answer, table);
+            effects::note(run, Engine::Clocked, &self.came, table);
         } else if answer == 1 && sound(&table.before) && self.came.len() >= 4 {
             let unsound = !sound(&self.at_four);
             run.tally.saw(if unsound { Situation::UnsoundAtByteFour } else { Situation::OtherNAtRelease });

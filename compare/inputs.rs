@@ -39,6 +39,7 @@ pub const LISTED: [(u16, &str); 26] = [
 ];
 const READS: std::ops::Range<usize> = 0..14;
 const WRITES: std::ops::Range<usize> = 14..21;
+pub const WRRR: u16 = 0x0039;
 
 #[derive(Clone, Copy, PartialEq, Eq)]
 pub enum Shape {
@@ -79,6 +80,18 @@ pub fn head(code: u16) -> [u8; 4] {
     [high, low, pec_high, pec_low]
 }
 
+/// The writes that a monitor takes only with a right data PEC: all but one (L3).
+pub fn needs_check(code: u16) -> bool {
+    shape(code) == Some(Shape::Write) && code != WRRR
+}
+
+/// Six bytes with these counter bits, and the PEC that belongs to them.
+pub fn with_check(six: [u8; 6], counter: u8) -> [u8; 8] {
+    let [pec_high, pec_low] = model::data_pec_with_counter(&six, counter).to_be_bytes();
+    let [a, b, c, d, e, f] = six;
+    [a, b, c, d, e, f, counter << 2 | pec_high, pec_low]
+}
+
 /// A right payload; its counter bits are often 0, as our host sends them, and otherwise any.
 pub fn payload(random: &mut Random) -> [u8; 8] {
     let six: [u8; 6] = match random.below(4) {
@@ -86,12 +99,7 @@ pub fn payload(random: &mut Random) -> [u8; 8] {
         _ => random.next().to_le_bytes()[..6].try_into().expect("six of eight bytes"),
     };
     let counter = if random.once_in(2) { 0 } else { random.below(64) as u8 };
-    let [pec_high, pec_low] = model::data_pec_with_counter(&six, counter).to_be_bytes();
-    let mut eight = [0; 8];
-    eight[..6].copy_from_slice(&six);
-    eight[6] = counter << 2 | pec_high;
-    eight[7] = pec_low;
-    eight
+    with_check(six, counter)
 }
 
 /// One or more wrong bits: one, two, or a byte that is another one.
@@ -105,6 +113,21 @@ pub fn damage(random: &mut Random, bytes: &mut [u8]) {
             bytes[other] ^= 1 << random.below(8);
         }
         _ => bytes[place] = bytes[place].wrapping_add(1 + random.below(255) as u8),
+    }
+}
+
+pub fn is_damaged(payload: &[u8]) -> bool {
+    model::check(payload) == 2 << 8
+}
+
+/// A payload that is damaged for certain: wrong bits may undo one another.
+pub fn damaged_payload(random: &mut Random) -> [u8; 8] {
+    loop {
+        let mut eight = payload(random);
+        damage(random, &mut eight);
+        if is_damaged(&eight) {
+            return eight;
+        }
     }
 }
 

@@ -7,6 +7,7 @@ mod cells;
 mod chain;
 mod clocks;
 mod difference;
+mod effects;
 mod inputs;
 mod lent;
 mod outputs;

@@ -1,6 +1,6 @@
 //! What came up, so that a run which tried too little fails instead of passing.
 
-use crate::inputs::LISTED;
+use crate::inputs::{needs_check, LISTED};
 use crate::surface::Function;
 use std::collections::BTreeMap;
 
@@ -11,29 +11,37 @@ const AT_LEAST: u64 = 50;
 pub const NEVER_STARTED: &str = "never started";
 
 macro_rules! situations {
-    ($($name:ident: $words:literal,)*) => {
+    ($kind:ident: $($name:ident: $words:literal,)*) => {
         #[derive(Clone, Copy, PartialEq, Eq, PartialOrd, Ord, Debug)]
-        pub enum Situation {
+        pub enum $kind {
             $($name),*
         }
 
-        impl Situation {
-            const ALL: &[(Situation, &'static str)] = &[$((Situation::$name, $words)),*];
+        impl $kind {
+            const ALL: &[($kind, &'static str)] = &[$(($kind::$name, $words)),*];
         }
     };
 }
 
-// Situations that the answers alone do not show.
-situations! {
+// What an accepted frame did that its answer alone does not show. Each must come up in both engines.
+situations! { Effect:
     TakenBySome: "a write taken by some monitors only",
     TakenByNone: "a write taken by none",
     CounterAfter63: "a counter of 63 becomes 1",
     WrcfgaWhileMuted: "WRCFGA taken while muted",
-    WrrrStores: "WRRR stores",
-    WrrrLocked: "WRRR taken while locked",
-    WrpwmDamaged: "a WRPWMA or WRPWMB whose payload is damaged",
+    WrrrStores: "WRRR stores a right payload",
+    WrrrLocked: "WRRR with a right payload taken while locked",
+    WrrrDamagedStores: "WRRR stores a damaged payload",
+    WrrrDamagedLocked: "WRRR with a damaged payload taken while locked",
+    WrrrDamagedAfter63: "WRRR with a damaged payload makes 1 of a counter of 63",
+    WrrrAllDamaged: "WRRR with damaged payloads only, taken by several monitors",
+    WrrrDamagedBoth: "WRRR with a right payload, and damaged ones at a locked and at an unlocked monitor",
     WrpwmbSentOther: "WRPWMB taken with something other than FF for bytes 2 to 5",
     WrpwmbMakesFf: "WRPWMB makes FF of bytes 2 to 5 that were something else",
+}
+
+// Other situations that the answers alone do not show.
+situations! { Situation:
     StoreFlagsNothing: "a store of a code past a threshold, where no flag stands",
     StoreKeepsFlag: "a store leaves a flag of a cell within its thresholds",
     CompareSetsUv: "a compare sets UV",
@@ -88,16 +96,34 @@ situations! {
     WindowPartlyFull: "a window holds 1 to 7 bytes",
     OtherNAtRelease: "a release with a table of another N",
     UnsoundAtByteFour: "a release after an unsound table at byte four",
+    DamagedRetentionShown: "ULRR, a damaged WRRR, and RDRR shows the bytes sent",
+    DamagedRetentionAfterRefusal: "ULRR, a refused frame, a damaged WRRR, and RDRR shows the bytes sent",
+    DamagedRetentionLocked: "ULRR, another command, a damaged WRRR, and RDRR shows what stood",
+    DamagedRetentionTwice: "ULRR, two damaged WRRRs, and RDRR shows the bytes of the first",
 }
 
 /// Accepted calls at 0, refusals at their number.
 type Answers = [u64; 11];
 
+/// The two ways for a frame to come.
+#[derive(Clone, Copy)]
+pub enum Engine {
+    Whole,
+    Clocked,
+}
+
+/// What came up of one engine's accepted frames: how many of each command, its damaged payloads that were not taken, and the effects.
+#[derive(Default)]
+struct Frames {
+    accepted: [u64; LISTED.len()],
+    not_taken: [u64; LISTED.len()],
+    effects: BTreeMap<Effect, u64>,
+}
+
 #[derive(Default)]
 pub struct Tally {
     kinds: Vec<(&'static str, [Answers; Function::ALL.len()])>,
-    whole: [u64; LISTED.len()],
-    clocked: [u64; LISTED.len()],
+    frames: [Frames; 2],
     situations: BTreeMap<Situation, u64>,
     kind: usize,
 }
@@ -132,12 +158,18 @@ impl Tally {
         }
     }
 
-    pub fn accepted_whole(&mut self, code: u16) {
-        self.whole[place_of(code)] += 1;
+    pub fn accepted(&mut self, engine: Engine, code: u16) {
+        self.frames[engine as usize].accepted[place_of(code)] += 1;
     }
 
-    pub fn accepted_clocked(&mut self, code: u16) {
-        self.clocked[place_of(code)] += 1;
+    pub fn not_taken(&mut self, engine: Engine, code: u16) {
+        self.frames[engine as usize].not_taken[place_of(code)] += 1;
+    }
+
+    pub fn did_if(&mut self, engine: Engine, effect: Effect, came_up: bool) {
+        if came_up {
+            *self.frames[engine as usize].effects.entry(effect).or_default() += 1;
+        }
     }
 
     fn answers_of(&self, function: Function) -> Answers {
@@ -179,9 +211,16 @@ impl Tally {
                 want(answers[number], format!("{} refused with {number}", function.name()));
             }
         }
-        for (place, (code, name)) in LISTED.iter().enumerate() {
-            want(self.whole[place], format!("{name} ({code:04X}) accepted as a whole frame"));
-            want(self.clocked[place], format!("{name} ({code:04X}) accepted at a release"));
+        for (frames, how) in self.frames.iter().zip(["as a whole frame", "at a release"]) {
+            for (place, (code, name)) in LISTED.iter().enumerate() {
+                want(frames.accepted[place], format!("{name} ({code:04X}) accepted {how}"));
+                if needs_check(*code) {
+                    want(frames.not_taken[place], format!("{name} ({code:04X}) with a damaged payload not taken {how}"));
+                }
+            }
+            for (effect, name) in Effect::ALL {
+                want(frames.effects.get(effect).copied().unwrap_or(0), format!("{name} {how}"));
+            }
         }
         for (situation, name) in Situation::ALL {
             want(self.situations.get(situation).copied().unwrap_or(0), name.to_string());

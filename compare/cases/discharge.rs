@@ -146,7 +146,8 @@ fn every_refusal(run: &mut Run) -> Done {
 /// The host's frame of a command, through both engines.
 fn send(run: &mut Run, chain: &mut Chain, code: u16, values: &[u8]) -> Done {
     let (built, out) = host_frame(run, code, chain.monitors(), values, 4 + 8 * MOST)?;
-    chain.frame(run, &out[..(built >> 16) as usize])
+    chain.frame(run, &out[..(built >> 16) as usize])?;
+    Ok(())
 }
 
 /// Duties as the host writes them, with no DCC bit and no mute: each monitor's outputs go by its own values.

@@ -9,13 +9,14 @@ mod long_runs;
 mod never_started;
 mod payloads;
 mod readings;
+mod retention;
 mod stores;
 mod tables;
 
 use crate::run::{Done, Run};
 use crate::tally::NEVER_STARTED;
 
-pub const KINDS: [(&str, fn(&mut Run) -> Done); 11] = [
+pub const KINDS: [(&str, fn(&mut Run) -> Done); 12] = [
     ("frames", frames::cases),
     ("tables", tables::cases),
     ("stores", stores::cases),
@@ -25,6 +26,7 @@ pub const KINDS: [(&str, fn(&mut Run) -> Done); 11] = [
     ("payloads", payloads::cases),
     ("readings", readings::cases),
     ("clocked", clocked::cases),
+    ("retention", retention::cases),
     ("long runs", long_runs::cases),
     (NEVER_STARTED, never_started::cases),
 ];
