@@ -114,11 +114,12 @@ fn unlocked_written_and_read(run: &mut Run) -> Done {
         };
         let stood = chain.table().chunks(RECORD).flat_map(|record| record[at::RETENTION..][..6].to_vec()).collect();
         let sent = damaged_wrrr(run, &mut chain)?;
-        run.tally.saw_if(situation, sent != stood);
+        let told = sent != stood;
         let read = inputs::frame_of(&mut run.random, RDRR, monitors);
         let (_, reply) = chain.frame(run, &read)?;
         let shown = reply.chunks(8).flat_map(|eight| eight[..6].to_vec()).collect();
         expect(run, Function::Frame, (shown, if locked { stood } else { sent }), chain.table(), monitors)?;
+        run.tally.saw_if(situation, told);
     }
     Ok(())
 }

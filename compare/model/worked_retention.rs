@@ -56,7 +56,7 @@ fn a_damaged_wrrr_stores_where_unlocked_and_counts_everywhere() {
     }
 }
 
-/// The far monitor's payload comes first on the wire. One monitor is unlocked, and one payload is damaged: that and the other one.
+/// The far monitor's payload comes first on the wire. One monitor is unlocked and one payload is damaged, in each of the four ways.
 #[test]
 fn two_monitors_of_which_one_is_unlocked() {
     let [by_right, by_damaged] = [[0, 0, 0, 0, 0, 1], [1, 2, 3, 4, 5, 6]];
