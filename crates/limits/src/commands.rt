@@ -17,7 +17,7 @@ use crate::words::CASES;
 // 3, 4. Of a read, the replies of the first and the second monitor. Of a write, the eight bytes that each is sent, and of a load, a
 //    store or a compare the first is what WRCFGB sent before it, to both, where its table asks for that.
 // 5, 6. The bytes that are expected at that place of the first and the second record. Every other byte stays as it was.
-const ROWS: [u64; 570] = [
+const ROWS: [u64; 606] = [
     // MUTE on 0, 1, 32 and 33 monitors of 0
     0x0028_e80e_0000_0000,
     00_00_004_008_1_00_0_00_00_0,
@@ -357,6 +357,41 @@ const ROWS: [u64; 570] = [
     0xe1e2_e3e4_e5e6_02ec,
     0x696a_6b6c_6d6e_6f70,
     0xd5d6_e1e2_ffff_ffff,
+    // WRRR, the second monitor's data damaged: it is executed all the same, so both take it, count it and store what came
+    0x0039_3812_0700_0b00,
+    03_02_020_020_0_02_2_56_08_6,
+    0x0102_0304_0506_0131,
+    0x61e2_e3e4_e5e6_02ec,
+    0x0102_0304_0506_5f60,
+    0x61e2_e3e4_e5e6_cbcc,
+    // WRRR, the first monitor's check damaged
+    0x0039_3812_0700_0b00,
+    03_02_020_020_0_02_2_56_08_6,
+    0x0102_0304_0506_0130,
+    0xe1e2_e3e4_e5e6_02ec,
+    0x0102_0304_0506_5f60,
+    0xe1e2_e3e4_e5e6_cbcc,
+    // WRRR, both damaged
+    0x0039_3812_0700_0b00,
+    03_02_020_020_0_02_2_56_08_6,
+    0x0102_0304_0506_0531,
+    0x61e2_e3e4_e5e6_02ec,
+    0x0102_0304_0506_5f60,
+    0x61e2_e3e4_e5e6_cbcc,
+    // the same, locked by a MUTE: taken and counted, and nothing is stored
+    0x0039_3812_0800_0c00,
+    04_02_020_020_0_02_2_56_08_6,
+    0x0102_0304_0506_0531,
+    0x61e2_e3e4_e5e6_02ec,
+    0x595a_5b5c_5d5e_5f60,
+    0xc5c6_c7c8_c9ca_cbcc,
+    // the same, the first monitor alone unlocked
+    0x0039_3812_0600_0a00,
+    18_02_020_020_0_02_2_56_08_6,
+    0x0102_0304_0506_0531,
+    0x61e2_e3e4_e5e6_02ec,
+    0x0102_0304_0506_5f60,
+    0xc5c6_c7c8_c9ca_cbcc,
     // MUTE, the counters being 62 and 63
     0x0028_e80e_3f00_0100,
     05_02_004_020_0_02_0_00_08_6,
@@ -369,6 +404,13 @@ const ROWS: [u64; 570] = [
     05_02_004_020_0_02_0_00_08_6,
     0,
     0,
+    0,
+    0,
+    // WRRR, both damaged, the same; locked
+    0x0039_3812_3f00_0100,
+    05_02_020_020_0_02_2_56_08_6,
+    0x0102_0304_0506_0531,
+    0x61e2_e3e4_e5e6_02ec,
     0,
     0,
     // loads that are refused
@@ -656,11 +698,11 @@ const ROWS: [u64; 570] = [
 ];
 
 fn number(k: usize) -> u64 {
-    ROWS[k % 570]
+    ROWS[k % 606]
 }
 
 pub(crate) fn command(i: usize) -> bool {
-    let k = i % 95 * 6;
+    let k = i % 101 * 6;
     let c = Case {
         given: number(k),
         sizes: number(k + 1),
@@ -669,5 +711,5 @@ pub(crate) fn command(i: usize) -> bool {
         at_first: number(k + 4),
         at_second: number(k + 5),
     };
-    tried(c, CASES + (i % 95) as u64)
+    tried(c, CASES + (i % 101) as u64)
 }

@@ -71,11 +71,11 @@ fn main() {
     let t = run(t, words::LONGEST, LONGEST, 0, 1);
     let t = run(t, words::ORDER, ORDER, 0, 26);
     let t = run(t, 0, COMMAND, 43, 44);
-    let t = run(t, words::DAMAGE, COMMAND, 44, 50);
-    let t = run(t, words::COUNTERS, COMMAND, 50, 52);
-    let t = run(t, words::LOADS, COMMAND, 52, 68);
-    let t = run(t, words::STORES, COMMAND, 68, 80);
-    let t = run(t, words::COMPARES, COMMAND, 80, 95);
+    let t = run(t, words::DAMAGE, COMMAND, 44, 55);
+    let t = run(t, words::COUNTERS, COMMAND, 55, 58);
+    let t = run(t, words::LOADS, COMMAND, 58, 74);
+    let t = run(t, words::STORES, COMMAND, 74, 86);
+    let t = run(t, words::COMPARES, COMMAND, 86, 101);
     let t = run(t, words::OUTPUTS, OUTPUTS, 0, 51);
     let t = run(t, words::HOSTS, BUILD, 0, 20);
     let t = run(t, words::VOLTS, VOLTS, 0, 5);

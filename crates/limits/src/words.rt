@@ -89,7 +89,7 @@ pub(crate) const ORDERED: u64 = 67;
 
 pub(crate) const CASES: u64 = 93;
 
-pub(crate) const ASKED: u64 = 188;
+pub(crate) const ASKED: u64 = 194;
 
 // The words of a number, with the numbers in them.
 pub(crate) fn words(k: u64, a: u64, b: u64, c: u64, d: u64) {
@@ -237,8 +237,14 @@ pub(crate) fn words(k: u64, a: u64, b: u64, c: u64, d: u64) {
     |WRCFGB, counter bits 9 and 63\
     |WRPWMA, the second monitor's data damaged\
     |WRPWMB, the first monitor's check damaged\
+    |WRRR, the second monitor's data damaged\
+    |WRRR, the first monitor's check damaged\
+    |WRRR, both damaged\
+    |WRRR, both damaged, a MUTE between\
+    |WRRR, both damaged, monitor 1 alone unlocked\
     |MUTE\
     |RSTCC\
+    |WRRR, both damaged, locked\
     |unsound table\
     |unsound table, position 0\
     |position 0\
