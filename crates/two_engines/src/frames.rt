@@ -61,6 +61,11 @@ const CODES: [u16; COMMAND_COUNT + 16] = [
 
 pub(crate) const FIRST_WRITE: usize = 14;
 
+// It is drawn so many times more often than another: what becomes of it depends on the lock, and its checks are damaged too.
+const WRRR: usize = 16;
+
+const MORE_WRRR: usize = 6;
+
 pub(crate) const FIRST_BARE: usize = 21;
 
 // One bit turned over, from a byte on, the lowest of that byte counted as 0. No byte has a bit that was not drawn.
@@ -141,7 +146,7 @@ fn put_check(frame: &mut [u8], at: usize, bit: usize)
 // In some frames now and then a bit of a payload.
 fn payload_bit(some: usize, luck: usize) -> Drawn {
     if some == 0 {
-        return now_and_then(luck, 4, 64);
+        return now_and_then(luck, 3, 64);
     }
     Drawn { luck, number: NONE }
 }
@@ -150,7 +155,7 @@ fn payload_bit(some: usize, luck: usize) -> Drawn {
 fn put_payloads(frame: &mut [u8], n: usize, luck: usize) -> usize
     requires { ⌜ (length (now frame) ≡ 600) × (n ≤ 32) ⌝ }
 {
-    let some = draw(luck, 3);
+    let some = draw(luck, 2);
     let mut last = some.luck;
     let mut k = 0;
     while k < n {
@@ -202,6 +207,19 @@ fn length_of(command: usize, n: usize, luck: usize) -> Drawn
     }
 }
 
+fn command_drawn(luck: usize) -> Drawn
+    ensures { λ r. ⌜ r .number < 26 ⌝ }
+{
+    let drawn = draw(luck, COMMAND_COUNT + MORE_WRRR);
+    if drawn.number < COMMAND_COUNT {
+        return drawn;
+    }
+    Drawn {
+        luck: drawn.luck,
+        number: WRRR,
+    }
+}
+
 // A frame, at the start of an array.
 pub(crate) struct Frame {
     pub bytes: [u8; LONGEST],
@@ -214,7 +232,7 @@ pub(crate) fn make(n: usize, luck: usize) -> Frame
     requires { ⌜ n ≤ 32 ⌝ }
     ensures { λ r. ⌜ r .length ≤ 600 ⌝ }
 {
-    let command = draw(luck, COMMAND_COUNT);
+    let command = command_drawn(luck);
     let mut bytes = [0; LONGEST];
     let left = fill(&mut bytes, command.luck);
     let left = start(&mut bytes, command.number, left);

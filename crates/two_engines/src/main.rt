@@ -42,7 +42,7 @@ fn sent(w: World, n: usize, command: usize, bytes: [u8; LONGEST], length: usize)
 fn turn(world: World, n: usize) -> World
     requires { ⌜ (0 < n) × (n ≤ 32) ⌝ }
 {
-    let mut w = tables::now_and_then_stirred(world, 4);
+    let mut w = tables::now_and_then_stirred(world, 2);
     let made = frames::make(n, w.luck);
     let bytes = made.bytes;
     w.luck = made.luck;
