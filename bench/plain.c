@@ -226,7 +226,7 @@ static size_t take_write(uint8_t *table, size_t n, uint16_t code, const uint8_t 
     for (size_t i = 0; i < n; i++) {
         uint8_t *record = table + i * RECORD;
         const uint8_t *payload = payloads + 8 * (n - 1 - i);
-        if (right(payload)) {
+        if (code == WRRR || right(payload)) { /* the chip executes WRRR whatever its check */
             store(record, code, payload);
             raise_counter(record);
             taken++;

@@ -309,7 +309,9 @@ def osk_frame(table: Writable, frame: Readable, reply: Writable) -> Answer:
     """Handles a frame. The table becomes what the monitors keep of it; the reply to a read, nearest monitor first, goes to the start of
     `reply`, and bytes past it stay.
 
-    First: how many monitors took the frame (N for a read or a bare command). Second: the length of the reply (8N for a read, else 0).
+    First: how many monitors took the frame: N for a read, a bare command or a WRRR, and for any other write as many as found the data PEC
+    of their own eight bytes right. A WRRR is executed whatever its data PEC: every monitor takes and counts it, stores its own six bytes
+    only where its retention was unlocked, and is locked after it. Second: the length of the reply (8N for a read, else 0).
     Refusals: 1, 2, 3, 4, 5, 6 (6 only for reads).
     """
     return Answer(_call(_library.osk_frame, _written("table", table), _read("frame", frame), _written("reply", reply)))

@@ -1,6 +1,7 @@
 """Every function with values and refusals that the paper gives, or that follow from it by the division in paper_wire.py."""
 
 import array
+import itertools
 import math
 import unittest
 
@@ -181,6 +182,29 @@ class Frames(Case):
         table = filled(1, unlocked=1)
         self.assert_answer(osk_frame(table, wire.read(wire.RDRR, 1), bytearray(8)), 1, 8)
         self.assertEqual(table, filled(1), "a read locks too")
+
+    def test_retention_whatever_the_check(self):
+        right = int.from_bytes(wire.payload(bytes.fromhex("A1A2A3A4A5A6")), "big")
+        for bit in range(64):
+            sent = (right ^ 1 << bit).to_bytes(8, "big")
+            with self.subTest(sent=sent.hex()):
+                frame = wire.write(wire.WRRR, sent)
+                self.changes(filled(1), frame, {COUNTER: b"\x06"}, 1)
+                self.changes(filled(1, unlocked=1), frame, {56: sent[:6], COUNTER: b"\x06\x00"}, 1)
+
+    def test_retention_monitor_by_monitor(self):
+        near, middle, far = (bytes([number] * 6) for number in (1, 2, 3))
+        table = edited(filled(3, unlocked=1), {RECORD + UNLOCKED: b"\x00", 2 * RECORD + COUNTER: b"\x3f"})
+        for damage in itertools.product((wire.payload, lambda six: wire.damaged(wire.payload(six))), repeat=3):
+            frame = wire.write(wire.WRRR, *(made(six) for made, six in zip(damage, (near, middle, far))))
+            self.changes(table, frame, {56: near, COUNTER: b"\x06\x00", RECORD + COUNTER: b"\x06", 2 * RECORD + 56: far,
+                                        2 * RECORD + COUNTER: b"\x01\x00"}, 3)
+
+    def test_every_other_write_needs_its_check(self):
+        for command in wire.WRCFGA, wire.WRCFGB, wire.CLRFLAG, wire.CLOVUV, wire.WRPWMA, wire.WRPWMB:
+            with self.subTest(command=f"{command:04X}"):
+                frame = wire.write(command, wire.damaged(wire.payload(b"\xff" * 6)), wire.damaged(wire.payload(bytes(6))))
+                self.changes(filled(2, unlocked=1), frame, {UNLOCKED: b"\x00", RECORD + UNLOCKED: b"\x00"}, 0)
 
     def test_pwm_groups(self):
         six = bytes.fromhex("0102030405A6")
@@ -617,6 +641,21 @@ class Clock(Case):
         clocked(state, table, wire.write(wire.WRCFGB, wire.damaged(wire.payload(six)), wire.payload(six)))
         self.assert_answer(osk_clock_release(state, table), 1, 0)
         self.assertEqual(table, edited(filled(2), {RECORD + 6: six, RECORD + COUNTER: b"\x06"}))
+
+    def test_licence_number_of_a_damaged_wrrr(self):
+        """ULRR, WRRR with both payloads damaged, RDRR: by whole frames and clocked. A second WRRR finds both locked."""
+        near, far = bytes.fromhex("4C4943313233"), bytes.fromhex("4C4943393837")
+        first, second = (wire.write(wire.WRRR, *(wire.damaged(wire.payload(six)) for six in sixes)) for sixes in ((near, far), (far, near)))
+        state, tables = started(), (filled(2), filled(2))
+        for frame in wire.command_bytes(wire.ULRR), first, second:
+            self.assert_answer(osk_frame(tables[0], frame, bytearray()), 2, 0)
+            clocked(state, tables[1], frame)
+            self.assert_answer(osk_clock_release(state, tables[1]), 2, 0)
+            self.assertEqual(*tables)
+        reply = bytearray(16)
+        self.assert_answer(osk_frame(tables[0], wire.read(wire.RDRR, 2), reply), 2, 16)
+        self.assertEqual(reply, wire.payload(near, 8) + wire.payload(far, 8))
+        self.assertEqual(clocked(state, tables[1], wire.read(wire.RDRR, 2))[4:], reply)
 
     def test_read(self):
         state, table = started(), filled(2, unlocked=1)
