@@ -1,4 +1,4 @@
-/* Document 01 and L2 in plain C99. See plain.h. */
+/* Document 01, L2 and L3 in plain C99. See plain.h. */
 #include "plain.h"
 
 #include <stdbool.h>

@@ -15,14 +15,14 @@ use Rattle.records.specs.declared.commands.Command.{Command}
 use Rattle.records.specs.declared.commands.Command.the-variants.{Writes}
 use Rattle.records.specs.Record.{unlocked, recordSize, byteOf, isRecord}
 use Rattle.records.specs.Commands.{payloadSize}
-use Rattle.writes.specs.Writes.{rulesOf, written}
+use Rattle.writes.specs.Writes.{rulesOf, byRules, opens, written}
 use Rattle.monitor.specs.Effects.{locked, counted, goodFor, takes, keeps}
 use Rattle.records.proofs.Answers.{is-record, no-record, both-first}
 use Rattle.writes.proofs.Written.{six-for-record}
 
 -- ---- one's own eight bytes
 
-pub right-length : (eight : List ℕ) → payloadRight eight ≡ true → length eight ≡ payloadSize
+right-length : (eight : List ℕ) → payloadRight eight ≡ true → length eight ≡ payloadSize
 unfolding payloadRight
 right-length eight h = eqb-true (length eight) payloadSize (both-first (eqb (length eight) payloadSize) _ h)
 
@@ -63,6 +63,12 @@ module _ (c : Write) (eight r : List ℕ) where
   pub keeps-good : goodFor c eight ≡ true → keeps (Writes c) eight r ≡ written c (byteOf unlocked r) eight (counted (locked r))
   unfolding keeps
   keeps-good h = ap keptBy h
+
+  -- and so by whether the write changes something
+  pub keeps-opened : goodFor c eight ≡ true → {b : Bool} → opens (rulesOf c) (byteOf unlocked r) ≡ b
+      → keeps (Writes c) eight r ≡ cond b (byRules (rulesOf c) eight (counted (locked r))) (counted (locked r))
+  unfolding written
+  keeps-opened h e = keeps-good h ∙ ap (λ (b : Bool). cond b (byRules (rulesOf c) eight (counted (locked r))) (counted (locked r))) e
 
   pub keeps-bad : goodFor c eight ≡ false → keeps (Writes c) eight r ≡ locked r
   unfolding keeps

@@ -1,7 +1,7 @@
 -- A sound record stays sound, whatever a monitor keeps: the counter's byte and the retention's change by their own rules alone,
 -- and no other change reaches them. Lengths stay too.
 -- Assumes nothing.
-use mathlib.Core.Path.{_≡_, refl, sym, ap, ap₂, _∙_, subst⁻¹}
+use mathlib.Core.Path.{_≡_, refl, ap₂, _∙_, subst⁻¹}
 use mathlib.Core.Bool.{Bool, true, false, cond, _&&_, false≢true}
 use mathlib.Core.List.{List}
 use mathlib.Core.Logic.{inl, inr}

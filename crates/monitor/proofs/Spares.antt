@@ -1,10 +1,10 @@
 -- What a command leaves: every part of a record that lies outside what the command may change. And a record that goes on behind all that a
 -- command may change: the command does to the front what it does without the rest, and leaves the rest.
 -- Assumes nothing.
-use mathlib.Core.Path.{_≡_, refl, sym, ap, ap₂, _∙_}
+use mathlib.Core.Path.{_≡_, refl, ap, ap₂, _∙_}
 use mathlib.Core.Bool.{Bool, true, false, cond}
 use mathlib.Core.List.{List, _++_}
-use Prim.Native.Nat.{ℕ, _+_, _≤_, _<_}
+use Prim.Native.Nat.{ℕ, _+_, _≤_}
 use native.Mathlib.Omega.{arith}
 use lib.ListN.{length, List·getD-append}
 use Rattle.records.specs.declared.commands.Bare.{Bare}
@@ -13,11 +13,11 @@ use Rattle.records.specs.declared.commands.Command.{Command}
 use Rattle.records.specs.declared.commands.Command.the-variants.{Reads, Writes, Bares, Unlisted}
 use Rattle.records.specs.declared.commands.Write.{Write}
 use Rattle.records.specs.declared.record.Part.{Part}
-use Rattle.records.specs.Record.{cells, counter, unlocked, statusBits, bytesOf, byteOf, anew, onBytes}
+use Rattle.records.specs.Record.{counter, unlocked, bytesOf, byteOf, onBytes}
 use Rattle.writes.specs.Writes.{rulesOf, byRules, opens, written}
 use Rattle.monitor.specs.Effects.{locked, counted, done, goodFor, keeps}
 use Rattle.monitor.specs.Spares.{sixOf, partOf, Apart, Spares, Before}
-use Rattle.records.proofs.Anew.{length-anew, anew-front}
+use Rattle.records.proofs.Anew.{anew-front}
 use Rattle.records.proofs.Parts.{outside-anew}
 use Rattle.monitor.proofs.Sound.{length-locked, length-counted}
 
@@ -32,7 +32,7 @@ module _ (p : Part) where
   unfolding locked onBytes
   locked-spares r h = outside-anew p _ (unlocked .at) (unlocked .size) r h
 
-  counted-spares : (r : List ℕ) → Apart p unlocked → Apart p counter → bytesOf p (counted (locked r)) ≡ bytesOf p r
+  pub counted-spares : (r : List ℕ) → Apart p unlocked → Apart p counter → bytesOf p (counted (locked r)) ≡ bytesOf p r
   unfolding counted onBytes
   counted-spares r h k = outside-anew p _ (counter .at) (counter .size) (locked r) k ∙ locked-spares r h
 

@@ -33,7 +33,7 @@ not-good what eight h = by (goodFor what eight) refl
     by true e = absurd (h (good-length what eight e))
     by false e = e
 
-pub own-good : (what : Write) (eight : List ℕ) → goodFor what (own eight) ≡ goodFor what eight
+own-good : (what : Write) (eight : List ℕ) → goodFor what (own eight) ≡ goodFor what eight
 unfolding own
 own-good what eight = by (leb (length eight) payloadSize) refl
   where
@@ -44,13 +44,13 @@ own-good what eight = by (leb (length eight) payloadSize) refl
         ap (λ (b : Bool). goodFor what (cond b eight [])) e ∙ not-good what [] (λ h. omega (arith, h)) ∙ sym (not-good what eight (λ h. omega (arith, h, long)))
 
 -- so it takes and keeps the same
-pub own-takes : (c : Command) (eight : List ℕ) → takes c (own eight) ≡ takes c eight
+own-takes : (c : Command) (eight : List ℕ) → takes c (own eight) ≡ takes c eight
 own-takes (Reads part) eight = refl
 own-takes (Writes what) eight = own-good what eight
 own-takes (Bares what) eight = refl
 own-takes Unlisted eight = refl
 
-pub own-keeps : (c : Command) (eight r : List ℕ) → keeps c (own eight) r ≡ keeps c eight r
+own-keeps : (c : Command) (eight r : List ℕ) → keeps c (own eight) r ≡ keeps c eight r
 unfolding keeps own
 own-keeps (Reads part) eight r = refl
 own-keeps (Writes what) eight r = by (leb (length eight) payloadSize) refl

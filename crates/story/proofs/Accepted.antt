@@ -5,6 +5,7 @@ use mathlib.Core.Path.{_≡_, sym, ap, _∙_}
 use mathlib.Core.Bool.{Bool, true, cond}
 use mathlib.Core.List.{List, _++_}
 use Prim.Native.Nat.{ℕ, suc, _-_, _*_, _<_}
+use native.Mathlib.Omega.{arith}
 use lib.IntN.{ℤ}
 use lib.ListN.{length, drop}
 use borrow.Author.Tests.{eqb-true, not-false}
@@ -33,7 +34,10 @@ use Rattle.replying.specs.Replied.{replied}
 use Rattle.chain.specs.Frame.{frameRefusals, answer, tableAfter, replyAfter}
 use Rattle.serving.proofs.OwnRecord.{own-record}
 use Rattle.replying.proofs.OwnReply.{own-reply, past-reply}
+use Rattle.judging.proofs.Keeps.{Keeps}
+use Rattle.judging.proofs.Lent.{lent-length}
 use Rattle.judging.proofs.Soundness.{is-sound}
+use Rattle.chain.proofs.FrameKeeps.{frame-keeps}
 use Rattle.loads.specs.declared.loads.Loaded.the-variants.{Unloaded, Done}
 use Rattle.cells.specs.Cells.{store, compare, load}
 use Rattle.cells.proofs.Loaded.{length-store, length-compare, length-load}
@@ -63,20 +67,25 @@ module _ (table frame : List ℕ) (room : ℕ) (none : Passed (frameRefusals tab
   abbrev n : ℕ
   n = monitors table
 
-  its-sound : sound table ≡ true
+  -- its table is sound, and stays so with its monitors; it has the length for its command
+  pub frame-sound : sound table ≡ true
   unfolding frameRefusals
-  its-sound = not-false (sound table) (none .0)
+  frame-sound = not-false (sound table) (none .0)
 
-  whole-frame : length frame ≡ frameLength (commandIn frame) n
+  pub kept-table : Keeps table (tableAfter table frame room)
+  kept-table = frame-keeps table frame room frame-sound
+
+  pub frame-whole : {c : Command} → commandIn frame ≡ c → length frame ≡ frameLength c n
   unfolding frameRefusals
-  whole-frame = eqb-true (length frame) (frameLength (commandIn frame) n) (not-false _ (none .1 .1 .1 .1 .0))
+  frame-whole its =
+      eqb-true (length frame) (frameLength (commandIn frame) n) (not-false _ (none .1 .1 .1 .1 .0)) ∙ ap (λ (x : Command). frameLength x n) its
 
   answer-by : {c : Command} → commandIn frame ≡ c → answer table frame room ≡ Accepted (takers c n frame) (replyLength c n)
   unfolding answer
   answer-by {c} its =
       passes (frameRefusals table frame room) Refused _ none
       ∙ ap (λ (x : Command). Accepted (takenBy x n frame) (replyLength x n)) its
-      ∙ ap (λ (taken : ℕ). Accepted taken (replyLength c n)) (same-takers c n frame (whole-frame ∙ ap (λ (x : Command). frameLength x n) its))
+      ∙ ap (λ (taken : ℕ). Accepted taken (replyLength c n)) (same-takers c n frame (frame-whole its))
 
   pub write-answer : (c : Write) → (c ≡ Wrrr → ⊥) → commandIn frame ≡ Writes c → answer table frame room ≡ Accepted (count payloadRight (payloadsIn frame n)) 0
   unfolding takers
@@ -100,7 +109,18 @@ module _ (table frame : List ℕ) (room : ℕ) (none : Passed (frameRefusals tab
   unfolding tableAfter
   record-after k h =
       ap (rowAt recordSize k) (passes (frameRefusals table frame room) (λ r. table) (kept (commandIn frame) n table frame) none)
-      ∙ own-record (commandIn frame) n table frame k h (sym (is-sound table its-sound .whole))
+      ∙ own-record (commandIn frame) n table frame k h (sym (is-sound table frame-sound .whole))
+
+  -- the monitor at k: its own eight bytes, its record, and what it keeps of a command
+  abbrev pub eightAt : ℕ → List ℕ
+  eightAt k = rowAt payloadSize (n - suc k) (drop 4 frame)
+
+  pub record-at : (k : ℕ) → k < n → length (rowAt recordSize k table) ≡ recordSize
+  record-at k h = lent-length k table (omega (arith, is-sound table frame-sound .whole))
+
+  pub kept-at : {c : Command} → commandIn frame ≡ c → (k : ℕ) → k < n
+      → rowAt recordSize k (tableAfter table frame room) ≡ keeps c (eightAt k) (rowAt recordSize k table)
+  kept-at its k h = record-after k h ∙ ap (λ (x : Command). keeps x (eightAt k) (rowAt recordSize k table)) its
 
 module _ (table frame buffer : List ℕ) (none : Passed (frameRefusals table frame (length buffer))) where
   buffer-by : {c : Command} → commandIn frame ≡ c → replyAfter table frame buffer ≡ replied c (monitors table) table buffer

@@ -4,7 +4,7 @@
 -- from 0 here: monitor 1 of the paper is k = 0. Each field is proved where it is cited from.
 -- Assumes nothing.
 use mathlib.Core.Path.{_≡_, refl}
-use mathlib.Core.Bool.{Bool, true, false, not, _&&_}
+use mathlib.Core.Bool.{true, false, not, _&&_}
 use mathlib.Core.List.{List, [], _∷_, _++_, map, reverse}
 use mathlib.Core.Logic.{_⊎_}
 use Prim.Native.Nat.{ℕ, suc, _+_, _-_, _*_, _/_, _%_, _^_, _≤_, _<_}
@@ -78,7 +78,7 @@ use Rattle.story.proofs.Accepted.{frame-refused, write-answer, wrrr-ans
 use Rattle.story.proofs.OurHost.{own-six, write-taken-by-all, bare-taken-by-all, each-keeps-its-own, reply-right, read-taken-by-all, each-reply-its-own, each-reply-right}
 use Rattle.story.specs.ReadsBack.{ReadsBack, as-written, fixed-behind-two}
 use Rattle.story.proofs.ReadBack.{b-read-back, pwm-a-read-back, pwm-b-read-back}
-use Rattle.story.proofs.Retention.{wrrr-unlocked, wrrr-locked, retained}
+use Rattle.story.proofs.Retention.{wrrr-unlocked, wrrr-locked, ulrr-unlocks, retained, not-retained}
 use Rattle.story.proofs.AsBefore.{base-as-before, reply-as-before, pwm-stays, a-stays, b-stays}
 use Rattle.story.proofs.Muting.{mute-answers, unmute-answers}
 use Rattle.story.proofs.BothEnds.{the-replies, handed-from-a, handed-from-b}
@@ -112,8 +112,8 @@ pub record Demand2 : Type 0 where
   own-record : (table frame : List ℕ) (room : ℕ) → Passed (frameRefusals table frame room) → (k : ℕ) → k < monitors table
       → rowAt recordSize k (tableAfter table frame room)
       ≡ keeps (commandIn frame) (rowAt payloadSize (monitors table - suc k) (drop 4 frame)) (rowAt recordSize k table)
-  -- `monitor::act`: every accepted command locks the retention; a taken write or bare command counts; a payload that is wrong changes no more,
-  -- but of WRRR
+  -- `monitor::act`: every accepted command locks the retention; a taken write or bare command counts; a wrong payload changes no more, WRRR's
+  -- excepted
   read-keeps : (part : Part) (eight r : List ℕ) → keeps (Reads part) eight r ≡ locked r
   bare-keeps : (c : Bare) (eight r : List ℕ) → keeps (Bares c) eight r ≡ done c (counted (locked r))
   right-keeps : (c : Write) (eight r : List ℕ) → payloadRight eight ≡ true
@@ -123,13 +123,19 @@ pub record Demand2 : Type 0 where
   wrrr-unlocked : (eight r : List ℕ) → length eight ≡ payloadSize → ((i : ℕ) → i < dataSize → getD eight i 0 < 256) → byteOf unlocked r ≡ 1
       → keeps (Writes Wrrr) eight r ≡ onBytes retention (λ i old. getD eight i 0) (counted (locked r))
   wrrr-locked : (eight r : List ℕ) → length eight ≡ payloadSize → (byteOf unlocked r ≡ 1 → ⊥) → keeps (Writes Wrrr) eight r ≡ counted (locked r)
-  -- so after a ULRR, a WRRR with any checks and a RDRR each monitor's part of the reply begins with the six bytes that the WRRR had for it
-  retained : (table unlock write read buffer : List ℕ) (room other : ℕ) → Passed (frameRefusals table unlock room) → commandIn unlock ≡ Bares Ulrr
-      → Passed (frameRefusals (tableAfter table unlock room) write other) → commandIn write ≡ Writes Wrrr → ((i : ℕ) → getD write i 0 < 256)
-      → Passed (frameRefusals (tableAfter (tableAfter table unlock room) write other) read (length buffer)) → commandIn read ≡ Reads rdrr
-      → (k : ℕ) → k < monitors table
-      → take dataSize (rowAt payloadSize k (replyAfter (tableAfter (tableAfter table unlock room) write other) read buffer))
+  -- through frames: ULRR unlocks every monitor; after a WRRR with any checks, and a RDRR, the part of the reply of a monitor that was unlocked begins
+  -- with the six bytes that the WRRR had for it, and of one that was not with what it held
+  ulrr-unlocks : (table frame : List ℕ) (room : ℕ) → Passed (frameRefusals table frame room) → commandIn frame ≡ Bares Ulrr
+      → (k : ℕ) → k < monitors table → byteOf unlocked (rowAt recordSize k (tableAfter table frame room)) ≡ 1
+  retained : (table write read buffer : List ℕ) (room : ℕ) → Passed (frameRefusals table write room) → commandIn write ≡ Writes Wrrr
+      → Passed (frameRefusals (tableAfter table write room) read (length buffer)) → commandIn read ≡ Reads rdrr
+      → (k : ℕ) → k < monitors table → byteOf unlocked (rowAt recordSize k table) ≡ 1 → ((i : ℕ) → getD write i 0 < 256)
+      → take dataSize (rowAt payloadSize k (replyAfter (tableAfter table write room) read buffer))
       ≡ take dataSize (rowAt payloadSize (monitors table - suc k) (drop 4 write))
+  not-retained : (table write read buffer : List ℕ) (room : ℕ) → Passed (frameRefusals table write room) → commandIn write ≡ Writes Wrrr
+      → Passed (frameRefusals (tableAfter table write room) read (length buffer)) → commandIn read ≡ Reads rdrr
+      → (k : ℕ) → k < monitors table → (byteOf unlocked (rowAt recordSize k table) ≡ 1 → ⊥)
+      → take dataSize (rowAt payloadSize k (replyAfter (tableAfter table write room) read buffer)) ≡ partOf retention (rowAt recordSize k table)
   -- a command changes no part of a record but the retention byte, the counter and the part that is its own
   spares : (p : Part) (c : Command) (eight r : List ℕ) → Spares c p → partOf p (keeps c eight r) ≡ partOf p r
   -- the record has grown behind its byte 69, and every command but the two that write there does to the front what it does without the rest,
@@ -357,7 +363,9 @@ demand-2 =
       wrong-keeps = λ c other eight r wrong. keeps-wrong c eight r (needs-but-wrrr c other) wrong;
       wrrr-unlocked = wrrr-unlocked;
       wrrr-locked = wrrr-locked;
+      ulrr-unlocks = ulrr-unlocks;
       retained = retained;
+      not-retained = not-retained;
       spares = keeps-spares;
       as-before = base-as-before;
       replies-as-before = reply-as-before;

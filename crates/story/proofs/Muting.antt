@@ -6,7 +6,7 @@ use mathlib.Core.Path.{_≡_, refl, sym, ap, ap₂, _∙_, subst}
 use mathlib.Core.Bool.{Bool, true, false, cond, not, _&&_}
 use mathlib.Core.List.{List, [], _∷_, _++_}
 use mathlib.Core.Logic.{inl, inr}
-use Prim.Native.Nat.{ℕ, suc, _-_, _/_, _%_, _≤_, _<_}
+use Prim.Native.Nat.{ℕ, _-_, _/_, _%_, _≤_, _<_}
 use native.Mathlib.Omega.{arith}
 use lib.Bits.{bitAnd, bitOr}
 use lib.Dec.{leb, lit<, lit≤}
@@ -16,40 +16,33 @@ use Rattle.laws.specs.Counts.{count}
 use Rattle.laws.specs.Rows.{rowAt}
 use Rattle.laws.specs.Tables.{tabulate}
 use Rattle.laws.proofs.BitAt.{bit-or, bit-and}
-use borrow.Author.Tests.{not-false}
 use Rattle.refusals.specs.declared.Refusal.the-variants.{TableNotSound, PositionWrong}
 use Rattle.refusals.specs.Order.{Row, _gives_, decide}
 use Rattle.refusals.proofs.Deciding.{Passed, passed-agree}
-use Rattle.records.specs.declared.commands.Bare.{Bare}
 use Rattle.records.specs.declared.commands.Bare.the-variants.{Mute, Unmute}
 use Rattle.records.specs.declared.commands.Command.the-variants.{Bares}
-use Rattle.records.specs.declared.record.Part.{Part}
 use Rattle.records.specs.Record.{cellCount, statusBits, dccBits, pwmA, pwmB, recordSize, bytesOf, byteOf, onBytes}
-use Rattle.records.specs.Commands.{payloadSize}
 use Rattle.records.proofs.Anew.{anew-inside}
 use Rattle.monitor.specs.Effects.{locked, counted, done, keeps}
 use Rattle.monitor.proofs.Sound.{length-locked, length-counted, length-keeps}
 use Rattle.monitor.proofs.Spares.{keeps-spares}
 use Rattle.judging.specs.Table.{monitors, sound}
-use Rattle.judging.specs.Refusals.{commandIn, tableRow, positionRow}
+use Rattle.judging.specs.Refusals.{commandIn}
 use Rattle.judging.specs.Places.{placeRefusals}
 use Rattle.judging.proofs.Keeps.{Keeps}
 use Rattle.judging.proofs.Place.{Place, place, there, fits, kept-place}
 use Rattle.judging.proofs.Lent.{lent-length}
 use Rattle.chain.specs.Frame.{frameRefusals, tableAfter}
-use Rattle.chain.proofs.FrameKeeps.{frame-keeps}
 use Rattle.priorities.specs.declared.outputs.Events.{Events}
-use Rattle.priorities.specs.declared.outputs.Output.{Output}
 use Rattle.priorities.specs.Switches.{muted, dcc, dutyByte, duty}
 use Rattle.priorities.specs.Table27.{outputOf}
 use Rattle.priorities.specs.Outputs.{shown, theCells, outputs, countOn}
 use Rattle.priorities.proofs.Rows.{output, past-7, by-6}
 use Rattle.priorities.proofs.Deciding.{by-switches}
 use Rattle.priorities.proofs.Shown.{mute-none}
-use Rattle.discharge.specs.declared.question.Discharged.{Discharged}
 use Rattle.discharge.specs.declared.question.Discharged.the-variants.{Refused as Unasked, On}
 use Rattle.discharge.specs.Question.{phaseRow, outRow, dischargeRefusals, discharged, outputsAfter}
-use Rattle.story.proofs.Accepted.{record-after, discharge-answer}
+use Rattle.story.proofs.Accepted.{frame-sound, kept-table, eightAt, kept-at, discharge-answer}
 
 -- ---- one monitor
 
@@ -131,22 +124,6 @@ module _ (table : List ℕ) (position phase room : ℕ) (none : Passed (discharg
   unfolding dischargeRefusals placeRefusals
   its-place = place table position (none .0, (none .1 .0, tt))
 
--- a frame of a bare command, at the record of a position
-module _ (table frame : List ℕ) (room : ℕ) (passed : Passed (frameRefusals table frame room)) (c : Bare) (its : commandIn frame ≡ Bares c) where
-  frame-sound : sound table ≡ true
-  unfolding frameRefusals
-  frame-sound = not-false (sound table) (passed .0)
-
-  pub kept-table : Keeps table (tableAfter table frame room)
-  kept-table = frame-keeps table frame room frame-sound
-
-  -- the eight bytes that it has, which a bare command does not look at
-  abbrev eightAt : ℕ → List ℕ
-  eightAt k = rowAt payloadSize (monitors table - suc k) (drop 4 frame)
-
-  record-kept : (k : ℕ) → k < monitors table → rowAt recordSize k (tableAfter table frame room) ≡ keeps (Bares c) (eightAt k) (rowAt recordSize k table)
-  record-kept k h = record-after table frame room passed k h ∙ ap (λ x. keeps x (eightAt k) (rowAt recordSize k table)) its
-
 -- ---- MUTE
 
 pub mute-answers : (table frame : List ℕ) (room : ℕ) → Passed (frameRefusals table frame room) → commandIn frame ≡ Bares Mute
@@ -157,10 +134,10 @@ pub mute-answers : (table frame : List ℕ) (room : ℕ) → Passed (frameRefusa
 mute-answers table frame room passed its position events phase out up none =
     let after = tableAfter table frame room in
     let k = position - 1 in
-    let own : Place table position = place-before (kept-table table frame room passed Mute its) (frame-sound table frame room passed Mute its) (its-place after position phase (length out) none) in
+    let own : Place table position = place-before (kept-table table frame room passed) (frame-sound table frame room passed) (its-place after position phase (length out) none) in
     let is-muted : muted (rowAt recordSize k after) ≡ true =
-    ap muted (record-kept table frame room passed Mute its k (there table position own))
-    ∙ muted-by-mute (eightAt table frame room passed Mute its k) (rowAt recordSize k table) (lent-length k table (fits table position own)) in
+    ap muted (kept-at table frame room passed its k (there table position own))
+    ∙ muted-by-mute (eightAt table frame room passed k) (rowAt recordSize k table) (lent-length k table (fits table position own)) in
     let told = discharge-answer after position events phase out none in (
       told .0 ∙ ap On (mute-none events phase (rowAt recordSize k after) is-muted),
       told .1 ∙ ap (λ (bytes : List ℕ). bytes ++ drop cellCount out) (all-six events phase (rowAt recordSize k after) up is-muted),
@@ -184,10 +161,10 @@ module _ (table mute unmute : List ℕ) (room other : ℕ) (first : Passed (fram
   after = tableAfter between unmute other
 
   kept-first : Keeps table between
-  kept-first = kept-table table mute room first Mute its
+  kept-first = kept-table table mute room first
 
   kept-second : Keeps between after
-  kept-second = kept-table between unmute other second Unmute its-too
+  kept-second = kept-table between unmute other second
 
   module _ (position : ℕ) (was : muted (rowAt recordSize (position - 1) table) ≡ false) (own : Place table position) where
     abbrev k : ℕ
@@ -197,24 +174,24 @@ module _ (table mute unmute : List ℕ) (room other : ℕ) (first : Passed (fram
     start = rowAt recordSize k table
 
     abbrev middle : List ℕ
-    middle = keeps (Bares Mute) (eightAt table mute room first Mute its k) start
+    middle = keeps (Bares Mute) (eightAt table mute room first k) start
 
-    at-the-end : rowAt recordSize k after ≡ keeps (Bares Unmute) (eightAt between unmute other second Unmute its-too k) middle
+    at-the-end : rowAt recordSize k after ≡ keeps (Bares Unmute) (eightAt between unmute other second k) middle
     at-the-end =
-        record-kept between unmute other second Unmute its-too k (there between position (kept-place position kept-first own))
-        ∙ ap (keeps (Bares Unmute) (eightAt between unmute other second Unmute its-too k)) (record-kept table mute room first Mute its k (there table position own))
+        kept-at between unmute other second its-too k (there between position (kept-place position kept-first own))
+        ∙ ap (keeps (Bares Unmute) (eightAt between unmute other second k)) (kept-at table mute room first its k (there table position own))
 
     same-mute : muted (rowAt recordSize k after) ≡ muted start
     same-mute =
         ap muted at-the-end
-        ∙ clear-by-unmute (eightAt between unmute other second Unmute its-too k) middle
-        (length-keeps (Bares Mute) (eightAt table mute room first Mute its k) start ∙ lent-length k table (fits table position own))
+        ∙ clear-by-unmute (eightAt between unmute other second k) middle
+        (length-keeps (Bares Mute) (eightAt table mute room first k) start ∙ lent-length k table (fits table position own))
         ∙ sym was
 
     both-alike : Alike (rowAt recordSize k after) start
     both-alike =
-        let up = alike-unmute (eightAt between unmute other second Unmute its-too k) middle in
-        let down = alike-mute (eightAt table mute room first Mute its k) start in
+        let up = alike-unmute (eightAt between unmute other second k) middle in
+        let down = alike-mute (eightAt table mute room first k) start in
         record {
           dccs = ap (bytesOf dccBits) at-the-end ∙ up .dccs ∙ down .dccs;
           duties-a = ap (bytesOf pwmA) at-the-end ∙ up .duties-a ∙ down .duties-a;
@@ -228,7 +205,7 @@ module _ (table mute unmute : List ℕ) (room other : ℕ) (first : Passed (fram
   unmute-answers position events phase out was =
       let rows = dischargeRefusals table position phase (length out) in
       let judged : dischargeRefusals after position phase (length out) ≡ rows =
-      same-refusals after table position phase (length out) (kept-second .sound-after ∙ sym (frame-sound table mute room first Mute its))
+      same-refusals after table position phase (length out) (kept-second .sound-after ∙ sym (frame-sound table mute room first))
       (kept-second .monitors-after ∙ kept-first .monitors-after) in
       let own : Passed rows → Place table position = its-place table position phase (length out) in
       let now = rowAt recordSize (position - 1) after in

@@ -4,8 +4,8 @@
 -- part that it writes and what it makes of six bytes.
 -- Assumes nothing.
 use mathlib.Core.Path.{_≡_, refl, sym, ap, ap₂, _∙_}
-use mathlib.Core.Bool.{Bool, true, false, cond}
-use mathlib.Core.List.{List, [], _∷_, _++_}
+use mathlib.Core.Bool.{true, false}
+use mathlib.Core.List.{List, []}
 use Prim.Native.Nat.{ℕ, zero, suc, _+_, _-_, _*_, _≤_, _<_}
 use native.Mathlib.Nat.{mod-eq-of-lt, lt-of-lt-of-le}
 use native.Mathlib.Omega.{arith}
@@ -16,7 +16,7 @@ use lib.Seq.{ext-getD, length-take-le, take-at, getD-take}
 use Rattle.laws.specs.Rows.{rowAt}
 use Rattle.laws.proofs.Rows.{length-row-at, row-element}
 use Rattle.laws.proofs.Tables.{at-each}
-use Rattle.records.specs.declared.commands.Command.the-variants.{Reads, Writes}
+use Rattle.records.specs.declared.commands.Command.the-variants.{Writes}
 use Rattle.records.specs.declared.commands.Write.{Write}
 use Rattle.records.specs.declared.commands.Write.the-variants.{Wrcfgb, Wrpwma, Wrpwmb}
 use Rattle.records.specs.declared.record.Part.{Part}
@@ -27,8 +27,8 @@ use Rattle.writes.proofs.Storing.{six, as-sent}
 use Rattle.writes.proofs.Written.{opens-always}
 use Rattle.monitor.specs.Effects.{locked, counted, goodFor, keeps}
 use Rattle.reads.specs.Reply.{register, reply}
-use Rattle.records.proofs.Anew.{length-anew, anew-inside}
-use Rattle.monitor.proofs.Keeping.{right-good, good-length, keeps-good}
+use Rattle.records.proofs.Anew.{anew-inside}
+use Rattle.monitor.proofs.Keeping.{right-good, good-length, keeps-opened}
 use Rattle.reads.proofs.Showing.{shows}
 use Rattle.monitor.proofs.Sound.{length-keeps, length-locked, length-counted}
 use Rattle.judging.specs.Table.{monitors, sound}
@@ -68,8 +68,7 @@ module _ (c : Write) (p : Part) (becomes : List ℕ → List ℕ) (g : Group c p
     own-byte i h = sym (getD-take dataSize eight i 0 h)
 
     after-is : after ≡ byRules (rulesOf c) eight base
-    unfolding written
-    after-is = keeps-good c eight r good ∙ ap (λ (b : Bool). cond b (byRules (rulesOf c) eight base) base) opened
+    after-is = keeps-opened c eight r good opened
 
     length-after : length after ≡ recordSize
     length-after = length-keeps (Writes c) eight r ∙ whole

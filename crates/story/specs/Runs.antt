@@ -81,7 +81,8 @@ ruleRefusals table frame =
     ∷ lengthRow (length frame) (commandIn frame) (monitors table)
     ∷ []
 
--- how many of n monitors took a frame: of a write that needs its check right those whose own eight bytes are right, of any other command all
+-- how many of n monitors took a frame: of a write that needs its check right those whose own eight bytes are right, of any other listed command
+-- all
 unfoldable pub takers : Command → ℕ → List ℕ → ℕ
 takers (Writes c) n frame = cond (rulesOf c .«needs_check») (count payloadRight (payloadsIn frame n)) n
 takers (Reads part) n frame = n
