@@ -98,8 +98,8 @@ pub record Demand2 : Type 0 where
       ∷ (ltb room (replyLength (commandIn frame) (monitors table)) gives NoRoom)
       ∷ []
   refused : (table frame : List ℕ) (room : ℕ) (r : Refusal) → First (frameRefusals table frame room) r → answer table frame room ≡ Refused r
-  -- none holds: a write is taken by as many monitors as find their own eight bytes right, but WRRR, which is executed whatever its check, by
-  -- all N; and so are a read and a bare command
+  -- none holds: a write is taken by as many monitors as find their own eight bytes right; a WRRR, which is executed whatever its check, a read and a
+  -- bare command by all N
   write-answer : (table frame : List ℕ) (room : ℕ) → Passed (frameRefusals table frame room) → (c : Write) → (c ≡ Wrrr → ⊥) → commandIn frame ≡ Writes c
       → answer table frame room ≡ Accepted (count payloadRight (payloadsIn frame (monitors table))) 0
   wrrr-answer : (table frame : List ℕ) (room : ℕ) → Passed (frameRefusals table frame room) → commandIn frame ≡ Writes Wrrr
