@@ -1,4 +1,4 @@
-//! What an accepted frame did, read off the table before and after it and, in a write, off the payloads. A situation counts once a frame.
+//! What an accepted frame did, read off the table before and after it and, in a write, off the payloads. An effect counts once a frame.
 
 use crate::inputs::{at, head, is_damaged, shape, with_check, Shape, RECORD, WRRR};
 use crate::lent::Both;

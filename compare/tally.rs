@@ -219,7 +219,7 @@ impl Tally {
                 }
             }
             for (effect, name) in Effect::ALL {
-                want(frames.effects.get(effect).copied().unwrap_or(0), format!("{name} {how}"));
+                want(frames.effects.get(effect).copied().unwrap_or(0), format!("{name}, {how}"));
             }
         }
         for (situation, name) in Situation::ALL {

@@ -56,7 +56,7 @@ enum {
  * `reply`, and bytes past it stay.
  * First: how many monitors took the frame: N for a read, a bare command or a WRRR, and for any other write as many as found the data PEC of
  * their own eight bytes right. A WRRR is executed whatever its data PEC: every monitor takes and counts it, stores its own six bytes only
- * where its retention was unlocked, and is locked after it.
+ * where its retention was unlocked (byte 69 was 1, as ULRR leaves it), and is locked after it.
  * Second: the length of the reply (8N for a read, else 0).
  * Refusals: 1, 2, 3, 4, 5, 6 (6 only for reads).
  */

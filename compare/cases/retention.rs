@@ -108,11 +108,12 @@ fn unlocked_written_and_read(run: &mut Run) -> Done {
                 (Situation::DamagedRetentionLocked, true)
             }
             _ => {
-                damaged_wrrr(run, &mut chain)?;
+                let first = damaged_wrrr(run, &mut chain)?;
+                expect(run, Function::Frame, (retained(&chain), first), chain.table(), monitors)?;
                 (Situation::DamagedRetentionTwice, true)
             }
         };
-        let stood = chain.table().chunks(RECORD).flat_map(|record| record[at::RETENTION..][..6].to_vec()).collect();
+        let stood = retained(&chain);
         let sent = damaged_wrrr(run, &mut chain)?;
         let told = sent != stood;
         let read = inputs::frame_of(&mut run.random, RDRR, monitors);
@@ -122,6 +123,10 @@ fn unlocked_written_and_read(run: &mut Run) -> Done {
         run.tally.saw_if(situation, told);
     }
     Ok(())
+}
+
+fn retained(chain: &Chain) -> Vec<u8> {
+    chain.table().chunks(RECORD).flat_map(|record| record[at::RETENTION..][..6].to_vec()).collect()
 }
 
 /// By its command's PEC, its code or its length.

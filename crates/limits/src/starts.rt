@@ -66,7 +66,8 @@ pub(crate) fn start(which: u64, eight: u64, given: u64) -> Bytes {
         14 => load(stored(thresholds(eight), given), given),
         15 => after([0u8; ROOM], 0x0038_b320, BARE, 0),
         16 => after(two(), 0x0028_e80e, BARE, 0),
-        18 => lay(two(), 69, 1, 1),
-        _ => after(after(two(), 0x0028_e80e, BARE, 0), 0x0029_633c, BARE, 0),
+        17 => after(after(two(), 0x0028_e80e, BARE, 0), 0x0029_633c, BARE, 0),
+        // monitor 1 alone is unlocked
+        _ => lay(two(), 69, 1, 1),
     }
 }

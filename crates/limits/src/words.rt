@@ -111,7 +111,7 @@ pub(crate) fn words(k: u64, a: u64, b: u64, c: u64, d: u64) {
     |each command, on two monitors\n\
     |each of 32 monitors sent its own position\n\
     |refusals of a frame, in their order\n\
-    |damaged payloads, after ULRR\n\
+    |damaged payloads, after ULRR where nothing else is said\n\
     |counters of 62 and 63\n\
     |loads\n\
     |stores\n\

@@ -98,8 +98,8 @@ pub record Demand2 : Type 0 where
       ∷ (ltb room (replyLength (commandIn frame) (monitors table)) gives NoRoom)
       ∷ []
   refused : (table frame : List ℕ) (room : ℕ) (r : Refusal) → First (frameRefusals table frame room) r → answer table frame room ≡ Refused r
-  -- none holds: a write is taken by as many monitors as find their own eight bytes right; a WRRR, which is executed whatever its check, a read and a
-  -- bare command by all N
+  -- none holds: a write other than WRRR is taken by as many monitors as find their own eight bytes right; a WRRR, which is executed whatever its
+  -- check, a read and a bare command by all N
   write-answer : (table frame : List ℕ) (room : ℕ) → Passed (frameRefusals table frame room) → (c : Write) → (c ≡ Wrrr → ⊥) → commandIn frame ≡ Writes c
       → answer table frame room ≡ Accepted (count payloadRight (payloadsIn frame (monitors table))) 0
   wrrr-answer : (table frame : List ℕ) (room : ℕ) → Passed (frameRefusals table frame room) → commandIn frame ≡ Writes Wrrr
@@ -119,12 +119,12 @@ pub record Demand2 : Type 0 where
   right-keeps : (c : Write) (eight r : List ℕ) → payloadRight eight ≡ true
       → keeps (Writes c) eight r ≡ written c (byteOf unlocked r) eight (counted (locked r))
   wrong-keeps : (c : Write) → (c ≡ Wrrr → ⊥) → (eight r : List ℕ) → payloadRight eight ≡ false → keeps (Writes c) eight r ≡ locked r
-  -- WRRR's own lines: whatever the last two of its eight bytes are it counts, and stores the first six where byte 69 was 1, and nothing where not
+  -- WRRR's own lines: whatever the last two of its eight bytes are, it counts; it stores the first six where byte 69 was 1, and nothing where it was not
   wrrr-unlocked : (eight r : List ℕ) → length eight ≡ payloadSize → ((i : ℕ) → i < dataSize → getD eight i 0 < 256) → byteOf unlocked r ≡ 1
       → keeps (Writes Wrrr) eight r ≡ onBytes retention (λ i old. getD eight i 0) (counted (locked r))
   wrrr-locked : (eight r : List ℕ) → length eight ≡ payloadSize → (byteOf unlocked r ≡ 1 → ⊥) → keeps (Writes Wrrr) eight r ≡ counted (locked r)
-  -- through frames: ULRR unlocks every monitor; after a WRRR with any checks, and a RDRR, the part of the reply of a monitor that was unlocked begins
-  -- with the six bytes that the WRRR had for it, and of one that was not with what it held
+  -- through frames: ULRR unlocks every monitor. RDRR after a WRRR, whatever its checks, shows of a monitor that was unlocked the six bytes that the
+  -- WRRR had for it, and of any other the six that it held
   ulrr-unlocks : (table frame : List ℕ) (room : ℕ) → Passed (frameRefusals table frame room) → commandIn frame ≡ Bares Ulrr
       → (k : ℕ) → k < monitors table → byteOf unlocked (rowAt recordSize k (tableAfter table frame room)) ≡ 1
   retained : (table write read buffer : List ℕ) (room : ℕ) → Passed (frameRefusals table write room) → commandIn write ≡ Writes Wrrr

@@ -1,6 +1,6 @@
 -- WRRR, whatever its check. One monitor: where its retention was unlocked it stores the first six of its own eight bytes, and where not
--- nothing; both are counted. Through frames: ULRR unlocks; what a RDRR shows after a WRRR is what the WRRR had for a monitor that was
--- unlocked, and what a monitor held that was not.
+-- nothing; both are counted. Through frames: ULRR unlocks; RDRR after a WRRR shows of a monitor that was unlocked what the WRRR had for it,
+-- and of any other what it held.
 -- Assumes nothing.
 use mathlib.Core.Path.{_≡_, refl, sym, ap, _∙_}
 use mathlib.Core.Bool.{true}

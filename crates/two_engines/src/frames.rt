@@ -61,7 +61,7 @@ const CODES: [u16; COMMAND_COUNT + 16] = [
 
 pub(crate) const FIRST_WRITE: usize = 14;
 
-// It is drawn so many times more often than another: what becomes of it depends on the lock, and its checks are damaged too.
+// The place of WRRR, and how many more chances it has than another: it must come up locked and unlocked, right and damaged.
 const WRRR: usize = 16;
 
 const MORE_WRRR: usize = 6;
