@@ -45,12 +45,14 @@ enum {
     OSK_NEITHER_RIGHT = 10   /* neither port's bytes are right */
 };
 
-/* ---- the chain: a table of N records, nearest monitor first, each laid out as document 01 has it, with the groups PWM A and PWM B of six
- * bytes each behind its byte 69. WRPWMB stores two bytes of its six and makes the other four FF; until then they are as they were lent.
- * Zero bytes are a sound table */
+/* ---- the chain: a table of N records, nearest monitor first, each laid out as document 01 has it, with more behind its byte 69: the groups
+ * PWM A and PWM B of six bytes each, and then the copy of the cells, 32 bytes. WRPWMB stores two bytes of its six and makes the other four FF;
+ * until then they are as they were lent. SNAP copies the cells and sets SNAP_ST (byte 5, bit 5), and where that is set it changes neither;
+ * UNSNAP clears it. While it is set RDCVA to RDCVF show the copy, also one that was lent so; every other read, stores, compares and CLRCELL go
+ * by the live record. Zero bytes are a sound table */
 
 /* The bytes of one monitor's record. */
-#define OSK_RECORD_SIZE 82
+#define OSK_RECORD_SIZE 114
 
 /* Handles a frame. The table becomes what the monitors keep of it; the reply to a read, nearest monitor first, goes to the start of
  * `reply`, and bytes past it stay.

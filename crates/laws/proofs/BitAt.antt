@@ -1,8 +1,8 @@
--- One bit of a number: set by inclusive or, cleared by and, left by the flip of another.
+-- One bit of a number: of an inclusive or and of an and, so set by the one and cleared by the other; left by the flip of another.
 -- Assumes nothing.
 use mathlib.Core.Path.{_≡_, refl, sym, ap, ap₂, _∙_}
-use mathlib.Core.Bool.{Bool, true, false, xor}
-use Prim.Native.Nat.{ℕ, suc, _*_, _+_, _-_, _/_, _%_, _^_, _≤_, _<_, min, max}
+use mathlib.Core.Bool.{Bool, true, false, xor, _&&_, _||_}
+use Prim.Native.Nat.{ℕ, zero, suc, _*_, _+_, _-_, _/_, _%_, _^_, _≤_, _<_, min, max}
 use native.Mathlib.Nat.{mod-lt, div-eq-of-lt, one-mul, mul-mod-left}
 use native.Mathlib.Omega.{arith}
 use lib.Arith.{digits-mod}
@@ -22,27 +22,51 @@ last-and a b =
     ap (λ (n : ℕ). n % 2) (and-step a b)
     ∙ digits-mod (bitAnd (a / 2) (b / 2)) (min-below (a % 2) (b % 2) (mod-lt a (omega arith)) (mod-lt b (omega arith)))
 
--- the greater of a digit and 1, the lesser of a digit and one that is not 1
-with-one : (x y : ℕ) → x < 2 → y ≡ 1 → max x y ≡ 1
-with-one x y h e = omega arith
+-- two digits: the greater is 1 where either is, the lesser where both are
+either-one : (x y : ℕ) → x < 2 → y < 2 → eqb (max x y) 1 ≡ eqb x 1 || eqb y 1
+either-one zero zero hx hy = refl
+either-one zero (suc zero) hx hy = refl
+either-one (suc zero) zero hx hy = refl
+either-one (suc zero) (suc zero) hx hy = refl
+either-one (suc (suc x)) y hx hy = absurd (omega arith)
+either-one zero (suc (suc y)) hx hy = absurd (omega arith)
+either-one (suc zero) (suc (suc y)) hx hy = absurd (omega arith)
 
-with-none : (x y : ℕ) → y < 2 → (y ≡ 1 → ⊥) → min x y ≡ 1 → ⊥
-with-none x y h e m = e (omega arith)
+both-one : (x y : ℕ) → x < 2 → y < 2 → eqb (min x y) 1 ≡ eqb x 1 && eqb y 1
+both-one zero zero hx hy = refl
+both-one zero (suc zero) hx hy = refl
+both-one (suc zero) zero hx hy = refl
+both-one (suc zero) (suc zero) hx hy = refl
+both-one (suc (suc x)) y hx hy = absurd (omega arith)
+both-one zero (suc (suc y)) hx hy = absurd (omega arith)
+both-one (suc zero) (suc (suc y)) hx hy = absurd (omega arith)
+
+or-true : (b : Bool) → b || true ≡ true
+or-true true = refl
+or-true false = refl
+
+and-false : (b : Bool) → b && false ≡ false
+and-false true = refl
+and-false false = refl
 
 module _ (k a b : ℕ) where
-  pub bit-or : bitAt k b ≡ true → bitAt k (bitOr a b) ≡ true
+  pub or-bits : bitAt k (bitOr a b) ≡ bitAt k a || bitAt k b
   unfolding bitAt odd
-  bit-or e =
-      eq-eqb _ 1
-      (ap (λ (n : ℕ). n % 2) (or-shr a b k)
-      ∙ last-or (a / 2 ^ k) (b / 2 ^ k)
-      ∙ with-one (a / 2 ^ k % 2) (b / 2 ^ k % 2) (mod-lt (a / 2 ^ k) (omega arith)) (eqb-true _ 1 e))
+  or-bits =
+      ap (λ (n : ℕ). eqb n 1) (ap (λ (n : ℕ). n % 2) (or-shr a b k) ∙ last-or (a / 2 ^ k) (b / 2 ^ k))
+      ∙ either-one (a / 2 ^ k % 2) (b / 2 ^ k % 2) (mod-lt (a / 2 ^ k) (omega arith)) (mod-lt (b / 2 ^ k) (omega arith))
+
+  pub and-bits : bitAt k (bitAnd a b) ≡ bitAt k a && bitAt k b
+  unfolding bitAt odd
+  and-bits =
+      ap (λ (n : ℕ). eqb n 1) (ap (λ (n : ℕ). n % 2) (and-shr a b k) ∙ last-and (a / 2 ^ k) (b / 2 ^ k))
+      ∙ both-one (a / 2 ^ k % 2) (b / 2 ^ k % 2) (mod-lt (a / 2 ^ k) (omega arith)) (mod-lt (b / 2 ^ k) (omega arith))
+
+  pub bit-or : bitAt k b ≡ true → bitAt k (bitOr a b) ≡ true
+  bit-or e = or-bits ∙ ap (λ (t : Bool). bitAt k a || t) e ∙ or-true (bitAt k a)
 
   pub bit-and : bitAt k b ≡ false → bitAt k (bitAnd a b) ≡ false
-  unfolding bitAt odd
-  bit-and e =
-      let now : bitAnd a b / 2 ^ k % 2 ≡ min (a / 2 ^ k % 2) (b / 2 ^ k % 2) = ap (λ (n : ℕ). n % 2) (and-shr a b k) ∙ last-and (a / 2 ^ k) (b / 2 ^ k) in
-      ap (λ (n : ℕ). eqb n 1) now ∙ ne-eqb _ 1 (with-none (a / 2 ^ k % 2) (b / 2 ^ k % 2) (mod-lt (b / 2 ^ k) (omega arith)) (eqb-false _ 1 e))
+  bit-and e = and-bits ∙ ap (λ (t : Bool). bitAt k a && t) e ∙ and-false (bitAt k a)
 
 -- ---- the flip of a bit
 

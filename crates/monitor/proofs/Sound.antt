@@ -13,12 +13,12 @@ use borrow.Author.Tests.{leb-true, le-leb, ltb-true}
 use Rattle.records.specs.declared.commands.Write.{Write}
 use Rattle.records.specs.declared.commands.Write.the-variants.{Wrcfga, Wrcfgb, Wrrr, Clrflag, Clovuv, Wrpwma, Wrpwmb}
 use Rattle.records.specs.declared.commands.Bare.{Bare}
-use Rattle.records.specs.declared.commands.Bare.the-variants.{Mute, Unmute, Rstcc, Ulrr, Clrcell}
+use Rattle.records.specs.declared.commands.Bare.the-variants.{Mute, Unmute, Rstcc, Ulrr, Clrcell, Snap, Unsnap}
 use Rattle.records.specs.declared.commands.Command.{Command}
 use Rattle.records.specs.declared.commands.Command.the-variants.{Reads, Writes, Bares, Unlisted}
-use Rattle.records.specs.Record.{cells, counter, unlocked, statusBits, recordSize, byteOf, Outside, anew, onBytes, recordSound}
+use Rattle.records.specs.Record.{cells, counter, unlocked, snapshot, statusBits, recordSize, snapped, byteOf, Outside, anew, onBytes, recordSound}
 use Rattle.writes.specs.Writes.{rulesOf, byRules, opens, written}
-use Rattle.monitor.specs.Effects.{locked, nextCount, counted, done, goodFor, keeps}
+use Rattle.monitor.specs.Effects.{locked, nextCount, counted, copied, done, goodFor, keeps}
 use Rattle.records.proofs.Anew.{length-anew, anew-below, anew-above, anew-inside}
 use Rattle.records.proofs.Parts.{outside-byte}
 
@@ -40,6 +40,10 @@ length-written : (c : Write) (was : ℕ) (sent r : List ℕ) → length (written
 unfolding written byRules
 length-written c was sent r = length-cond (opens (rulesOf c) was) _ r (length r) (length-anew _ _ _ r) refl
 
+length-copied : (r : List ℕ) → length (copied r) ≡ length r
+unfolding copied onBytes
+length-copied r = length-anew _ _ _ _ ∙ length-anew _ _ _ r
+
 length-done : (c : Bare) (r : List ℕ) → length (done c r) ≡ length r
 unfolding done onBytes
 length-done Mute r = length-anew _ _ _ r
@@ -47,6 +51,8 @@ length-done Unmute r = length-anew _ _ _ r
 length-done Rstcc r = length-anew _ _ _ r
 length-done Ulrr r = length-anew _ _ _ r
 length-done Clrcell r = length-anew _ _ _ r
+length-done Snap r = length-cond (snapped r) r _ (length r) refl (length-copied r)
+length-done Unsnap r = length-anew _ _ _ r
 
 pub length-keeps : (c : Command) (eight r : List ℕ) → length (keeps c eight r) ≡ length r
 unfolding keeps
@@ -132,6 +138,11 @@ fine-written : (c : Write) (was : ℕ) (sent r : List ℕ) → Fine r → Fine (
 unfolding written byRules
 fine-written c was sent r s = fine-cond (opens (rulesOf c) was) _ r (elsewhere _ (rulesOf c .at) 6 r (rules-elsewhere c) s) s
 
+fine-copied : (r : List ℕ) → Fine r → Fine (copied r)
+unfolding copied onBytes
+fine-copied r s =
+    elsewhere _ (statusBits .at) 1 _ (before-both _ 1 (lit≤ tt)) (elsewhere _ (snapshot .at) (snapshot .size) r (behind-both _ (snapshot .size) (lit≤ tt)) s)
+
 fine-done : (c : Bare) (r : List ℕ) → Fine r → Fine (done c r)
 unfolding done onBytes
 fine-done Mute r s = elsewhere _ (statusBits .at) 1 r (before-both _ 1 (lit≤ tt)) s
@@ -139,6 +150,8 @@ fine-done Unmute r s = elsewhere _ (statusBits .at) 1 r (before-both _ 1 (lit≤
 fine-done Rstcc r s = fine-count (λ i old. 0) r (λ n. lit≤ tt) s
 fine-done Ulrr r s = fine-lock 1 r (lit≤ tt) s
 fine-done Clrcell r s = elsewhere _ (cells .at) (cells .size) r (before-both _ (cells .size) (lit≤ tt)) s
+fine-done Snap r s = fine-cond (snapped r) r (copied r) s (fine-copied r s)
+fine-done Unsnap r s = elsewhere _ (statusBits .at) 1 r (before-both _ 1 (lit≤ tt)) s
 
 fine-keeps : (c : Command) (eight r : List ℕ) → Fine r → Fine (keeps c eight r)
 unfolding keeps

@@ -1,24 +1,26 @@
 -- What a command leaves: every part of a record that lies outside what the command may change. And a record that goes on behind all that a
 -- command may change: the command does to the front what it does without the rest, and leaves the rest.
 -- Assumes nothing.
-use mathlib.Core.Path.{_≡_, refl, ap, ap₂, _∙_}
+use mathlib.Core.Path.{_≡_, refl, ap, ap₂, _∙_, subst⁻¹}
 use mathlib.Core.Bool.{Bool, true, false, cond}
 use mathlib.Core.List.{List, _++_}
 use Prim.Native.Nat.{ℕ, _+_, _≤_}
 use native.Mathlib.Omega.{arith}
-use lib.ListN.{length, List·getD-append}
+use lib.Bits.{bitOr}
+use lib.ListN.{length, getD}
 use Rattle.records.specs.declared.commands.Bare.{Bare}
-use Rattle.records.specs.declared.commands.Bare.the-variants.{Mute, Unmute, Rstcc, Ulrr, Clrcell}
+use Rattle.records.specs.declared.commands.Bare.the-variants.{Mute, Unmute, Rstcc, Ulrr, Clrcell, Snap, Unsnap}
 use Rattle.records.specs.declared.commands.Command.{Command}
 use Rattle.records.specs.declared.commands.Command.the-variants.{Reads, Writes, Bares, Unlisted}
 use Rattle.records.specs.declared.commands.Write.{Write}
 use Rattle.records.specs.declared.record.Part.{Part}
-use Rattle.records.specs.Record.{counter, unlocked, bytesOf, byteOf, onBytes}
+use Rattle.records.specs.Record.{cells, counter, unlocked, snapshot, statusBits, snapped, bytesOf, byteOf, onBytes}
 use Rattle.writes.specs.Writes.{rulesOf, byRules, opens, written}
-use Rattle.monitor.specs.Effects.{locked, counted, done, goodFor, keeps}
-use Rattle.monitor.specs.Spares.{sixOf, partOf, Apart, Spares, Before}
-use Rattle.records.proofs.Anew.{anew-front}
-use Rattle.records.proofs.Parts.{outside-anew}
+use Rattle.monitor.specs.Effects.{locked, counted, copied, done, goodFor, keeps}
+use Rattle.monitor.specs.Spares.{sixOf, partsOf, Apart, ApartFrom, Spares, EndBefore, Before}
+use Rattle.records.proofs.Anew.{length-anew, anew-front}
+use Rattle.records.proofs.Parts.{bytes-front, byte-front, outside-anew}
+use Rattle.records.proofs.Snapped.{snapped-front}
 use Rattle.monitor.proofs.Sound.{length-locked, length-counted}
 
 -- ---- such a part stays
@@ -40,13 +42,19 @@ module _ (p : Part) where
   unfolding written byRules
   written-spares c was sent r h = either (opens (rulesOf c) was) _ r r (outside-anew p _ (rulesOf c .at) 6 r h) refl
 
-  done-spares : (c : Bare) (r : List ℕ) → Apart p (partOf c) → bytesOf p (done c r) ≡ bytesOf p r
+  copied-spares : (r : List ℕ) → Apart p statusBits → Apart p snapshot → bytesOf p (copied r) ≡ bytesOf p r
+  unfolding copied onBytes
+  copied-spares r h k = outside-anew p _ _ _ _ h ∙ outside-anew p _ _ _ r k
+
+  done-spares : (c : Bare) (r : List ℕ) → ApartFrom p (partsOf c) → bytesOf p (done c r) ≡ bytesOf p r
   unfolding done onBytes
-  done-spares Mute r h = outside-anew p _ _ _ r h
-  done-spares Unmute r h = outside-anew p _ _ _ r h
-  done-spares Rstcc r h = outside-anew p _ _ _ r h
-  done-spares Ulrr r h = outside-anew p _ _ _ r h
-  done-spares Clrcell r h = outside-anew p _ _ _ r h
+  done-spares Mute r h = outside-anew p _ _ _ r (h .0)
+  done-spares Unmute r h = outside-anew p _ _ _ r (h .0)
+  done-spares Rstcc r h = outside-anew p _ _ _ r (h .0)
+  done-spares Ulrr r h = outside-anew p _ _ _ r (h .0)
+  done-spares Clrcell r h = outside-anew p _ _ _ r (h .0)
+  done-spares Snap r h = either (snapped r) r (copied r) r refl (copied-spares r (h .0) (h .1 .0))
+  done-spares Unsnap r h = outside-anew p _ _ _ r (h .0)
 
   pub keeps-spares : (c : Command) (eight r : List ℕ) → Spares c p → bytesOf p (keeps c eight r) ≡ bytesOf p r
   unfolding keeps
@@ -77,30 +85,37 @@ module _ (front rest : List ℕ) (long : unlocked .at + 1 ≤ length front) wher
   same : length (counted (locked front)) ≡ length front
   same = length-counted (locked front) ∙ length-locked front
 
-  was-front : byteOf unlocked (front ++ rest) ≡ byteOf unlocked front
-  unfolding byteOf
-  was-front = List·getD-append front rest 0 (unlocked .at) (omega arith)
-
   written-front : (c : Write) (was : ℕ) (sent r : List ℕ) → sixOf c .at + sixOf c .size ≤ length r
       → written c was sent (r ++ rest) ≡ written c was sent r ++ rest
   unfolding written byRules
   written-front c was sent r h = either-front (opens (rulesOf c) was) _ r (anew-front _ (rulesOf c .at) 6 r rest h) refl
 
-  done-front : (c : Bare) (r : List ℕ) → partOf c .at + partOf c .size ≤ length r → done c (r ++ rest) ≡ done c r ++ rest
+  copied-front : (r : List ℕ) → snapshot .at + snapshot .size ≤ length r → copied (r ++ rest) ≡ copied r ++ rest
+  unfolding copied onBytes
+  copied-front r h =
+      ap (λ (bytes : List ℕ). onBytes statusBits (λ i old. bitOr old 0x20) (onBytes snapshot (λ i old. getD bytes i 0) (r ++ rest))) (bytes-front cells r rest (omega arith))
+      ∙ ap (onBytes statusBits (λ i old. bitOr old 0x20)) (anew-front _ (snapshot .at) (snapshot .size) r rest h)
+      ∙ anew-front _ (statusBits .at) 1 _ rest (omega (arith, length-anew (λ i old. getD (bytesOf cells r) i 0) (snapshot .at) (snapshot .size) r))
+
+  done-front : (c : Bare) (r : List ℕ) → EndBefore (partsOf c) (length r) → done c (r ++ rest) ≡ done c r ++ rest
   unfolding done onBytes
-  done-front Mute r h = anew-front _ _ _ r rest h
-  done-front Unmute r h = anew-front _ _ _ r rest h
-  done-front Rstcc r h = anew-front _ _ _ r rest h
-  done-front Ulrr r h = anew-front _ _ _ r rest h
-  done-front Clrcell r h = anew-front _ _ _ r rest h
+  done-front Mute r h = anew-front _ _ _ r rest (h .0)
+  done-front Unmute r h = anew-front _ _ _ r rest (h .0)
+  done-front Rstcc r h = anew-front _ _ _ r rest (h .0)
+  done-front Ulrr r h = anew-front _ _ _ r rest (h .0)
+  done-front Clrcell r h = anew-front _ _ _ r rest (h .0)
+  done-front Snap r h =
+      ap (λ (on : Bool). cond on (r ++ rest) (copied (r ++ rest))) (snapped-front r rest (h .0))
+      ∙ either-front (snapped r) r (copied r) refl (copied-front r (h .1 .0))
+  done-front Unsnap r h = anew-front _ _ _ r rest (h .0)
 
   pub keeps-front : (c : Command) (eight : List ℕ) → Before c (length front) → keeps c eight (front ++ rest) ≡ keeps c eight front ++ rest
   unfolding keeps
   keeps-front (Reads q) eight h = locked-front
   keeps-front (Writes c) eight h =
       either-front (goodFor c eight) _ (locked front)
-      (ap₂ (λ (was : ℕ) (r : List ℕ). written c was eight r) was-front counted-front
+      (ap₂ (λ (was : ℕ) (r : List ℕ). written c was eight r) (byte-front unlocked front rest long) counted-front
       ∙ written-front c (byteOf unlocked front) eight (counted (locked front)) (omega (arith, same)))
       locked-front
-  keeps-front (Bares c) eight h = ap (done c) counted-front ∙ done-front c (counted (locked front)) (omega (arith, same))
+  keeps-front (Bares c) eight h = ap (done c) counted-front ∙ done-front c (counted (locked front)) (subst⁻¹ (EndBefore (partsOf c)) same h)
   keeps-front Unlisted eight h = refl

@@ -1,4 +1,4 @@
--- Document 01, "Effects" and "Counter", and document 02, L3: what one monitor keeps of an accepted frame. It depends on the command, on
+-- Document 01, "Effects" and "Counter", and document 02, L3 and L6: what one monitor keeps of an accepted frame. It depends on the command, on
 -- the monitor's own record and on its own eight bytes.
 -- Assumes nothing.
 use mathlib.Core.Bool.{Bool, true, false, cond}
@@ -6,14 +6,14 @@ use mathlib.Core.List.{List}
 use Prim.Native.Nat.{ℕ, _+_, _%_}
 use lib.Bits.{bitAnd, bitOr}
 use lib.Dec.{eqb, ltb}
-use lib.ListN.{length}
+use lib.ListN.{length, getD}
 use Rattle.pec.specs.Words.{payloadRight}
 use Rattle.records.specs.declared.commands.Bare.{Bare}
-use Rattle.records.specs.declared.commands.Bare.the-variants.{Mute, Unmute, Rstcc, Ulrr, Clrcell}
+use Rattle.records.specs.declared.commands.Bare.the-variants.{Mute, Unmute, Rstcc, Ulrr, Clrcell, Snap, Unsnap}
 use Rattle.records.specs.declared.commands.Command.{Command}
 use Rattle.records.specs.declared.commands.Command.the-variants.{Reads, Writes, Bares, Unlisted}
 use Rattle.records.specs.declared.commands.Write.{Write}
-use Rattle.records.specs.Record.{cells, counter, unlocked, statusBits, byteOf, onBytes}
+use Rattle.records.specs.Record.{cells, counter, unlocked, snapshot, statusBits, snapped, bytesOf, byteOf, onBytes}
 use Rattle.records.specs.Commands.{payloadSize}
 use Rattle.writes.specs.Writes.{rulesOf, written}
 
@@ -36,12 +36,18 @@ counted r = onBytes counter (λ i old. nextCount old) r
 unfoldable pub clearedByte : ℕ → ℕ
 clearedByte i = cond (eqb (i % 2) 0) 0x00 0x80
 
+-- a snapshot begins: the copy becomes what the cells are, and SNAP_ST is set
+unfoldable pub copied : List ℕ → List ℕ
+copied r = onBytes statusBits (λ i old. bitOr old 0x20) (onBytes snapshot (λ i old. getD (bytesOf cells r) i 0) r)
+
 unfoldable pub done : Bare → List ℕ → List ℕ
 done Mute r = onBytes statusBits (λ i old. bitOr old 0x10) r
 done Unmute r = onBytes statusBits (λ i old. bitAnd old 0xEF) r
 done Rstcc r = onBytes counter (λ i old. 0) r
 done Ulrr r = onBytes unlocked (λ i old. 1) r
 done Clrcell r = onBytes cells (λ i old. clearedByte i) r
+done Snap r = cond (snapped r) r (copied r)
+done Unsnap r = onBytes statusBits (λ i old. bitAnd old 0xDF) r
 
 -- ---- one monitor
 

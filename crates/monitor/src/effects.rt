@@ -3,7 +3,7 @@ ghost use mathlib.Core.Path.{_≡_};
 ghost use mathlib.Core.Bool.{cond, _&&_};
 ghost use lib.ListN.{length};
 ghost use Rattle.records.specs.Record.{recordSize, isRecord};
-ghost use Rattle.monitor.specs.Effects.{locked, nextCount, counted, done, goodFor, takes, keeps};
+ghost use Rattle.monitor.specs.Effects.{locked, nextCount, counted, copied, done, goodFor, takes, keeps};
 use records::Bare;
 use records::CELLS;
 use records::CELLS_SIZE;
@@ -11,9 +11,11 @@ use records::COUNTER;
 use records::Command;
 use records::PAYLOAD_SIZE;
 use records::RECORD_SIZE;
+use records::SNAPSHOT;
 use records::STATUS_BITS;
 use records::UNLOCKED;
 use records::Write;
+use records::is_snapped;
 use writes::needs_check;
 use writes::write;
 
@@ -54,6 +56,30 @@ fn clear_cells(rec: &mut [u8])
     }
 }
 
+// The cells are copied, and SNAP_ST is set.
+fn copy_cells(rec: &mut [u8])
+    requires { ⌜ length (now rec) ≡ recordSize ⌝ }
+    ensures { λ _. ⌜ now (rec .exit) ≡ copied (now (rec .entry)) ⌝ }
+{
+    let mut i = 0;
+    while i < CELLS_SIZE {
+        rec[SNAPSHOT + i] = rec[CELLS + i];
+        i += 1;
+    }
+    rec[STATUS_BITS] = rec[STATUS_BITS] | 0x20;
+}
+
+// A snapshot that is on keeps its copy.
+fn snap(rec: &mut [u8])
+    requires { ⌜ length (now rec) ≡ recordSize ⌝ }
+    ensures { λ _. ⌜ now (rec .exit) ≡ done Bare.Snap (now (rec .entry)) ⌝ }
+{
+    if is_snapped(rec) {
+        return;
+    }
+    copy_cells(rec);
+}
+
 // A bare command at one monitor: counted and done.
 fn act_bare(what: Bare, rec: &mut [u8])
     requires { ⌜ length (now rec) ≡ recordSize ⌝ }
@@ -66,6 +92,8 @@ fn act_bare(what: Bare, rec: &mut [u8])
         Bare::Rstcc => rec[COUNTER] = 0,
         Bare::Ulrr => rec[UNLOCKED] = 1,
         Bare::Clrcell => clear_cells(rec),
+        Bare::Snap => snap(rec),
+        Bare::Unsnap => rec[STATUS_BITS] = rec[STATUS_BITS] & 0xdf,
     }
 }
 

@@ -13,7 +13,7 @@ use Rattle.laws.proofs.Lists.{getD-any}
 use Rattle.pec.specs.Words.{twoBytes, seal}
 use Rattle.records.specs.declared.record.Part.{Part}
 use Rattle.records.specs.Record.{bytesOf}
-use Rattle.reads.specs.Reply.{register, reply}
+use Rattle.reads.specs.Reply.{sixBytes, register, reply}
 
 module _ (part : Part) (r : List ℕ) (i : ℕ) where
   pub shows : i < part .size → part .at + i < length r → getD r (part .at + i) 0 ≡ getD (bytesOf part r) i 0xFF
@@ -33,8 +33,8 @@ module _ (part : Part) (r : List ℕ) (i : ℕ) where
 
 -- where the part has six bytes and the slice has all of them: the slice's own, from where the part begins
 pub shows-whole : (part : Part) (r : List ℕ) → 6 ≤ part .size → part .at + 6 ≤ length r
-    → tabulate (λ i. getD (take (length r - part .at) (drop (part .at) r)) i 0) 0 6 ≡ register part r
-unfolding register tabulate
+    → tabulate (λ i. getD (take (length r - part .at) (drop (part .at) r)) i 0) 0 6 ≡ sixBytes part r
+unfolding sixBytes tabulate
 shows-whole part r h k =
     let from = drop (part .at) r in
     let room = length r - part .at in
@@ -49,5 +49,5 @@ shows-whole part r h k =
     ∷ []
 
 pub length-reply : (part : Part) (r : List ℕ) → length (reply part r) ≡ 8
-unfolding reply register tabulate seal twoBytes
+unfolding reply register sixBytes tabulate seal twoBytes
 length-reply part r = refl

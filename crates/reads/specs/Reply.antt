@@ -1,4 +1,4 @@
--- Document 01, "Commands": what one monitor replies to a read.
+-- Document 01, "Commands", and document 02, L6: what one monitor replies to a read.
 -- Assumes nothing.
 use mathlib.Core.List.{List, _++_}
 use Prim.Native.Nat.{ℕ}
@@ -7,10 +7,15 @@ use Rattle.laws.specs.Tables.{tabulate}
 use Rattle.pec.specs.Words.{seal}
 use Rattle.records.specs.declared.record.Part.{Part}
 use Rattle.records.specs.Record.{counter, bytesOf, byteOf}
+use Rattle.reads.specs.Shown.{shownPart}
 
--- the six bytes of a register: the record's bytes as they lie, and FF past the end of a shorter part (RDCVF)
+-- six bytes of a part: the record's as they lie, and FF past the end of a shorter part (RDCVF)
+unfoldable pub sixBytes : Part → List ℕ → List ℕ
+sixBytes part r = tabulate (λ i. getD (bytesOf part r) i 0xFF) 0 6
+
+-- the six bytes of a register
 unfoldable pub register : Part → List ℕ → List ℕ
-register part r = tabulate (λ i. getD (bytesOf part r) i 0xFF) 0 6
+register part r = sixBytes (shownPart part r) r
 
 -- the register, the counter as it stands, and the check over both
 unfoldable pub reply : Part → List ℕ → List ℕ

@@ -4,7 +4,8 @@ ghost use Prim.Native.Nat.{_≤_};
 ghost use lib.ListN.{length, getD};
 ghost use Rattle.laws.specs.Tables.{tabulate};
 ghost use Rattle.records.specs.Record.{bytesOf};
-ghost use Rattle.reads.specs.Reply.{register, reply};
+ghost use Rattle.reads.specs.Reply.{sixBytes, register, reply};
+use crate::shown::shown_part;
 use records::COUNTER;
 use records::Part;
 use records::byte_at;
@@ -25,9 +26,9 @@ fn shown_byte(rec: &[u8], part: Part, i: usize) -> u8
     0xff
 }
 
-// The six bytes of a register, each by its own tests.
-fn shown_register(part: Part, rec: &[u8]) -> [u8; 6]
-    ensures { λ r. ⌜ r ≡ register part (now (rec .entry)) ⌝ }
+// Six bytes of a part, each by its own tests.
+fn shown_bytes(part: Part, rec: &[u8]) -> [u8; 6]
+    ensures { λ r. ⌜ r ≡ sixBytes part (now (rec .entry)) ⌝ }
 {
     [
         shown_byte(rec, part, 0),
@@ -47,9 +48,9 @@ fn six_of(bytes: &[u8]) -> [u8; 6]
     [bytes[0], bytes[1], bytes[2], bytes[3], bytes[4], bytes[5]]
 }
 
-// The six bytes of a register. Every part but cell 16 has six and lies within the record: one test is then enough for all.
-fn register_of(part: Part, rec: &[u8]) -> [u8; 6]
-    ensures { λ r. ⌜ r ≡ register part (now (rec .entry)) ⌝ }
+// Six bytes of a part. Every part but cell 16 has six and lies within the record: one test is then enough for all.
+fn part_bytes(part: Part, rec: &[u8]) -> [u8; 6]
+    ensures { λ r. ⌜ r ≡ sixBytes part (now (rec .entry)) ⌝ }
 {
     let at = part.at as usize;
     let size = part.size as usize;
@@ -60,7 +61,14 @@ fn register_of(part: Part, rec: &[u8]) -> [u8; 6]
             }
         }
     }
-    shown_register(part, rec)
+    shown_bytes(part, rec)
+}
+
+// The six bytes of a register: of the part that is shown.
+fn register_of(part: Part, rec: &[u8]) -> [u8; 6]
+    ensures { λ r. ⌜ r ≡ register part (now (rec .entry)) ⌝ }
+{
+    part_bytes(shown_part(part, rec), rec)
 }
 
 // The eight bytes that one monitor replies: the register, the counter as it stands, the check over both.

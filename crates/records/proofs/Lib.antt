@@ -3,3 +3,4 @@ pub mod Making
 pub mod Answers
 pub mod CommandList
 pub mod Parts
+pub mod Snapped

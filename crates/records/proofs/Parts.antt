@@ -1,15 +1,15 @@
--- What a part of a record holds: its byte i is the record's at the part's beginning and i. Bytes made anew outside a part leave
--- what it holds, and outside the counter and the retention byte they leave a record as sound as it was.
+-- What a part of a record holds: its byte i is the record's at the part's beginning and i. What lies behind a part, and bytes made anew
+-- outside it, leave what it holds, and outside the counter and the retention byte they leave a record as sound as it was.
 -- Assumes nothing.
 use mathlib.Core.Path.{_≡_, refl, sym, ap, ap₂, _∙_}
 use mathlib.Core.Bool.{_&&_}
-use mathlib.Core.List.{List}
+use mathlib.Core.List.{List, _++_}
 use mathlib.Core.Logic.{inl, inr}
 use Prim.Native.Nat.{ℕ, zero, suc, _+_, _-_, _≤_, _<_}
 use native.Mathlib.Omega.{arith}
 use lib.Dec.{leb, lit≤}
-use lib.ListN.{take, drop, getD, set}
-use lib.Seq.{getD-take, getD-drop, take-set-le, drop-set-lt, drop-set-add}
+use lib.ListN.{length, length-drop, take, drop, getD, set, List·getD-append}
+use lib.Seq.{getD-take, getD-drop, take-append-le, drop-append-le, take-set-le, drop-set-lt, drop-set-add}
 use Rattle.records.specs.declared.record.Part.{Part}
 use Rattle.records.specs.Record.{counter, unlocked, bytesOf, byteOf, Outside, anew, recordSound}
 use Rattle.records.proofs.Anew.{anew-below, anew-above}
@@ -17,6 +17,19 @@ use Rattle.records.proofs.Anew.{anew-below, anew-above}
 pub byte-of-part : (p : Part) (r : List ℕ) {i : ℕ} → i < p .size → getD (bytesOf p r) i 0 ≡ getD r (p .at + i) 0
 unfolding bytesOf
 byte-of-part p r {i} h = getD-take (p .size) (drop (p .at) r) i 0 h ∙ getD-drop (p .at) r i 0
+
+-- ---- a record that goes on behind a part
+
+module _ (p : Part) (front rest : List ℕ) where
+  pub bytes-front : p .at + p .size ≤ length front → bytesOf p (front ++ rest) ≡ bytesOf p front
+  unfolding bytesOf
+  bytes-front h =
+      ap (take (p .size)) (drop-append-le (p .at) front rest (omega arith))
+      ∙ take-append-le (p .size) (drop (p .at) front) rest (omega (arith, length-drop (p .at) front))
+
+  pub byte-front : p .at < length front → byteOf p (front ++ rest) ≡ byteOf p front
+  unfolding byteOf
+  byte-front h = List·getD-append front rest 0 (p .at) h
 
 -- ---- bytes made anew outside a part
 

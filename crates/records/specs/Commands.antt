@@ -1,17 +1,17 @@
--- Document 01, "Commands", and document 02, L2: the list of commands, their kinds, the length that a frame must have and the length of a reply.
+-- Document 01, "Commands", and document 02, L2 and L6: the list of commands, their kinds, the length that a frame must have and the length of a reply.
 -- Assumes nothing.
 use mathlib.Core.Bool.{Bool, true, false, cond}
 use mathlib.Core.List.{List, [], _∷_}
 use Prim.Native.Nat.{ℕ, _+_, _*_}
 use lib.Dec.{eqb}
 use Rattle.records.specs.declared.commands.Write.the-variants.{Wrcfga, Wrcfgb, Wrrr, Clrflag, Clovuv, Wrpwma, Wrpwmb}
-use Rattle.records.specs.declared.commands.Bare.the-variants.{Mute, Unmute, Rstcc, Ulrr, Clrcell}
+use Rattle.records.specs.declared.commands.Bare.the-variants.{Mute, Unmute, Rstcc, Ulrr, Clrcell, Snap, Unsnap}
 use Rattle.records.specs.declared.commands.Command.{Command}
 use Rattle.records.specs.declared.commands.Command.the-variants.{Reads, Writes, Bares, Unlisted}
 use Rattle.records.specs.declared.record.Part.{Part}
 use Rattle.records.specs.Record.{configurationA, configurationB, threeCells, cell16, statusC, statusD, serialId, retention, pwmA, pwmB}
 
--- the part of the record that each read shows
+-- the part of the record that each read shows; one of the cells, while a snapshot is on, in their copy (`reads`)
 abbrev pub rdcfga : Part
 rdcfga = configurationA
 
@@ -91,6 +91,8 @@ commands =
     ∷ row 0x002E (Bares Rstcc)
     ∷ row 0x0038 (Bares Ulrr)
     ∷ row 0x0711 (Bares Clrcell)
+    ∷ row 0x002D (Bares Snap)
+    ∷ row 0x002F (Bares Unsnap)
     ∷ []
 
 -- the command of the first row that has the code

@@ -1,4 +1,4 @@
--- Document 01, "The table", and document 02, L2: one monitor's record, its parts by name. Sizes and offsets stand here and nowhere else.
+-- Document 01, "The table", and document 02, L2 and L6: one monitor's record, its parts by name. Sizes and offsets stand here and nowhere else.
 -- Assumes nothing.
 use mathlib.Core.Bool.{Bool, _&&_}
 use mathlib.Core.List.{List}
@@ -6,6 +6,7 @@ use mathlib.Core.Logic.{_⊎_}
 use Prim.Native.Nat.{ℕ, zero, suc, _+_, _*_, _≤_}
 use lib.Dec.{eqb, leb}
 use lib.ListN.{length, take, drop, getD, set}
+use Rattle.laws.specs.Bits.{bitAt}
 use Rattle.records.specs.declared.record.Part.{Part}
 
 -- a part is the code's struct: where it begins, and how many bytes it has
@@ -52,8 +53,12 @@ pwmA = part 70 6
 abbrev pub pwmB : Part
 pwmB = part 76 6
 
+-- the copy of the cells that SNAP takes
+abbrev pub snapshot : Part
+snapshot = part 82 32
+
 abbrev pub recordSize : ℕ
-recordSize = 82
+recordSize = 114
 
 -- ---- parts of parts
 
@@ -85,6 +90,10 @@ bytesOf p r = take (p .size) (drop (p .at) r)
 -- the byte of a part that has one
 unfoldable pub byteOf : Part → List ℕ → ℕ
 byteOf p r = getD r (p .at) 0
+
+-- SNAP_ST: a snapshot is on
+unfoldable pub snapped : List ℕ → Bool
+snapped r = bitAt 5 (byteOf statusBits r)
 
 -- n bytes from a place on are none of a part's
 abbrev pub Outside : Part → ℕ → ℕ → Type 0

@@ -35,6 +35,8 @@ pub enum Bare {
     Rstcc,
     Ulrr,
     Clrcell,
+    Snap,
+    Unsnap,
 }
 
 pub enum Command {
@@ -77,6 +79,8 @@ pub fn command_of(code: u16) -> Command
         0x002e => Command::Bares(Bare::Rstcc),
         0x0038 => Command::Bares(Bare::Ulrr),
         0x0711 => Command::Bares(Bare::Clrcell),
+        0x002d => Command::Bares(Bare::Snap),
+        0x002f => Command::Bares(Bare::Unsnap),
         _ => Command::Unlisted,
     }
 }

@@ -2,9 +2,9 @@
 ghost use mathlib.Core.Path.{_≡_};
 ghost use mathlib.Core.Bool.{_&&_};
 ghost use lib.ListN.{getD};
-ghost use Rattle.records.specs.Record.{isRecord, recordSound};
+ghost use Rattle.records.specs.Record.{snapped, isRecord, recordSound};
 
-pub const RECORD_SIZE: usize = 82;
+pub const RECORD_SIZE: usize = 114;
 
 pub const CONFIGURATION_A: usize = 0;
 // Byte 5 of configuration A, with SNAP_ST at bit 5 and MUTE_ST at bit 4.
@@ -42,6 +42,9 @@ pub const PWM_A: usize = 70;
 
 // The duties of cells 13 to 16.
 pub const PWM_B: usize = 76;
+
+// The copy of the cells that SNAP takes.
+pub const SNAPSHOT: usize = 82;
 
 // Where a part of the record begins, and how many bytes it has. In bytes, so that a command is three of them: the compiler copies a
 // larger one in pieces that wait for each other.
@@ -126,6 +129,13 @@ pub fn byte_at(bytes: &[u8], i: usize) -> u8
     ensures { λ b. ⌜ b ≡ getD (now (bytes .entry)) i 0 ⌝ }
 {
     if i < bytes.len() { bytes[i] } else { 0 }
+}
+
+// SNAP_ST: is a snapshot on?
+pub fn is_snapped(rec: &[u8]) -> bool
+    ensures { λ r. ⌜ r ≡ snapped (now (rec .entry)) ⌝ }
+{
+    byte_at(rec, STATUS_BITS) / 32 % 2 == 1
 }
 
 // Is it a record, with a counter of 0 to 63 and a retention byte of 0 or 1?

@@ -46,6 +46,21 @@ enum-told-5 c = search needs
 clear-cells-requires : tie.Need-clear-cells-requires
 clear-cells-requires c κs = search needs
 
+enum-told-6 : tie.Need-enum-told-6
+enum-told-6 c = search needs
+
+snap-requires : tie.Need-snap-requires
+snap-requires c κs = search needs
+
+enum-told-7 : tie.Need-enum-told-7
+enum-told-7 c = search needs
+
+slice-read-rec-3 : tie.Need-slice-read-rec-3
+slice-read-rec-3 c = search needs
+
+slice-write-rec-5 : tie.Need-slice-write-rec-5
+slice-write-rec-5 c = search needs
+
 same-length : tie.Need-same-length
 same-length c = search needs
 
@@ -81,6 +96,20 @@ returns-5 : tie.Need-returns-5
 returns-5 c =
     c .before .before .clear-cells .ensures ∙ ap₂ done (sym (c .before .before .before .before .enum-told5 .given .1)) (c .before .before .before .before .before .before .before .before .begin .ensures)
 
+same-length-6 : tie.Need-same-length-6
+same-length-6 c = search needs
+
+returns-6 : tie.Need-returns-6
+returns-6 c =
+    c .before .before .snap .ensures ∙ ap₂ done (sym (c .before .before .before .before .enum-told6 .given .1)) (c .before .before .before .before .before .before .before .before .begin .ensures)
+
+same-length-7 : tie.Need-same-length-7
+same-length-7 c = search needs
+
+returns-7 : tie.Need-returns-7
+unfolding done onBytes anew
+returns-7 c = ap₂ done (sym (c .before .enum-told7 .given .1)) (c .before .before .before .before .before .begin .ensures)
+
 pub act-bare-spec : {M : Type 1} → statement M
 act-bare-spec =
     tie.close
@@ -98,6 +127,11 @@ act-bare-spec =
     slice-write-rec-4
     enum-told-5
     clear-cells-requires
+    enum-told-6
+    snap-requires
+    enum-told-7
+    slice-read-rec-3
+    slice-write-rec-5
     same-length
     returns
     same-length-2
@@ -107,4 +141,8 @@ act-bare-spec =
     same-length-4
     returns-4
     same-length-5
-    returns-5)
+    returns-5
+    same-length-6
+    returns-6
+    same-length-7
+    returns-7)

@@ -1,56 +1,21 @@
--- `reads::replies::register_of` meets its contract: after its tests all six bytes are the record's, and without them the call
--- promises the same.
+-- `reads::replies::register_of` meets its contract: six bytes of the part that is shown.
 -- Assumes nothing.
-use mathlib.Core.Path.{_∙_}
-use native.Mathlib.Omega.{arith}
-use Rattle.reads.proofs.Showing.{shows-whole}
+use mathlib.Core.Path.{ap, _∙_}
+use Rattle.records.specs.declared.record.Part.{Part}
+use Rattle.reads.specs.Reply.{sixBytes, register}
 use borrow.Author.Needs.{needs}
 use Rattle.reads.proofs.replies.register_of.Statement.{statement}
 use Rattle.reads.proofs.replies.register_of.Tie as tie
 
-cast-at : tie.Need-cast-at
-cast-at c = search needs
+shown-part-requires : tie.Need-shown-part-requires
+shown-part-requires c κs = search needs
 
-cast-size : tie.Need-cast-size
-cast-size c = search needs
-
-sub-if3 : tie.Need-sub-if3
-sub-if3 c = search needs
-
-sub-six-of : tie.Need-sub-six-of
-sub-six-of c = search needs
-
-part-six-of-start : tie.Need-part-six-of-start
-part-six-of-start c = search needs
-
-part-six-of-end : tie.Need-part-six-of-end
-part-six-of-end c = search needs
-
-six-of-requires : tie.Need-six-of-requires
-six-of-requires c κs = search needs
+part-bytes-requires : tie.Need-part-bytes-requires
+part-bytes-requires c κs = search needs
 
 returns : tie.Need-returns
-returns c =
-    let a = c .before .before .before .before .before .before .before .before .args in
-    c .six-of .ensures ∙ shows-whole (a .part) (a .rec .now) (omega arith) (omega arith)
-
-shown-register-requires : tie.Need-shown-register-requires
-shown-register-requires c κs = search needs
-
-returns-2 : tie.Need-returns-2
-returns-2 c = search needs
+unfolding register
+returns c = c .part-bytes .ensures ∙ ap (λ (part : Part). sixBytes part (c .before .before .before .args .rec .now)) (c .before .shown-part .ensures)
 
 pub register-of-spec : {M : Type 1} → statement M
-register-of-spec =
-    tie.close
-    (tie.spec
-    cast-at
-    cast-size
-    sub-if3
-    sub-six-of
-    part-six-of-start
-    part-six-of-end
-    six-of-requires
-    returns
-    shown-register-requires
-    returns-2)
+register-of-spec = tie.close (tie.spec shown-part-requires part-bytes-requires returns)

@@ -38,4 +38,6 @@ command-of-spec =
     (λ c. in-row (c .match .keys24))
     (λ c. in-row (c .match .keys25))
     (λ c. in-row (c .match .keys26))
+    (λ c. in-row (c .match .keys27))
+    (λ c. in-row (c .match .keys28))
     (λ c. sym (in-no-row (c .before .args .code) commands Unit (c .match .rest) .1)))

@@ -1,0 +1,26 @@
+-- Document 02, L6: which part of a record a read shows. While a snapshot is on the cell reads show the copy of the cells; every other read, status
+-- C and D included, shows what it did.
+-- Assumes nothing.
+use mathlib.Core.Bool.{Bool, cond, _&&_}
+use mathlib.Core.List.{List, [], _∷_}
+use Prim.Native.Nat.{ℕ, _+_, _-_}
+use lib.Dec.{leb}
+use Rattle.records.specs.declared.record.Part.{Part}
+use Rattle.records.specs.Record.{cells, snapshot, snapped}
+use Rattle.records.specs.Commands.{rdcva, rdcvb, rdcvc, rdcvd, rdcve, rdcvf}
+
+-- the cell reads, in the order of the cells
+abbrev pub cellReads : List Part
+cellReads = rdcva ∷ rdcvb ∷ rdcvc ∷ rdcvd ∷ rdcve ∷ rdcvf ∷ []
+
+-- a part of the cells
+unfoldable pub ofCells : Part → Bool
+ofCells p = leb (cells .at) (p .at) && leb (p .at + p .size) (cells .at + cells .size)
+
+-- the same part of their copy
+abbrev pub copyOf : Part → Part
+copyOf p = record { at = snapshot .at + (p .at - cells .at); size = p .size }
+
+-- the part that is shown: of the cells, while a snapshot is on, the copy's
+unfoldable pub shownPart : Part → List ℕ → Part
+shownPart p r = cond (ofCells p && snapped r) (copyOf p) p
