@@ -12,6 +12,7 @@ use lib.Pow.{pow-add, pow-lt, shl-shr}
 use borrow.Author.Tests.{eq-eqb, ne-eqb, eqb-true, eqb-false, ltb-true, ltb-false}
 use Rattle.laws.specs.Bits.{_⊕_, odd, bitAt}
 use Rattle.laws.proofs.Xor.{xor-zero, xor-div, xor-rem, odd-xor}
+use Rattle.laws.proofs.Counts.{and-false}
 use Rattle.laws.proofs.Or.{last-or}
 
 min-below : (x y : ℕ) → x < 2 → y < 2 → min x y < 2
@@ -44,10 +45,6 @@ both-one (suc zero) (suc (suc y)) hx hy = absurd (omega arith)
 or-true : (b : Bool) → b || true ≡ true
 or-true true = refl
 or-true false = refl
-
-and-false : (b : Bool) → b && false ≡ false
-and-false true = refl
-and-false false = refl
 
 module _ (k a b : ℕ) where
   pub or-bits : bitAt k (bitOr a b) ≡ bitAt k a || bitAt k b

@@ -18,7 +18,6 @@ pub record Within (p : Part) : Type 0 where
   pub ends : p .at + p .size ≤ cells .at + cells .size
 
 pub of-cells : (p : Part) → ofCells p ≡ true → Within p
-unfolding ofCells
 of-cells p h =
     record {
       begins = leb-true _ _ (both-first (leb (cells .at) (p .at)) _ h);

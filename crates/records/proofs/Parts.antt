@@ -1,4 +1,4 @@
--- What a part of a record holds: its byte i is the record's at the part's beginning and i. What lies behind a part, and bytes made anew
+-- What a part of a record holds: its byte i is the record's at the part's beginning and i; a part within a part; a part made anew. What lies behind a part, and bytes made anew
 -- outside it, leave what it holds, and outside the counter and the retention byte they leave a record as sound as it was.
 -- Assumes nothing.
 use mathlib.Core.Path.{_≡_, refl, sym, ap, ap₂, _∙_}
@@ -9,14 +9,42 @@ use Prim.Native.Nat.{ℕ, zero, suc, _+_, _-_, _≤_, _<_}
 use native.Mathlib.Omega.{arith}
 use lib.Dec.{leb, lit≤}
 use lib.ListN.{length, length-drop, take, drop, getD, set, List·getD-append}
-use lib.Seq.{getD-take, getD-drop, take-append-le, drop-append-le, take-set-le, drop-set-lt, drop-set-add}
+use lib.Seq.{ext-getD, getD-take, getD-drop, length-take-le, take-take, drop-drop, take-append-le, drop-append-le, take-set-le, drop-set-lt, drop-set-add}
+use Rattle.laws.proofs.Lists.{drop-take}
 use Rattle.records.specs.declared.record.Part.{Part}
-use Rattle.records.specs.Record.{counter, unlocked, bytesOf, byteOf, Outside, anew, recordSound}
-use Rattle.records.proofs.Anew.{anew-below, anew-above}
+use Rattle.records.specs.Record.{counter, unlocked, bytesOf, byteOf, Outside, anew, onBytes, recordSound}
+use Rattle.records.proofs.Anew.{length-anew, anew-below, anew-above, anew-inside}
 
 pub byte-of-part : (p : Part) (r : List ℕ) {i : ℕ} → i < p .size → getD (bytesOf p r) i 0 ≡ getD r (p .at + i) 0
 unfolding bytesOf
 byte-of-part p r {i} h = getD-take (p .size) (drop (p .at) r) i 0 h ∙ getD-drop (p .at) r i 0
+
+pub length-part : (p : Part) (r : List ℕ) → p .at + p .size ≤ length r → length (bytesOf p r) ≡ p .size
+unfolding bytesOf
+length-part p r h = length-take-le (p .size) (drop (p .at) r) (omega (arith, length-drop (p .at) r))
+
+-- a part that lies within another is a part of what the other holds
+pub part-of-part : (p q : Part) (r : List ℕ) → q .at ≤ p .at → p .at + p .size ≤ q .at + q .size
+    → bytesOf p r ≡ take (p .size) (drop (p .at - q .at) (bytesOf q r))
+unfolding bytesOf
+part-of-part p q r h k =
+    let d = p .at - q .at in
+    let there : q .at + d ≡ p .at = omega arith in
+    let room : d + (q .size - d) ≡ q .size = omega arith in
+    sym
+    (ap (λ (n : ℕ). take (p .size) (drop d (take n (drop (q .at) r)))) (sym room)
+    ∙ ap (take (p .size)) (drop-take d (q .size - d) (drop (q .at) r))
+    ∙ take-take (p .size) (q .size - d) (drop d (drop (q .at) r)) (omega arith)
+    ∙ ap (take (p .size)) (drop-drop d (q .at) r ∙ ap (λ (n : ℕ). drop n r) there))
+
+-- a part whose bytes were made anew, each as a list has it, holds the list
+pub made-of : (p : Part) (xs r : List ℕ) → length xs ≡ p .size → p .at + p .size ≤ length r → bytesOf p (onBytes p (λ i old. getD xs i 0) r) ≡ xs
+unfolding onBytes
+made-of p xs r l fits =
+    let made = anew (λ i old. getD xs i 0) (p .at) (p .size) r in
+    let as-long : length (bytesOf p made) ≡ p .size = length-part p made (omega (arith, length-anew (λ i old. getD xs i 0) (p .at) (p .size) r)) in
+    ext-getD 0 (bytesOf p made) xs (as-long ∙ sym l)
+    (λ i h. byte-of-part p made (omega (arith, as-long)) ∙ anew-inside (λ i old. getD xs i 0) (p .at) (p .size) r i (omega (arith, as-long)) fits)
 
 -- ---- a record that goes on behind a part
 

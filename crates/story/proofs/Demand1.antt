@@ -110,6 +110,7 @@ pub record Promises : Type 2 where
   is-listed : Promised records.is_listed.Statement.statement records.is_listed.Reads.Asked
   record-sound : Promised records.record_sound.Statement.statement records.record_sound.Reads.Asked
   byte-at : Promised records.byte_at.Statement.statement records.byte_at.Reads.Asked
+  is-snapped : Promised records.is_snapped.Statement.statement records.is_snapped.Reads.Asked
   reply-of : Promised reads.reply_of.Statement.statement reads.reply_of.Reads.Asked
   needs-check : Promised writes.needs_check.Statement.statement writes.needs_check.Reads.Asked
   write : Promised writes.write.Statement.statement writes.write.Reads.Asked
@@ -248,6 +249,7 @@ proved =
       is-listed = (λ M. records.is_listed.Met.met, λ κ a. tt);
       record-sound = (λ M. records.record_sound.Met.met, λ κ a. tt);
       byte-at = (λ M. records.byte_at.Met.met, λ κ a. tt);
+      is-snapped = (λ M. records.is_snapped.Met.met, λ κ a. tt);
       reply-of = (λ M. reads.reply_of.Met.met, λ κ a. tt);
       needs-check = (λ M. writes.needs_check.Met.met, λ κ a. tt);
       write = (λ M. writes.write.Met.met, λ κ a. tt);

@@ -1,14 +1,14 @@
 -- Demand 2. What the chain does with a frame is what the data sheet says as document 01 condenses it, with the requests of document 02 that
--- have landed (L1, L2, L3), monitor by monitor. What our
+-- have landed (L1, L2, L3, L6), monitor by monitor. What our
 -- host writes hands each monitor its own six bytes: nearest first in our list, farthest first on the wire. Monitors are counted
 -- from 0 here: monitor 1 of the paper is k = 0. Each field is proved where it is cited from.
 -- Assumes nothing.
 use mathlib.Core.Path.{_≡_, refl}
-use mathlib.Core.Bool.{true, false, not, _&&_}
+use mathlib.Core.Bool.{true, false, cond, not, _&&_}
 use mathlib.Core.List.{List, [], _∷_, _++_, map, reverse}
 use mathlib.Core.Logic.{_⊎_}
 use Prim.Native.Nat.{ℕ, suc, _+_, _-_, _*_, _/_, _%_, _^_, _≤_, _<_}
-use lib.Bits.{bitOr}
+use lib.Bits.{bitAnd, bitOr}
 use lib.Dec.{eqb, ltb, leb}
 use lib.IntN.{ℤ, pos, negsuc}
 use lib.ListN.{length, take, drop, getD, replicate}
@@ -16,7 +16,7 @@ use mir.Syntax.{w16}
 use mir.Val.{SFits}
 use Rattle.laws.specs.Counts.{all, count}
 use Rattle.laws.specs.Bits.{bitAt}
-use Rattle.laws.specs.Rows.{rows, rowAt}
+use Rattle.laws.specs.Rows.{rows, rowAt, joined}
 use Rattle.laws.specs.Tables.{tabulate}
 use Rattle.pec.specs.Words.{seal, commandRight, payloadRight}
 use Rattle.wire.specs.Order.{replyData}
@@ -25,18 +25,19 @@ use Rattle.refusals.specs.declared.Refusal.the-variants.{TableNotSound, FrameSh
 use Rattle.refusals.specs.Order.{_gives_}
 use Rattle.refusals.proofs.Deciding.{Passed}
 use Rattle.records.specs.declared.commands.Bare.{Bare}
-use Rattle.records.specs.declared.commands.Bare.the-variants.{Mute, Unmute, Ulrr, Clrcell}
+use Rattle.records.specs.declared.commands.Bare.the-variants.{Mute, Unmute, Ulrr, Clrcell, Snap, Unsnap}
 use Rattle.records.specs.declared.commands.Command.{Command}
 use Rattle.records.specs.declared.commands.Command.the-variants.{Reads, Writes, Bares}
 use Rattle.records.specs.declared.commands.Write.{Write}
 use Rattle.records.specs.declared.commands.Write.the-variants.{Wrcfgb, Wrrr, Wrpwma, Wrpwmb}
 use Rattle.records.specs.declared.record.Part.{Part}
-use Rattle.records.specs.Record.{cellCount, cells, flags, statusBits, dccBits, pwmA, pwmB, recordSize, retention, counter, unlocked, bytesOf as partOf, byteOf, onBytes}
-use Rattle.records.specs.Commands.{commands, commandOf, isListed, rdcfgb, rdrr, rdpwma, rdpwmb, mostMonitors, payloadSize, frameLength, replyLength}
+use Rattle.records.specs.Record.{cellCount, cells, flags, snapshot, statusBits, dccBits, pwmA, pwmB, recordSize, retention, counter, unlocked, snapped, bytesOf as partOf, byteOf, onBytes}
+use Rattle.records.specs.Commands.{commands, commandOf, isListed, rdcfga, rdcfgb, rdcva, rdcvb, rdcvc, rdcvd, rdcve, rdcvf, rdstatc, rdstatd, rdsid, rdrr, rdpwma, rdpwmb, mostMonitors, payloadSize, frameLength, replyLength}
 use Rattle.writes.specs.Writes.{written}
 use Rattle.writes.proofs.Written.{needs-but-wrrr}
 use Rattle.monitor.specs.Effects.{locked, counted, done, keeps}
-use Rattle.reads.specs.Reply.{register, reply}
+use Rattle.reads.specs.Shown.{cellReads, ofCells, shownCells}
+use Rattle.reads.specs.Reply.{sixBytes, register, reply}
 use Rattle.monitor.proofs.Keeping.{keeps-right, keeps-wrong}
 use Rattle.chain.specs.declared.frames.Answer.the-variants.{Refused, Accepted}
 use Rattle.judging.specs.Table.{monitors, sound, Beside}
@@ -74,12 +75,14 @@ use Rattle.host.specs.Frames.{dataSize, sealed, frameFor, buildRefusals, built,
 use Rattle.ports.specs.Ports.{partA}
 use Rattle.ports.specs.Parts.{bytesOf}
 use Rattle.story.specs.Numbers.{First}
+use Rattle.story.specs.Snapshots.{snappedAfter}
 use Rattle.story.proofs.Accepted.{frame-refused, write-answer, wrrr-answer, read-answer, bare-answer, record-after, reply-own, reply-past, write-no-reply, bare-no-reply, store-done, store-own, store-others, compare-done, compare-own, compare-others, load-done, load-own, load-others, discharge-answer, host-writes}
 use Rattle.story.proofs.OurHost.{own-six, write-taken-by-all, bare-taken-by-all, each-keeps-its-own, reply-right, read-taken-by-all, each-reply-its-own, each-reply-right}
 use Rattle.story.specs.ReadsBack.{ReadsBack, as-written, fixed-behind-two}
 use Rattle.story.proofs.ReadBack.{b-read-back, pwm-a-read-back, pwm-b-read-back}
 use Rattle.story.proofs.Retention.{wrrr-unlocked, wrrr-locked, ulrr-unlocks, retained, not-retained}
-use Rattle.story.proofs.AsBefore.{base-as-before, reply-as-before, pwm-stays, a-stays, b-stays}
+use Rattle.story.proofs.AsBefore.{base-as-before, copy-as-before, reply-as-before, pwm-stays, a-stays, b-stays, copy-stays}
+use Rattle.story.proofs.Snapshot.{snap-takes, snap-again, snap-st, snap-copies, store-snap-st, store-copy, compare-snap-st, compare-copy, shows-the-cells, shows-as-it-lies}
 use Rattle.story.proofs.Muting.{mute-answers, unmute-answers}
 use Rattle.story.proofs.BothEnds.{the-replies, handed-from-a, handed-from-b}
 use Rattle.story.proofs.Cleared.{clrcell-clears}
@@ -138,16 +141,42 @@ pub record Demand2 : Type 0 where
       → take dataSize (rowAt payloadSize k (replyAfter (tableAfter table write room) read buffer)) ≡ partOf retention (rowAt recordSize k table)
   -- a command changes no part of a record but the retention byte, the counter and the part that is its own
   spares : (p : Part) (c : Command) (eight r : List ℕ) → Spares c p → partOf p (keeps c eight r) ≡ partOf p r
-  -- the record has grown behind its byte 69, and every command but the two that write there does to the front what it does without the rest,
-  -- and leaves the rest; a read of a part of the front replies from it
-  as-before : (c : Command) → (c ≡ Writes Wrpwma → ⊥) → (c ≡ Writes Wrpwmb → ⊥) → (eight front rest : List ℕ) → length front ≡ pwmA .at
+  -- the record has grown behind its byte 69, twice: by the PWM groups, and by the copy of the cells. Every command that was there before does to the
+  -- front what it does without the rest, and leaves the rest. A read of a part of the front replies from it, one of the cells where no snapshot is on
+  as-before : (c : Command) (eight front rest : List ℕ) → (c ≡ Writes Wrpwma → ⊥) → (c ≡ Writes Wrpwmb → ⊥) → (c ≡ Bares Snap → ⊥) → length front ≡ pwmA .at
       → keeps c eight (front ++ rest) ≡ keeps c eight front ++ rest
-  replies-as-before : (p : Part) (front rest : List ℕ) → p .at + p .size ≤ pwmA .at → length front ≡ pwmA .at → reply p (front ++ rest) ≡ reply p front
+  as-before-snap : (c : Command) (eight front rest : List ℕ) → (c ≡ Bares Snap → ⊥) → length front ≡ snapshot .at
+      → keeps c eight (front ++ rest) ≡ keeps c eight front ++ rest
+  replies-as-before : (p : Part) (front rest : List ℕ) → p .at + p .size ≤ length front → pwmA .at ≤ length front → ofCells p && snapped front ≡ false
+      → reply p (front ++ rest) ≡ reply p front
   -- so both PWM groups stay, and each also where the other is written
   pwm-stays : (c : Command) → (c ≡ Writes Wrpwma → ⊥) → (c ≡ Writes Wrpwmb → ⊥) → (eight r : List ℕ)
       → (partOf pwmA (keeps c eight r) ≡ partOf pwmA r) × (partOf pwmB (keeps c eight r) ≡ partOf pwmB r)
   pwm-a-stays : (eight r : List ℕ) → partOf pwmA (keeps (Writes Wrpwmb) eight r) ≡ partOf pwmA r
   pwm-b-stays : (eight r : List ℕ) → partOf pwmB (keeps (Writes Wrpwma) eight r) ≡ partOf pwmB r
+  -- ---- a snapshot
+
+  -- SNAP where SNAP_ST, bit 5 of its byte, is clear: the copy becomes what the cells are, and SNAP_ST is set; where it is set, nothing but the
+  -- count. UNSNAP clears it. No more of the record changes: not the live cells, and at UNSNAP not the copy
+  snap-st-at : (r : List ℕ) → snapped r ≡ bitAt 5 (getD r (statusBits .at) 0)
+  snap-takes : (eight r : List ℕ) → length r ≡ recordSize → snapped r ≡ false
+      → keeps (Bares Snap) eight r ≡ onBytes statusBits (λ i old. bitOr old 0x20) (onBytes snapshot (λ i old. getD (partOf cells r) i 0) (counted (locked r)))
+  snap-again : (eight r : List ℕ) → length r ≡ recordSize → snapped r ≡ true → keeps (Bares Snap) eight r ≡ counted (locked r)
+  unsnap : (eight r : List ℕ) → keeps (Bares Unsnap) eight r ≡ onBytes statusBits (λ i old. bitAnd old 0xDF) (counted (locked r))
+  -- so SNAP_ST after each command; the copy after SNAP, which is what the cell reads showed before it, and after every other command
+  snap-st : (eight r : List ℕ) → length r ≡ recordSize → (c : Command) → snapped (keeps c eight r) ≡ snappedAfter c (snapped r)
+  snap-copies : (eight r : List ℕ) → length r ≡ recordSize → partOf snapshot (keeps (Bares Snap) eight r) ≡ shownCells r
+  copy-stays : (c : Command) (eight r : List ℕ) → (c ≡ Bares Snap → ⊥) → partOf snapshot (keeps c eight r) ≡ partOf snapshot r
+  -- a store and a compare leave both
+  store-snap : (codes : List ℤ) (r : List ℕ) → (snapped (store codes r) ≡ snapped r) × (partOf snapshot (store codes r) ≡ partOf snapshot r)
+  compare-snap : (r : List ℕ) → (snapped (compare r) ≡ snapped r) × (partOf snapshot (compare r) ≡ partOf snapshot r)
+  -- the six cell reads together show the copy where SNAP_ST is set, however it came to be so, and the live cells where it is not; and FF in the last
+  -- four bytes of register F. Every other read, status C and D included, shows its part as it lies
+  cell-reads : cellReads ≡ rdcva ∷ rdcvb ∷ rdcvc ∷ rdcvd ∷ rdcve ∷ rdcvf ∷ []
+  shown-cells : (r : List ℕ) → shownCells r ≡ cond (snapped r) (partOf snapshot r) (partOf cells r)
+  cells-shown : (r : List ℕ) → length r ≡ recordSize → joined (map (λ p. register p r) cellReads) ≡ shownCells r ++ replicate 4 0xFF
+  other-shown : (p : Part) (r : List ℕ) → ofCells p ≡ false → register p r ≡ sixBytes p r
+  the-others : map ofCells (rdcfga ∷ rdcfgb ∷ rdstatc ∷ rdstatd ∷ rdsid ∷ rdrr ∷ rdpwma ∷ rdpwmb ∷ []) ≡ replicate 8 false
   -- a sound table stays sound, with its N monitors
   stays-sound : (table frame : List ℕ) (room : ℕ) → sound table ≡ true → Keeps table (tableAfter table frame room)
   -- every monitor replies in its own place, nearest first, and the bytes past the reply stay
@@ -347,7 +376,7 @@ pub record Demand2 : Type 0 where
   examples : EitherSide
 
 pub demand-2 : Demand2
-unfolding frameRefusals storeRefusals compareRefusals loadRefusals dischargeRefusals muted byteOf outputs tabulate phases table27 outputOf keeps reply
+unfolding frameRefusals storeRefusals compareRefusals loadRefusals dischargeRefusals muted snapped byteOf done shownCells outputs tabulate phases table27 outputOf keeps reply
 demand-2 =
     record {
       refusals = λ table frame room. refl;
@@ -368,10 +397,25 @@ demand-2 =
       not-retained = not-retained;
       spares = keeps-spares;
       as-before = base-as-before;
+      as-before-snap = copy-as-before;
       replies-as-before = reply-as-before;
       pwm-stays = pwm-stays;
       pwm-a-stays = a-stays;
       pwm-b-stays = b-stays;
+      snap-st-at = λ r. refl;
+      snap-takes = snap-takes;
+      snap-again = snap-again;
+      unsnap = λ eight r. refl;
+      snap-st = snap-st;
+      snap-copies = snap-copies;
+      copy-stays = copy-stays;
+      store-snap = λ codes r. (store-snap-st codes r, store-copy codes r);
+      compare-snap = λ r. (compare-snap-st r, compare-copy r);
+      cell-reads = refl;
+      shown-cells = λ r. refl;
+      cells-shown = shows-the-cells;
+      other-shown = shows-as-it-lies;
+      the-others = refl;
       stays-sound = frame-keeps;
       own-reply = reply-own;
       past-reply = reply-past;

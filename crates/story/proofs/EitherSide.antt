@@ -21,7 +21,8 @@ use Rattle.records.specs.declared.record.Part.{Part}
 use Rattle.records.specs.Commands.{commands, commandOf, frameLength}
 use Rattle.records.specs.Record.{configurationA, configurationB, counter, recordSize, bytesOf, byteOf, anew, onBytes}
 use Rattle.monitor.specs.Effects.{locked, nextCount, counted, done, keeps}
-use Rattle.reads.specs.Reply.{register, reply}
+use Rattle.reads.specs.Shown.{shownPart}
+use Rattle.reads.specs.Reply.{sixBytes, register, reply}
 use Rattle.chain.specs.declared.frames.Answer.the-variants.{Refused, Accepted}
 use Rattle.judging.specs.Table.{monitors, sound}
 use Rattle.judging.specs.Refusals.{commandIn}
@@ -86,7 +87,7 @@ pub record EitherSide : Type 0 where
   least-volts : microvolts (record { 0 = negsuc 32_766 }) ≡ negsuc 3_415_049
 
 pub either-side : EitherSide
-unfolding once step remainder bitsOf bitsOfBytes tabulate twoBytes pec15 commandCheck pec10 dataPec seal bytesOf byteOf anew onBytes signed vuv vov codesOf flagsFor locked nextCount counted done keeps register reply microvolts _⊕_ xor odd byteB
+unfolding once step remainder bitsOf bitsOfBytes tabulate twoBytes pec15 commandCheck pec10 dataPec seal bytesOf byteOf anew onBytes signed vuv vov codesOf flagsFor locked nextCount counted done keeps shownPart sixBytes register reply microvolts _⊕_ xor odd byteB
 either-side =
     record {
       command-0001 = refl;

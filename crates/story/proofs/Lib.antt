@@ -17,3 +17,4 @@ pub mod Cleared
 pub mod AsBefore
 pub mod Muting
 pub mod Retention
+pub mod Snapshot

@@ -71,17 +71,17 @@ record Alike (r s : List ℕ) : Type 0 where
 alike-mute : (eight r : List ℕ) → Alike (keeps (Bares Mute) eight r) r
 alike-mute eight r =
     record {
-      dccs = keeps-spares dccBits (Bares Mute) eight r (inr (lit≤ tt), (inr (lit≤ tt), inl (lit≤ tt)));
-      duties-a = keeps-spares pwmA (Bares Mute) eight r (inl (lit≤ tt), (inl (lit≤ tt), inl (lit≤ tt)));
-      duties-b = keeps-spares pwmB (Bares Mute) eight r (inl (lit≤ tt), (inl (lit≤ tt), inl (lit≤ tt)));
+      dccs = keeps-spares dccBits (Bares Mute) eight r (inr (lit≤ tt), (inr (lit≤ tt), (inl (lit≤ tt), tt)));
+      duties-a = keeps-spares pwmA (Bares Mute) eight r (inl (lit≤ tt), (inl (lit≤ tt), (inl (lit≤ tt), tt)));
+      duties-b = keeps-spares pwmB (Bares Mute) eight r (inl (lit≤ tt), (inl (lit≤ tt), (inl (lit≤ tt), tt)));
     }
 
 alike-unmute : (eight r : List ℕ) → Alike (keeps (Bares Unmute) eight r) r
 alike-unmute eight r =
     record {
-      dccs = keeps-spares dccBits (Bares Unmute) eight r (inr (lit≤ tt), (inr (lit≤ tt), inl (lit≤ tt)));
-      duties-a = keeps-spares pwmA (Bares Unmute) eight r (inl (lit≤ tt), (inl (lit≤ tt), inl (lit≤ tt)));
-      duties-b = keeps-spares pwmB (Bares Unmute) eight r (inl (lit≤ tt), (inl (lit≤ tt), inl (lit≤ tt)));
+      dccs = keeps-spares dccBits (Bares Unmute) eight r (inr (lit≤ tt), (inr (lit≤ tt), (inl (lit≤ tt), tt)));
+      duties-a = keeps-spares pwmA (Bares Unmute) eight r (inl (lit≤ tt), (inl (lit≤ tt), (inl (lit≤ tt), tt)));
+      duties-b = keeps-spares pwmB (Bares Unmute) eight r (inl (lit≤ tt), (inl (lit≤ tt), (inl (lit≤ tt), tt)));
     }
 
 module _ (events : Events) (phase : ℕ) (r s : List ℕ) (m : muted r ≡ muted s) (a : Alike r s) where

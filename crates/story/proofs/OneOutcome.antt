@@ -24,7 +24,7 @@ use Rattle.check_words.proofs as check_words
 use Rattle.remainders.proofs as remainders
 use Rattle.wire.specs.Order.{writePayloads}
 use Rattle.records.specs.Commands.{commands, commandOf, isListed, frameLength, mostMonitors, replyLength, payloadSize}
-use Rattle.records.specs.Record.{cellCount, isRecord, recordSound, recordSize}
+use Rattle.records.specs.Record.{cellCount, snapped, isRecord, recordSound, recordSize}
 use Rattle.reads.specs.Reply.{reply}
 use Rattle.writes.specs.Writes.{rulesOf, written}
 use Rattle.thresholds.specs.Thresholds.{vuv, vov, codesOf}
@@ -138,6 +138,7 @@ pub record OneOutcome : Type 0 where
   is-listed : Settles records.is_listed.Reads.Post (λ κ z e. leaves z []) (λ κ a. leaves (isListed (a .0)) [])
   record-sound : Settles records.record_sound.Reads.Post (λ κ z e. leaves z []) (λ κ a. leaves (isRecord (now (a .0)) && recordSound (now (a .0))) [])
   byte-at : Settles records.byte_at.Reads.Post (λ κ z e. leaves z []) (λ κ a. leaves (getD (now (a .0)) (a .1 .0) 0) [])
+  is-snapped : Settles records.is_snapped.Reads.Post (λ κ z e. leaves z []) (λ κ a. leaves (snapped (now (a .0))) [])
   reply-of : Settles reads.reply_of.Reads.Post (λ κ z e. leaves z []) (λ κ a. leaves (reply (a .0) (now (a .1 .0))) [])
   needs-check : Settles writes.needs_check.Reads.Post (λ κ z e. leaves z []) (λ κ a. leaves (rulesOf (a .0) .«needs_check») [])
   write : Settles writes.write.Reads.Post (λ κ z e. leaves z (now (e .1 .1 .0) ∷ []))
@@ -234,6 +235,7 @@ one-outcomes =
       is-listed = settles (λ κ a z e p i. leaves (p i) []);
       record-sound = settles (λ κ a z e p i. leaves (p i) []);
       byte-at = settles (λ κ a z e p i. leaves (p i) []);
+      is-snapped = settles (λ κ a z e p i. leaves (p i) []);
       reply-of = settles (λ κ a z e p i. leaves (p i) []);
       needs-check = settles (λ κ a z e p i. leaves (p i) []);
       write = settles (λ κ a z e p i. leaves z (p i ∷ []));

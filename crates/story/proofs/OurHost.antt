@@ -28,7 +28,7 @@ use Rattle.records.specs.Record.{recordSize, counter, byteOf}
 use Rattle.records.specs.Commands.{commands, commandOf, isListed, payloadSize, frameLength, replyLength}
 use Rattle.monitor.specs.Effects.{goodFor, keeps}
 use Rattle.monitor.proofs.Keeping.{right-good}
-use Rattle.reads.specs.Reply.{register, reply}
+use Rattle.reads.specs.Reply.{sixBytes, register, reply}
 use Rattle.chain.specs.declared.frames.Answer.the-variants.{Accepted}
 use Rattle.judging.specs.declared.heads.Judged.the-variants.{Bad, Good}
 use Rattle.judging.specs.Table.{monitors, sound}
@@ -144,9 +144,13 @@ module _ (table values buffer : List ℕ) (code : ℕ) (w : Write) (its : comman
 
 -- ---- reads
 
+pub length-six : (part : Part) (r : List ℕ) → length (sixBytes part r) ≡ dataSize
+unfolding sixBytes tabulate
+length-six part r = refl
+
 pub length-register : (part : Part) (r : List ℕ) → length (register part r) ≡ dataSize
-unfolding register tabulate
-length-register part r = refl
+unfolding register
+length-register part r = length-six _ r
 
 pub reply-right : (part : Part) (r : List ℕ) → payloadRight (reply part r) ≡ true
 unfolding reply

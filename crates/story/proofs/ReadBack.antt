@@ -26,9 +26,11 @@ use Rattle.writes.specs.Writes.{rulesOf, changed, byRules, opens, written}
 use Rattle.writes.proofs.Storing.{six, as-sent}
 use Rattle.writes.proofs.Written.{opens-always}
 use Rattle.monitor.specs.Effects.{locked, counted, goodFor, keeps}
-use Rattle.reads.specs.Reply.{register, reply}
+use Rattle.reads.specs.Shown.{ofCells}
+use Rattle.reads.specs.Reply.{sixBytes, register, reply}
 use Rattle.records.proofs.Anew.{anew-inside}
 use Rattle.monitor.proofs.Keeping.{right-good, good-length, keeps-opened}
+use Rattle.reads.proofs.Parts.{shows-other}
 use Rattle.reads.proofs.Showing.{shows}
 use Rattle.monitor.proofs.Sound.{length-keeps, length-locked, length-counted}
 use Rattle.judging.specs.Table.{monitors, sound}
@@ -39,13 +41,14 @@ use Rattle.judging.proofs.Soundness.{is-sound}
 use Rattle.host.specs.Frames.{dataSize, sealed, frameFor}
 use Rattle.host.proofs.Payloads.{sealed-right}
 use Rattle.story.specs.ReadsBack.{ReadsBack, as-written, fixed-behind-two}
-use Rattle.story.proofs.OurHost.{each-keeps-its-own, each-reply-its-own, length-register}
+use Rattle.story.proofs.OurHost.{each-keeps-its-own, each-reply-its-own, length-six, length-register}
 
 -- a write, the part that it writes, and what it makes of six bytes
 pub record Group (c : Write) (p : Part) (becomes : List ℕ → List ℕ) : Type 0 where
   pub place : rulesOf c .at ≡ p .at
   pub six-long : p .size ≡ 6
   pub fits : p .at + 6 ≤ recordSize
+  pub live : ofCells p ≡ false
   pub as-many : (six : List ℕ) → length six ≡ dataSize → length (becomes six) ≡ dataSize
   pub each : (six sent : List ℕ) → ((i : ℕ) → i < 6 → getD sent i 0 ≡ getD six i 0) → ((i : ℕ) → i < 6 → getD six i 0 < 256)
       → (i old : ℕ) → i < 6 → changed (rulesOf c) sent i old ≡ getD (becomes six) i 0
@@ -83,12 +86,13 @@ module _ (c : Write) (p : Part) (becomes : List ℕ → List ℕ) (g : Group c p
         ∙ g .each first-six eight own-byte (λ k l. rw (getD-take dataSize eight k 0 l) (bytes k l)) i (getD base (rulesOf c .at + i) 0) h
 
     pub reads-back : register p after ≡ becomes first-six
-    unfolding register
+    unfolding register sixBytes
     reads-back =
         let six-bytes : length first-six ≡ dataSize = length-take-le dataSize eight (omega (arith, good-length c eight good)) in
-        ext-getD 0 (register p after) (becomes first-six) (length-register p after ∙ sym (g .as-many first-six six-bytes))
+        ap (λ (q : Part). sixBytes q after) (shows-other p after (g .live))
+        ∙ ext-getD 0 (sixBytes p after) (becomes first-six) (length-six p after ∙ sym (g .as-many first-six six-bytes))
         (λ i h.
-        let within : i < 6 = lt-of-lt-of-le h (omega (arith, length-register p after)) in
+        let within : i < 6 = lt-of-lt-of-le h (omega (arith, length-six p after)) in
         at-each _ 6 i within
         ∙ sym (shows p after i (omega (arith, g .six-long)) (omega (arith, length-after, g .fits)))
         ∙ stored-byte i within)
@@ -146,12 +150,12 @@ whole-byte c st ke on bs sent same bytes i old h =
 pub b-read-back : ReadsBack Wrcfgb rdcfgb as-written
 b-read-back =
     written-and-read-back Wrcfgb rdcfgb as-written
-    (record { place = refl; six-long = refl; fits = lit≤ tt; as-many = λ six l. l; each = whole-byte Wrcfgb refl refl refl }) refl
+    (record { place = refl; six-long = refl; fits = lit≤ tt; live = refl; as-many = λ six l. l; each = whole-byte Wrcfgb refl refl refl }) refl
 
 pub pwm-a-read-back : ReadsBack Wrpwma rdpwma as-written
 pwm-a-read-back =
     written-and-read-back Wrpwma rdpwma as-written
-    (record { place = refl; six-long = refl; fits = lit≤ tt; as-many = λ six l. l; each = whole-byte Wrpwma refl refl refl }) refl
+    (record { place = refl; six-long = refl; fits = lit≤ tt; live = refl; as-many = λ six l. l; each = whole-byte Wrpwma refl refl refl }) refl
 
 -- ---- the first two as they were written, and FF
 
@@ -180,4 +184,4 @@ byte-of-b six sent same bytes (suc (suc (suc (suc (suc (suc i)))))) old h = absu
 pub pwm-b-read-back : ReadsBack Wrpwmb rdpwmb fixed-behind-two
 pwm-b-read-back =
     written-and-read-back Wrpwmb rdpwmb fixed-behind-two
-    (record { place = refl; six-long = refl; fits = lit≤ tt; as-many = λ six l. refl; each = byte-of-b }) refl
+    (record { place = refl; six-long = refl; fits = lit≤ tt; live = refl; as-many = λ six l. refl; each = byte-of-b }) refl

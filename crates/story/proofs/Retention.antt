@@ -30,7 +30,8 @@ use Rattle.monitor.specs.Effects.{locked, counted, done, goodFor, keeps}
 use Rattle.monitor.proofs.Keeping.{good-unchecked, keeps-opened}
 use Rattle.monitor.proofs.Sound.{length-locked, length-counted}
 use Rattle.monitor.proofs.Spares.{counted-spares}
-use Rattle.reads.specs.Reply.{register, reply}
+use Rattle.reads.specs.Shown.{shownPart}
+use Rattle.reads.specs.Reply.{sixBytes, register, reply}
 use Rattle.judging.specs.Table.{monitors}
 use Rattle.judging.specs.Refusals.{commandIn}
 use Rattle.chain.specs.Frame.{frameRefusals, tableAfter, replyAfter}
@@ -67,7 +68,7 @@ module _ (r : List ℕ) (whole : length r ≡ recordSize) where
 
   -- RDRR shows the six bytes of the retention as they lie
   shown : register rdrr r ≡ bytesOf retention r
-  unfolding register bytesOf
+  unfolding register sixBytes shownPart bytesOf
   shown =
       let six : length (bytesOf retention r) ≡ dataSize = length-take 6 (drop (retention .at) r) ∙ omega (arith, length-drop (retention .at) r) in
       ext-getD 0 (register rdrr r) (bytesOf retention r) (length-register rdrr r ∙ sym six)
@@ -110,7 +111,7 @@ module _ (table write read buffer : List ℕ) (room : ℕ) (first : Passed (fram
   pub retained : byteOf unlocked before ≡ 1 → ((i : ℕ) → getD write i 0 < 256) → part ≡ take dataSize eight
   retained was bytes =
       part-shows
-      ∙ reads-back Wrrr rdrr as-written (record { place = refl; six-long = refl; fits = lit≤ tt; as-many = λ six l. l; each = whole-byte Wrrr refl refl refl })
+      ∙ reads-back Wrrr rdrr as-written (record { place = refl; six-long = refl; fits = lit≤ tt; live = refl; as-many = λ six l. l; each = whole-byte Wrrr refl refl refl })
       eight before (good eight before own) (opened eight before own was) own-bytes (record-at table write room first k h)
     where
       own-bytes : (i : ℕ) → i < dataSize → getD eight i 0 < 256

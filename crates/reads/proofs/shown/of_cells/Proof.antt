@@ -26,7 +26,6 @@ add-result-2 c = search needs
 
 -- by whether it begins at the cells or behind
 begins : (p : Part) {b : Bool} → leb (cells .at) (p .at) ≡ b → b && leb (p .at + p .size) (cells .at + cells .size) ≡ ofCells p
-unfolding ofCells
 begins p e = ap (λ (b : Bool). b && leb (p .at + p .size) (cells .at + cells .size)) (sym e)
 
 returns : tie.Need-returns

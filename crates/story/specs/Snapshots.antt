@@ -1,0 +1,80 @@
+-- Document 02, L6: what becomes of SNAP_ST; and through frames, a SNAP, whatever comes after it, and what the cell reads show that stand among it.
+-- Assumes nothing.
+use mathlib.Core.Path.{_≡_}
+use mathlib.Core.Bool.{Bool, true, false}
+use mathlib.Core.List.{List, [], _∷_, _++_}
+use Prim.Native.Nat.{ℕ, zero, suc, _-_}
+use lib.ListN.{length, take, drop, getD}
+use Rattle.laws.specs.Rows.{rowAt}
+use Rattle.laws.specs.Tables.{tabulate}
+use Rattle.pec.specs.Words.{commandRight}
+use Rattle.refusals.proofs.Deciding.{Passed}
+use Rattle.records.specs.declared.commands.Bare.{Bare}
+use Rattle.records.specs.declared.commands.Bare.the-variants.{Mute, Unmute, Rstcc, Ulrr, Clrcell, Snap, Unsnap}
+use Rattle.records.specs.declared.commands.Command.{Command}
+use Rattle.records.specs.declared.commands.Command.the-variants.{Reads, Writes, Bares, Unlisted}
+use Rattle.records.specs.declared.record.Part.{Part}
+use Rattle.records.specs.Record.{cells}
+use Rattle.records.specs.Commands.{payloadSize}
+use Rattle.judging.specs.Refusals.{commandIn}
+use Rattle.host.specs.Frames.{dataSize}
+use Rattle.story.specs.Runs.{Event, Frame, Store, Compare, Seen, Answered, StoreAnswered, CompareAnswered, ruleRefusals}
+
+-- ---- SNAP_ST after a command
+
+abbrev pub snappedBy : Bare → Bool → Bool
+snappedBy Mute on = on
+snappedBy Unmute on = on
+snappedBy Rstcc on = on
+snappedBy Ulrr on = on
+snappedBy Clrcell on = on
+snappedBy Snap on = true
+snappedBy Unsnap on = false
+
+abbrev pub snappedAfter : Command → Bool → Bool
+snappedAfter (Reads p) on = on
+snappedAfter (Writes c) on = on
+snappedAfter (Bares c) on = snappedBy c on
+snappedAfter Unlisted on = on
+
+-- ---- lists of events without a bare command
+
+-- an event that is one: its four bytes, with their check right
+abbrev pub Is : Bare → Event → Type 0
+Is c (Frame frame) = (length frame ≡ 4) × ((commandRight (take 4 frame) ≡ true) × (commandIn frame ≡ Bares c))
+Is c (Store position codes) = ⊥
+Is c (Compare position) = ⊥
+
+abbrev pub Without : Bare → List Event → Type 0
+Without c [] = Unit {0}
+Without c (event ∷ events) = (Is c event → ⊥) × Without c events
+
+-- ---- what a monitor shows
+
+-- the reply that was seen at a place, counted from 0; none of a store or a compare
+abbrev pub replyOf : Seen → List ℕ
+replyOf (Answered said bytes) = bytes
+replyOf (StoreAnswered said) = []
+replyOf (CompareAnswered said) = []
+
+abbrev pub replyAt : ℕ → List Seen → List ℕ
+replyAt i [] = []
+replyAt zero (one ∷ later) = replyOf one
+replyAt (suc i) (one ∷ later) = replyAt i later
+
+-- what the monitor at k shows in a reply: the first six of its eight bytes
+abbrev pub shownAt : ℕ → List ℕ → List ℕ
+shownAt k reply = take dataSize (rowAt payloadSize k reply)
+
+-- a part of the cells, as a register has it, where the cells are these bytes
+abbrev pub sixIn : Part → List ℕ → List ℕ
+sixIn p bytes = tabulate (λ i. getD (take (p .size) (drop (p .at - cells .at) bytes)) i 0xFF) 0 6
+
+-- a read of a part that stands in a list of events and is accepted
+pub record ReadIn (events : List Event) (table : List ℕ) (p : Part) : Type 0 where
+  pub before : List Event
+  pub frame : List ℕ
+  pub after : List Event
+  pub there : before ++ Frame frame ∷ after ≡ events
+  pub accepted : Passed (ruleRefusals table frame)
+  pub its : commandIn frame ≡ Reads p
