@@ -1,15 +1,15 @@
 -- One bit of a number: of an inclusive or and of an and, so set by the one and cleared by the other; left by the flip of another.
 -- Assumes nothing.
-use mathlib.Core.Path.{_≡_, refl, sym, ap, ap₂, _∙_}
+use mathlib.Core.Path.{_≡_, refl, sym, ap, _∙_}
 use mathlib.Core.Bool.{Bool, true, false, xor, _&&_, _||_}
-use Prim.Native.Nat.{ℕ, zero, suc, _*_, _+_, _-_, _/_, _%_, _^_, _≤_, _<_, min, max}
+use Prim.Native.Nat.{ℕ, zero, suc, _+_, _-_, _/_, _%_, _^_, _≤_, _<_, min, max}
 use native.Mathlib.Nat.{mod-lt, div-eq-of-lt, one-mul, mul-mod-left}
 use native.Mathlib.Omega.{arith}
 use lib.Arith.{digits-mod}
 use lib.Dec.{eqb, ltb}
 use lib.Bits.{bitAnd, bitOr, and-step, and-shr, or-shr, shifted-even}
 use lib.Pow.{pow-add, pow-lt, shl-shr}
-use borrow.Author.Tests.{eq-eqb, ne-eqb, eqb-true, eqb-false, ltb-true, ltb-false}
+use borrow.Author.Tests.{ltb-true, ltb-false}
 use Rattle.laws.specs.Bits.{_⊕_, odd, bitAt}
 use Rattle.laws.proofs.Xor.{xor-zero, xor-div, xor-rem, odd-xor}
 use Rattle.laws.proofs.Counts.{and-false}

@@ -34,16 +34,21 @@ module _ (part : Part) (n : ℕ) (table : List ℕ) where
   length-data : length (joined replies) ≡ payloadSize * n
   length-data = length-joined payloadSize replies every-reply ∙ ap (λ (m : ℕ). m * payloadSize) length-replies ∙ mul-comm n payloadSize
 
+  -- of the replies by themselves, and of a buffer that begins with them
+  pub own-part : (k : ℕ) → k < n → rowAt payloadSize k (replyData replies) ≡ reply part (rowAt recordSize k table)
+  unfolding replyData
+  own-part k h =
+      let there : k < length replies = omega (arith, length-replies) in
+      let in-rows : k < length (rows recordSize n table) = omega (arith, length-rows recordSize n table) in
+      row-joined payloadSize replies k [] every-reply there
+      ∙ getD-map (reply part) (rows recordSize n table) k [] [] in-rows
+      ∙ ap (reply part) (row-at recordSize n table k [] h)
+
   pub own-reply : (buffer : List ℕ) (k : ℕ) → k < n → rowAt payloadSize k (replied (Reads part) n table buffer) ≡ reply part (rowAt recordSize k table)
   unfolding replied replyData
   own-reply buffer k h =
       let fits : k * payloadSize + payloadSize ≤ length (joined replies) = omega (arith, length-data) in
-      let there : k < length replies = omega (arith, length-replies) in
-      let in-rows : k < length (rows recordSize n table) = omega (arith, length-rows recordSize n table) in
-      row-front payloadSize k (joined replies) (drop (payloadSize * n) buffer) fits
-      ∙ row-joined payloadSize replies k [] every-reply there
-      ∙ getD-map (reply part) (rows recordSize n table) k [] [] in-rows
-      ∙ ap (reply part) (row-at recordSize n table k [] h)
+      row-front payloadSize k (joined replies) (drop (payloadSize * n) buffer) fits ∙ own-part k h
 
   pub past-reply : (buffer : List ℕ) → drop (payloadSize * n) (replied (Reads part) n table buffer) ≡ drop (payloadSize * n) buffer
   unfolding replied replyData

@@ -7,11 +7,11 @@ use mathlib.Core.List.{List, _++_}
 use Prim.Native.Nat.{ℕ, suc, _-_, _*_, _<_}
 use native.Mathlib.Omega.{arith}
 use lib.IntN.{ℤ}
-use lib.ListN.{length, drop}
+use lib.ListN.{length, take, drop}
 use borrow.Author.Tests.{eqb-true, not-false}
 use Rattle.laws.specs.Counts.{count}
 use Rattle.laws.specs.Rows.{rowAt}
-use Rattle.pec.specs.Words.{payloadRight}
+use Rattle.pec.specs.Words.{commandRight, payloadRight}
 use Rattle.refusals.specs.declared.Refusal.{Refusal}
 use Rattle.refusals.specs.Order.{Row, decide}
 use Rattle.refusals.proofs.Deciding.{Passed, passes}
@@ -67,10 +67,14 @@ module _ (table frame : List ℕ) (room : ℕ) (none : Passed (frameRefusals tab
   abbrev n : ℕ
   n = monitors table
 
-  -- its table is sound, and stays so with its monitors; it has the length for its command
+  -- its table is sound, and stays so with its monitors; its first four bytes are right, and it has the length for its command
   pub frame-sound : sound table ≡ true
   unfolding frameRefusals
   frame-sound = not-false (sound table) (none .0)
+
+  pub frame-right : commandRight (take 4 frame) ≡ true
+  unfolding frameRefusals
+  frame-right = not-false (commandRight (take 4 frame)) (none .1 .1 .0)
 
   pub kept-table : Keeps table (tableAfter table frame room)
   kept-table = frame-keeps table frame room frame-sound

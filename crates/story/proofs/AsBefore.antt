@@ -12,11 +12,9 @@ use lib.Dec.{lit≤}
 use lib.ListN.{length, getD}
 use Rattle.laws.specs.Tables.{tabulate}
 use Rattle.pec.specs.Words.{seal}
-use Rattle.records.specs.declared.commands.Bare.{Bare}
 use Rattle.records.specs.declared.commands.Bare.the-variants.{Mute, Unmute, Rstcc, Ulrr, Clrcell, Snap, Unsnap}
 use Rattle.records.specs.declared.commands.Command.{Command}
 use Rattle.records.specs.declared.commands.Command.the-variants.{Reads, Writes, Bares, Unlisted}
-use Rattle.records.specs.declared.commands.Write.{Write}
 use Rattle.records.specs.declared.commands.Write.the-variants.{Wrcfga, Wrcfgb, Wrrr, Clrflag, Clovuv, Wrpwma, Wrpwmb}
 use Rattle.records.specs.declared.record.Part.{Part}
 use Rattle.records.specs.Record.{counter, unlocked, pwmA, pwmB, snapshot, snapped, bytesOf, byteOf}

@@ -6,32 +6,29 @@
 use mathlib.Core.Path.{_≡_, refl, sym, ap, ap₂, _∙_, subst, subst⁻¹}
 use mathlib.Core.Bool.{Bool, true, false, cond}
 use mathlib.Core.List.{List, [], _∷_, _++_, map}
-use Prim.Native.Nat.{ℕ, _-_, _*_, _≤_}
+use Prim.Native.Nat.{ℕ, _-_, _*_, _≤_, _<_}
 use native.Mathlib.Omega.{arith}
 use lib.IntN.{ℤ}
-use lib.Dec.{ltb}
 use lib.ListN.{length, drop, replicate}
-use borrow.Author.Tests.{le-ltb}
-use Rattle.laws.specs.Rows.{rows, rowAt}
+use Rattle.laws.specs.Rows.{rows, rowAt, joined}
 use Rattle.wire.specs.Order.{replyData}
 use Rattle.refusals.specs.declared.Refusal.{Refusal}
 use Rattle.refusals.specs.declared.Refusal.the-variants.{TableNotSound}
 use Rattle.refusals.proofs.Deciding.{Passed}
-use Rattle.records.specs.declared.commands.Bare.{Bare}
-use Rattle.records.specs.declared.commands.Bare.the-variants.{Mute, Unmute}
-use Rattle.records.specs.declared.commands.Command.{Command}
+use Rattle.records.specs.declared.commands.Bare.the-variants.{Mute, Unmute, Snap, Unsnap}
 use Rattle.records.specs.declared.commands.Command.the-variants.{Reads, Bares}
 use Rattle.records.specs.declared.record.Part.{Part}
 use Rattle.records.specs.Record.{cellCount, recordSize}
-use Rattle.records.specs.Commands.{mostMonitors, payloadSize, replyLength}
-use Rattle.reads.specs.Reply.{reply}
+use Rattle.records.specs.Commands.{rdcva, rdcvb, rdcvc, rdcvd, rdcve, rdcvf, mostMonitors, payloadSize}
+use Rattle.reads.specs.Shown.{ofCells, shownCells}
+use Rattle.reads.specs.Reply.{sixBytes, reply}
 use Rattle.chain.specs.declared.frames.Answer.the-variants.{Refused, Accepted}
 use Rattle.judging.specs.Table.{monitors, sound}
 use Rattle.judging.specs.Refusals.{commandIn}
-use Rattle.chain.specs.Frame.{frameRefusals, tableAfter, replyAfter}
+use Rattle.chain.specs.Frame.{tableAfter, replyAfter}
 use Rattle.chain.proofs.Room.{stop-unsound}
 use Rattle.judging.proofs.Keeps.{Keeps}
-use Rattle.chain.proofs.FrameKeeps.{frame-keeps, monitors-after-frame}
+use Rattle.chain.proofs.FrameKeeps.{monitors-after-frame}
 use Rattle.chain.proofs.Outcome.{the-table}
 use Rattle.judging.proofs.Soundness.{is-sound}
 use Rattle.loads.specs.declared.loads.Loaded.{Loaded}
@@ -51,10 +48,13 @@ use Rattle.clock_state.specs.State.{stateSize, idle}
 use Rattle.clocking.specs.Bytes.{clockOf, stateAfter}
 use Rattle.clocking.proofs.View.{view}
 use Rattle.clocked.proofs.Whole.{released-read}
-use Rattle.story.specs.Runs.{Event, Frame, Store, Compare, StoreAnswered, CompareAnswered, Left, saw, Step, ruleRefusals, ruled, byRules, byFrames, stateAfterAll, cameBack, byBytes, Engine, WholeFrames, ClockedBytes, Ready, by}
+use Rattle.story.specs.Runs.{Event, Frame, Store, Compare, Seen, StoreAnswered, CompareAnswered, Left, saw, Step, ruleRefusals, byRules, byFrames, stateAfterAll, cameBack, byBytes, Engine, WholeFrames, ClockedBytes, Ready, by}
+use Rattle.story.specs.Snapshots.{Without, shownBehind, sixIn, ReadIn}
+use Rattle.story.proofs.Along.{rules-keep, bare-passes, ruled-frame}
+use Rattle.story.proofs.OneMoment.{frozen-read, one-moment, without-second, live-read}
 use Rattle.story.proofs.ByteFour.{only-byte-four, at-byte-four, noted-stays, another-n}
 use Rattle.story.proofs.Muting.{mute-answers, unmute-answers}
-use Rattle.story.proofs.Runs.{frame-step, length-after, store-step, compare-step, full, has-room, clock-whole, back-whole, clocked-step}
+use Rattle.story.proofs.Runs.{frame-step, length-after, store-step, compare-step, full, clock-whole, back-whole, clocked-step}
 
 -- ---- the demand. It asks for a sound table; the engines agree on any: one that is not sound is refused by both
 
@@ -89,6 +89,36 @@ pub record Demand3 : Type 0 where
       → let after = by engine table (Frame first ∷ Frame second ∷ []) .table in
       (discharged after position events phase (length out) ≡ discharged table position events phase (length out))
       × (outputsAfter after position events phase out ≡ outputsAfter table position events phase out)
+  -- through either engine, after a SNAP and whatever events other than UNSNAP follow: the six cell reads, wherever they stand among them, together
+  -- show of every monitor the cells as they stood at the SNAP, and where its SNAP_ST was set the copy that was there; FF in register F's last four
+  one-moment : (engine : Engine) (table snap : List ℕ) → Ready engine table → Passed (ruleRefusals table snap) → commandIn snap ≡ Bares Snap
+      → (events : List Event) → Without Unsnap events → (a : ReadIn events table rdcva) (b : ReadIn events table rdcvb) (c : ReadIn events table rdcvc)
+      (d : ReadIn events table rdcvd) (e : ReadIn events table rdcve) (f : ReadIn events table rdcvf) → (k : ℕ) → k < monitors table
+      → let seen = by engine table (Frame snap ∷ events) .seen in
+      joined
+      (shownBehind (a .before) k seen
+      ∷ shownBehind (b .before) k seen
+      ∷ shownBehind (c .before) k seen
+      ∷ shownBehind (d .before) k seen
+      ∷ shownBehind (e .before) k seen
+      ∷ shownBehind (f .before) k seen
+      ∷ [])
+      ≡ shownCells (rowAt recordSize k table) ++ replicate 4 0xFF
+  -- and each of them, however often it stands there, its own part
+  frozen-read : (engine : Engine) (table snap : List ℕ) → Ready engine table → Passed (ruleRefusals table snap) → commandIn snap ≡ Bares Snap
+      → (events : List Event) → Without Unsnap events → (p : Part) → ofCells p ≡ true → (read : ReadIn events table p) → (k : ℕ) → k < monitors table
+      → shownBehind (read .before) k (by engine table (Frame snap ∷ events) .seen) ≡ sixIn p (shownCells (rowAt recordSize k table))
+  -- a second SNAP in between changes no cell read
+  second-snap : (engine : Engine) (table snap : List ℕ) → Ready engine table → Passed (ruleRefusals table snap) → commandIn snap ≡ Bares Snap
+      → (front rest : List Event) (second : List ℕ) → Without Unsnap (front ++ rest) → commandIn second ≡ Bares Snap → (p : Part) → ofCells p ≡ true
+      → (among : ReadIn (front ++ Frame second ∷ rest) table p) (alone : ReadIn (front ++ rest) table p) → (k : ℕ) → k < monitors table
+      → shownBehind (among .before) k (by engine table (Frame snap ∷ front ++ Frame second ∷ rest) .seen)
+      ≡ shownBehind (alone .before) k (by engine table (Frame snap ∷ front ++ rest) .seen)
+  -- after an UNSNAP, and until a SNAP, a read shows its part of the record as it then is: of the cells the live ones
+  live-read : (engine : Engine) (table unsnap : List ℕ) → Ready engine table → Passed (ruleRefusals table unsnap) → commandIn unsnap ≡ Bares Unsnap
+      → (events : List Event) → Without Snap events → (p : Part) (read : ReadIn events table p) → (k : ℕ) → k < monitors table
+      → shownBehind (read .before) k (by engine table (Frame unsnap ∷ events) .seen)
+      ≡ sixBytes p (rowAt recordSize k (by engine table (Frame unsnap ∷ read .before) .table))
   -- at every byte, not only at a release, the bytes of the state stand for the windows as the rules move them
   every-byte : (table : List ℕ) (byte : ℕ) (state : List ℕ) → length state ≡ stateSize
       → clockOf (stateAfter table byte state) ≡ clocked table byte (clockOf state)
@@ -189,17 +219,6 @@ either-by-rules : (engine : Engine) (table : List ℕ) (events : List Event) →
 either-by-rules (WholeFrames buffer) table events room = frames-by-rules table buffer events room
 either-by-rules (ClockedBytes state) table events room = bytes-by-rules table state events
 
--- a bare command has no reply, so what the rules accept is accepted whatever the room
-bare-passes : (table frame : List ℕ) (c : Bare) → commandIn frame ≡ Bares c → Passed (ruleRefusals table frame) → (room : ℕ) → Passed (frameRefusals table frame room)
-unfolding ruleRefusals frameRefusals
-bare-passes table frame c its p room =
-    (p .0, (p .1 .0, (p .1 .1 .0, (p .1 .1 .1 .0, (p .1 .1 .1 .1 .0, (ap (λ (k : Command). ltb room (replyLength k (monitors table))) its ∙ le-ltb room 0 (omega arith), tt))))))
-
--- the table that a frame leaves by the rules is the one that it leaves as a whole
-ruled-frame : (table frame : List ℕ) → byRules table (Frame frame ∷ []) .table ≡ tableAfter table frame (length (full table))
-unfolding byRules
-ruled-frame table frame = sym (ap (λ (step : Step). step .table) (frame-step table frame (full table) (has-room table)))
-
 module _ (engine : Engine) (table frame : List ℕ) (ready : Ready engine table) where
   one-frame : by engine table (Frame frame ∷ []) .table ≡ tableAfter table frame (length (full table))
   one-frame = ap (λ (left : Left). left .table) (either-by-rules engine table (Frame frame ∷ []) ready) ∙ ruled-frame table frame
@@ -240,25 +259,20 @@ module _ (engine : Engine) (table frame : List ℕ) (ready : Ready engine table)
       (unmute-answers table frame second (length (full table)) (length (full between)) (bare-passes table frame Mute its passed (length (full table))) its
       (bare-passes between second Unmute its-too then (length (full between))) its-too position events phase out was)
 
--- ---- what they end in
+-- ---- snapshots, by either engine
 
-step-keeps : (table : List ℕ) (event : Event) → sound table ≡ true → Keeps table (ruled table event .table)
-step-keeps table (Frame frame) s =
-    subst (Keeps table) (ap (λ (step : Step). step .table) (frame-step table frame (full table) (has-room table))) (frame-keeps table frame (length (full table)) s)
-step-keeps table (Store position codes) s =
-    subst (Keeps table) (ap (λ (step : Step). step .table) (store-step table position codes)) (store-keeps table position s codes)
-step-keeps table (Compare position) s =
-    subst (Keeps table) (ap (λ (step : Step). step .table) (compare-step table position)) (compare-keeps table position s)
+module _ (engine : Engine) (table first : List ℕ) (ready : Ready engine table) where
+  -- what is seen of a run, and of a read in it
+  seen-by : (events : List Event) → by engine table events .seen ≡ byRules table events .seen
+  seen-by events = ap (λ (left : Left). left .seen) (either-by-rules engine table events ready)
 
-rules-keep : (table : List ℕ) (events : List Event) → sound table ≡ true → Keeps table (byRules table events .table)
-unfolding byRules
-rules-keep table [] s = record { sound-after = s; monitors-after = refl }
-rules-keep table (event ∷ events) s =
-    let one = step-keeps table event s in
-    let rest = rules-keep (ruled table event .table) events (one .sound-after) in
-    record { sound-after = rest .sound-after; monitors-after = rest .monitors-after ∙ one .monitors-after }
+  behind-by : (k : ℕ) (events before : List Event) → shownBehind before k (by engine table (Frame first ∷ events) .seen) ≡ shownBehind before k (byRules table (Frame first ∷ events) .seen)
+  behind-by k events before = ap (shownBehind before k) (seen-by (Frame first ∷ events))
 
--- ---- the answer
+  frozen-by : Passed (ruleRefusals table first) → commandIn first ≡ Bares Snap → (events : List Event) → Without Unsnap events → (p : Part) → ofCells p ≡ true
+      → (read : ReadIn events table p) → (k : ℕ) → k < monitors table
+      → shownBehind (read .before) k (by engine table (Frame first ∷ events) .seen) ≡ sixIn p (shownCells (rowAt recordSize k table))
+  frozen-by passed its events quiet p of-them read k h = behind-by k events (read .before) ∙ frozen-read table first passed its k h events quiet p of-them read
 
 pub demand-3 : Demand3
 unfolding chainedBy
@@ -272,6 +286,27 @@ demand-3 =
       load-refused = refused-by-rules;
       mute = mute-by;
       unmute = λ engine table first second ready. unmute-by engine table first ready second;
+      one-moment = λ engine table snap ready passed its events quiet a b c d e f k h.
+          subst⁻¹
+          (λ (seen : List Seen).
+          joined
+          (shownBehind (a .before) k seen
+          ∷ shownBehind (b .before) k seen
+          ∷ shownBehind (c .before) k seen
+          ∷ shownBehind (d .before) k seen
+          ∷ shownBehind (e .before) k seen
+          ∷ shownBehind (f .before) k seen
+          ∷ [])
+          ≡ shownCells (rowAt recordSize k table) ++ replicate 4 0xFF)
+          (seen-by engine table snap ready (Frame snap ∷ events)) (one-moment table snap passed its k h events quiet a b c d e f);
+      frozen-read = frozen-by;
+      second-snap = λ engine table snap ready passed its front rest second quiet its-too p of-them among alone k h.
+          frozen-by engine table snap ready passed its (front ++ Frame second ∷ rest) (without-second second its-too front rest quiet) p of-them among k h
+          ∙ sym (frozen-by engine table snap ready passed its (front ++ rest) quiet p of-them alone k h);
+      live-read = λ engine table unsnap ready passed its events quiet p read k h.
+          behind-by engine table unsnap ready k events (read .before)
+          ∙ live-read table unsnap passed its events quiet k h p read
+          ∙ ap (λ (left : Left). sixBytes p (rowAt recordSize k (left .table))) (sym (either-by-rules engine table (Frame unsnap ∷ read .before) ready));
       every-byte = view;
       only-byte-four = only-byte-four;
       at-byte-four = at-byte-four;

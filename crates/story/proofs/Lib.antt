@@ -18,3 +18,5 @@ pub mod AsBefore
 pub mod Muting
 pub mod Retention
 pub mod Snapshot
+pub mod Along
+pub mod OneMoment

@@ -1,7 +1,7 @@
 -- A snapshot at one monitor. What becomes of SNAP_ST and of the copy, whatever command comes, and at a store and a compare; and what the six cell
 -- reads show together: the copy while SNAP_ST is set, the live cells where it is not.
 -- Assumes nothing.
-use mathlib.Core.Path.{_≡_, refl, sym, ap, ap₂, _∙_, subst, subst⁻¹}
+use mathlib.Core.Path.{_≡_, refl, ap, ap₂, _∙_, subst, subst⁻¹}
 use mathlib.Core.Bool.{Bool, true, false, cond, _&&_, _||_}
 use mathlib.Core.List.{List, [], _∷_, _++_, map}
 use mathlib.Core.Logic.{inl, inr}
@@ -23,7 +23,7 @@ use Rattle.records.specs.declared.commands.Command.the-variants.{Reads, Writes,
 use Rattle.records.specs.declared.commands.Write.{Write}
 use Rattle.records.specs.declared.commands.Write.the-variants.{Wrcfga, Wrcfgb, Wrrr, Clrflag, Clovuv, Wrpwma, Wrpwmb}
 use Rattle.records.specs.declared.record.Part.{Part}
-use Rattle.records.specs.Record.{cells, flags, snapshot, statusBits, configurationA, unlocked, recordSize, snapped, bytesOf, byteOf, anew, onBytes}
+use Rattle.records.specs.Record.{cells, flags, snapshot, statusBits, configurationA, unlocked, recordSize, snapped, bytesOf, byteOf, onBytes}
 use Rattle.records.specs.Commands.{rdcva, rdcvb, rdcvc, rdcvd, rdcve, rdcvf}
 use Rattle.records.proofs.Anew.{length-anew, anew-inside}
 use Rattle.records.proofs.Parts.{part-of-part, made-of, length-part, outside-anew}

@@ -66,6 +66,10 @@ replyAt (suc i) (one ∷ later) = replyAt i later
 abbrev pub shownAt : ℕ → List ℕ → List ℕ
 shownAt k reply = take dataSize (rowAt payloadSize k reply)
 
+-- and of a read that stands behind a first frame and other events, in what was seen of them all
+abbrev pub shownBehind : List Event → ℕ → List Seen → List ℕ
+shownBehind before k seen = shownAt k (replyAt (suc (length before)) seen)
+
 -- a part of the cells, as a register has it, where the cells are these bytes
 abbrev pub sixIn : Part → List ℕ → List ℕ
 sixIn p bytes = tabulate (λ i. getD (take (p .size) (drop (p .at - cells .at) bytes)) i 0xFF) 0 6

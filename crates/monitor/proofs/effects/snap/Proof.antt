@@ -1,7 +1,7 @@
 -- `monitor::effects::snap` meets its contract: copied where no snapshot is on, and otherwise as it was.
 -- Assumes nothing.
 use mathlib.Core.Path.{_≡_, sym, ap, _∙_}
-use mathlib.Core.Bool.{Bool, true, false, cond}
+use mathlib.Core.Bool.{Bool, cond}
 use mathlib.Core.List.{List}
 use Prim.Native.Nat.{ℕ}
 use Rattle.records.specs.Record.{snapped}

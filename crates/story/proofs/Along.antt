@@ -1,0 +1,160 @@
+-- Along a run by the rules. The table stays as sound as it was, with its monitors, so that what is accepted of a frame stays accepted. What every
+-- command but one, a store and a compare do to a record, a run without that command does to each monitor's. And what is seen at a place of a run is
+-- what the event there shows of the table that the events before it leave.
+-- Assumes nothing.
+use mathlib.Core.Path.{_≡_, refl, sym, ap, ap₂, _∙_, subst, subst⁻¹}
+use mathlib.Core.Bool.{Bool, true, false, not}
+use mathlib.Core.List.{List, [], _∷_, _++_}
+use Prim.Native.Nat.{ℕ, _-_, _<_}
+use native.Mathlib.Omega.{arith}
+use lib.Dec.{eqb, ltb}
+use lib.IntN.{ℤ}
+use lib.ListN.{length, take}
+use lib.Seq.{take-at}
+use borrow.Author.Tests.{le-ltb, eqb-true, eqb-false}
+use Rattle.laws.specs.Rows.{rowAt}
+use Rattle.refusals.specs.declared.Refusal.the-variants.{TableNotSound}
+use Rattle.refusals.specs.Order.{_gives_}
+use Rattle.refusals.proofs.Deciding.{Passed, passes}
+use Rattle.records.specs.declared.commands.Bare.{Bare}
+use Rattle.records.specs.declared.commands.Command.{Command}
+use Rattle.records.specs.declared.commands.Command.the-variants.{Reads, Bares}
+use Rattle.records.specs.declared.record.Part.{Part}
+use Rattle.records.specs.Record.{recordSize}
+use Rattle.records.specs.Commands.{replyLength}
+use Rattle.monitor.specs.Effects.{keeps}
+use Rattle.reads.specs.Reply.{register, reply}
+use Rattle.judging.specs.Table.{monitors, sound, changedAt}
+use Rattle.judging.specs.Refusals.{commandIn, shortRow, commandRow, listedRow, lengthRow}
+use Rattle.judging.proofs.Changed.{changed-record, other-record}
+use Rattle.judging.proofs.Decided.{by-passing}
+use Rattle.judging.proofs.Keeps.{Keeps}
+use Rattle.judging.proofs.Place.{Place, there, fits}
+use Rattle.judging.proofs.Soundness.{is-sound}
+use Rattle.serving.specs.Served.{kept}
+use Rattle.serving.proofs.OwnRecord.{own-record}
+use Rattle.replying.proofs.OwnReply.{own-part}
+use Rattle.chain.specs.Frame.{frameRefusals, tableAfter}
+use Rattle.chain.proofs.FrameKeeps.{frame-keeps}
+use Rattle.cells.specs.Cells.{store, compare}
+use Rattle.cells.proofs.Loaded.{length-store, length-compare}
+use Rattle.loads.specs.Load.{storeRefusals, tableAfterStore, compareRefusals, tableAfterCompare}
+use Rattle.loads.proofs.Keeps.{store-keeps, compare-keeps}
+use Rattle.loads.proofs.Place.{compare-place, store-place}
+use Rattle.host.specs.Frames.{dataSize}
+use Rattle.story.specs.Runs.{Event, Frame, Store, Compare, Step, ruleRefusals, replies, obeyed, ruled, byRules}
+use Rattle.story.specs.Snapshots.{Is, Without, replyOf, replyAt, shownAt}
+use Rattle.story.proofs.Accepted.{frame-whole, frame-right, record-at}
+use Rattle.story.proofs.OurHost.{length-register}
+use Rattle.story.proofs.Runs.{frame-step, store-step, compare-step, full, has-room}
+
+-- ---- the table stays sound, with its monitors
+
+pub step-keeps : (table : List ℕ) (event : Event) → sound table ≡ true → Keeps table (ruled table event .table)
+step-keeps table (Frame frame) s =
+    subst (Keeps table) (ap (λ (step : Step). step .table) (frame-step table frame (full table) (has-room table))) (frame-keeps table frame (length (full table)) s)
+step-keeps table (Store position codes) s =
+    subst (Keeps table) (ap (λ (step : Step). step .table) (store-step table position codes)) (store-keeps table position s codes)
+step-keeps table (Compare position) s =
+    subst (Keeps table) (ap (λ (step : Step). step .table) (compare-step table position)) (compare-keeps table position s)
+
+pub rules-keep : (table : List ℕ) (events : List Event) → sound table ≡ true → Keeps table (byRules table events .table)
+unfolding byRules
+rules-keep table [] s = record { sound-after = s; monitors-after = refl }
+rules-keep table (event ∷ events) s =
+    let one = step-keeps table event s in
+    let rest = rules-keep (ruled table event .table) events (one .sound-after) in
+    record { sound-after = rest .sound-after; monitors-after = rest .monitors-after ∙ one .monitors-after }
+
+-- so a frame is judged as it was
+pub judged-alike : (table after frame : List ℕ) → sound after ≡ sound table → monitors after ≡ monitors table → ruleRefusals after frame ≡ ruleRefusals table frame
+unfolding ruleRefusals
+judged-alike table after frame s n =
+    ap₂
+    (λ (b : Bool) (m : ℕ).
+    (not b gives TableNotSound) ∷ shortRow (length frame) ∷ commandRow (take 4 frame) ∷ listedRow frame ∷ lengthRow (length frame) (commandIn frame) m ∷ [])
+    s n
+
+-- ---- one frame
+
+-- a bare command has no reply, so what the rules accept is accepted whatever the room
+pub bare-passes : (table frame : List ℕ) (c : Bare) → commandIn frame ≡ Bares c → Passed (ruleRefusals table frame) → (room : ℕ) → Passed (frameRefusals table frame room)
+unfolding ruleRefusals frameRefusals
+bare-passes table frame c its p room =
+    (p .0, (p .1 .0, (p .1 .1 .0, (p .1 .1 .1 .0, (p .1 .1 .1 .1 .0, (ap (λ (k : Command). ltb room (replyLength k (monitors table))) its ∙ le-ltb room 0 (omega arith), tt))))))
+
+-- the table that a frame leaves by the rules is the one that it leaves as a whole
+pub ruled-frame : (table frame : List ℕ) → byRules table (Frame frame ∷ []) .table ≡ tableAfter table frame (length (full table))
+unfolding byRules
+ruled-frame table frame = sym (ap (λ (step : Step). step .table) (frame-step table frame (full table) (has-room table)))
+
+-- what the monitor at k shows of an accepted read
+pub read-shows : (table frame : List ℕ) (p : Part) → Passed (ruleRefusals table frame) → commandIn frame ≡ Reads p → (k : ℕ) → k < monitors table
+    → shownAt k (replyOf (ruled table (Frame frame) .seen)) ≡ register p (rowAt recordSize k table)
+unfolding ruled obeyed replies reply
+read-shows table frame p passed its k h =
+    ap (λ (step : Step). shownAt k (replyOf (step .seen))) (passes (ruleRefusals table frame) _ _ passed)
+    ∙ ap (λ (c : Command). shownAt k (replies c (monitors table) table)) its
+    ∙ ap (take dataSize) (own-part p (monitors table) table k h)
+    ∙ take-at (register p (rowAt recordSize k table)) _ dataSize (length-register p (rowAt recordSize k table))
+
+-- ---- one monitor, along a run without one bare command
+
+module _ (c : Bare) (R : List ℕ → List ℕ → Type 0) (still : (r : List ℕ) → R r r) (then : (r s t : List ℕ) → R r s → R s t → R r t)
+    (by-command : (x : Command) → (x ≡ Bares c → ⊥) → (eight r : List ℕ) → length r ≡ recordSize → R r (keeps x eight r))
+    (by-store : (codes : List ℤ) (r : List ℕ) → R r (store codes r)) (by-compare : (r : List ℕ) → R r (compare r)) where
+  -- the monitor at k of a table, and of what becomes of it
+  abbrev At : ℕ → List ℕ → List ℕ → Type 0
+  At k table after = R (rowAt recordSize k table) (rowAt recordSize k after)
+
+  -- one record made anew
+  changed : (f : List ℕ → List ℕ) → ((r : List ℕ) → length (f r) ≡ length r) → ((r : List ℕ) → R r (f r)) → (table : List ℕ) (position : ℕ) → Place table position
+      → (k : ℕ) → k < monitors table → At k table (changedAt (position - 1) f table)
+  changed f as-long own table position place k h = by (eqb k (position - 1)) refl
+    where
+      by : (same : Bool) → eqb k (position - 1) ≡ same → At k table (changedAt (position - 1) f table)
+      by true e =
+          subst⁻¹ (λ (j : ℕ). At j table (changedAt (position - 1) f table)) (eqb-true k (position - 1) e)
+          (subst⁻¹ (R (rowAt recordSize (position - 1) table)) (changed-record (position - 1) f as-long table (fits table position place)) (own (rowAt recordSize (position - 1) table)))
+      by false e =
+          subst⁻¹ (R (rowAt recordSize k table))
+          (other-record (position - 1) f as-long (monitors table) table (there table position place) (is-sound table (place .its-sound) .whole) k h (eqb-false k (position - 1) e))
+          (still (rowAt recordSize k table))
+
+  one-event : (table : List ℕ) (event : Event) → (Is c event → ⊥) → sound table ≡ true → (k : ℕ) → k < monitors table → At k table (ruled table event .table)
+  unfolding tableAfter tableAfterStore tableAfterCompare
+  one-event table (Frame frame) other s k h =
+      subst (At k table) (ap (λ (step : Step). step .table) (frame-step table frame (full table) (has-room table)))
+      (by-passing (At k table) (frameRefusals table frame (length (full table))) (λ r. table) (kept (commandIn frame) (monitors table) table frame)
+      (λ r. still (rowAt recordSize k table))
+      (λ none.
+      subst⁻¹ (R (rowAt recordSize k table)) (own-record (commandIn frame) (monitors table) table frame k h (sym (is-sound table s .whole)))
+      (by-command (commandIn frame) (λ its. other (frame-whole table frame (length (full table)) none its, (frame-right table frame (length (full table)) none, its)))
+      _ (rowAt recordSize k table) (record-at table frame (length (full table)) none k h))))
+  one-event table (Store position codes) other s k h =
+      subst (At k table) (ap (λ (step : Step). step .table) (store-step table position codes))
+      (by-passing (At k table) (storeRefusals table position codes) (λ r. table) (changedAt (position - 1) (store codes) table) (λ r. still (rowAt recordSize k table))
+      (λ none. changed (store codes) (length-store codes) (by-store codes) table position (store-place table position codes none) k h))
+  one-event table (Compare position) other s k h =
+      subst (At k table) (ap (λ (step : Step). step .table) (compare-step table position))
+      (by-passing (At k table) (compareRefusals table position) (λ r. table) (changedAt (position - 1) compare table) (λ r. still (rowAt recordSize k table))
+      (λ none. changed compare length-compare by-compare table position (compare-place table position none) k h))
+
+  pub along-run : (table : List ℕ) (events : List Event) → Without c events → sound table ≡ true → (k : ℕ) → k < monitors table → At k table (byRules table events .table)
+  unfolding byRules
+  along-run table [] none s k h = still (rowAt recordSize k table)
+  along-run table (event ∷ events) none s k h =
+      let one = step-keeps table event s in
+      then _ _ _ (one-event table event (none .0) s k h) (along-run (ruled table event .table) events (none .1) (one .sound-after) k (subst⁻¹ (λ (n : ℕ). k < n) (one .monitors-after) h))
+
+-- ---- what is seen at a place
+
+pub seen-there : (table : List ℕ) (before : List Event) (event : Event) (after : List Event)
+    → replyAt (length before) (byRules table (before ++ event ∷ after) .seen) ≡ replyOf (ruled (byRules table before .table) event .seen)
+unfolding byRules
+seen-there table [] event after = refl
+seen-there table (one ∷ before) event after = seen-there (ruled table one .table) before event after
+
+pub without-front : (c : Bare) (front rest : List Event) → Without c (front ++ rest) → Without c front
+without-front c [] rest h = tt
+without-front c (event ∷ front) rest h = (h .0, without-front c front rest (h .1))

@@ -1,0 +1,211 @@
+-- A long read is of one moment, by the rules. After a SNAP, and without an UNSNAP, each monitor's SNAP_ST stays set and its copy what it was, whatever
+-- frames come and whatever is stored and compared: so a cell read, wherever it stands, shows its part of the cells as they were shown at the SNAP, and
+-- the six together all of them. After an UNSNAP, and without a SNAP, SNAP_ST stays clear, and a read shows its part as it then is.
+-- Assumes nothing.
+use mathlib.Core.Path.{_≡_, refl, sym, ap, _∙_, subst⁻¹}
+use mathlib.Core.Bool.{Bool, true, false, cond, false≢true}
+use mathlib.Core.List.{List, [], _∷_, _++_}
+use Prim.Native.Nat.{ℕ, _<_}
+use lib.ListN.{length, replicate}
+use Rattle.laws.specs.Rows.{rowAt, joined}
+use Rattle.refusals.proofs.Deciding.{Passed}
+use Rattle.records.specs.declared.commands.Bare.{Bare}
+use Rattle.records.specs.declared.commands.Bare.the-variants.{Mute, Unmute, Rstcc, Ulrr, Clrcell, Snap, Unsnap}
+use Rattle.records.specs.declared.commands.Command.{Command}
+use Rattle.records.specs.declared.commands.Command.the-variants.{Reads, Writes, Bares, Unlisted}
+use Rattle.records.specs.declared.record.Part.{Part}
+use Rattle.records.specs.Record.{cells, snapshot, recordSize, snapped, bytesOf}
+use Rattle.records.specs.Commands.{rdcva, rdcvb, rdcvc, rdcvd, rdcve, rdcvf}
+use Rattle.monitor.specs.Effects.{keeps}
+use Rattle.reads.specs.Shown.{ofCells, shownCells}
+use Rattle.reads.specs.Reply.{sixBytes, register}
+use Rattle.reads.proofs.Parts.{shows-live}
+use Rattle.judging.specs.Table.{monitors, sound}
+use Rattle.judging.specs.Refusals.{commandIn}
+use Rattle.judging.proofs.Keeps.{Keeps}
+use Rattle.story.specs.Runs.{Event, Frame, ruleRefusals, byRules}
+use Rattle.story.specs.Snapshots.{snappedBy, snappedAfter, Without, replyAt, shownAt, shownBehind, sixIn, ReadIn}
+use Rattle.chain.specs.Frame.{frameRefusals}
+use Rattle.story.proofs.Accepted.{frame-sound, kept-table, eightAt, record-at, kept-at}
+use Rattle.story.proofs.Along.{judged-alike, rules-keep, bare-passes, ruled-frame, read-shows, along-run, seen-there, without-front}
+use Rattle.story.proofs.Runs.{full}
+use Rattle.story.proofs.Snapshot.{snap-st, snap-copies, copy-kept, store-snap-st, store-copy, compare-snap-st, compare-copy, shows-its-part, together, length-shown}
+
+-- ---- one monitor: a snapshot stays on, with its copy; and off
+
+record Held (r s : List ℕ) : Type 0 where
+  held : snapped r ≡ true → (snapped s ≡ true) × (bytesOf snapshot s ≡ bytesOf snapshot r)
+
+record Off (r s : List ℕ) : Type 0 where
+  off : snapped r ≡ false → snapped s ≡ false
+
+by-bare-on : (c : Bare) → (c ≡ Unsnap → ⊥) → snappedBy c true ≡ true
+by-bare-on Mute other = refl
+by-bare-on Unmute other = refl
+by-bare-on Rstcc other = refl
+by-bare-on Ulrr other = refl
+by-bare-on Clrcell other = refl
+by-bare-on Snap other = refl
+by-bare-on Unsnap other = absurd (other refl)
+
+by-bare-off : (c : Bare) → (c ≡ Snap → ⊥) → snappedBy c false ≡ false
+by-bare-off Mute other = refl
+by-bare-off Unmute other = refl
+by-bare-off Rstcc other = refl
+by-bare-off Ulrr other = refl
+by-bare-off Clrcell other = refl
+by-bare-off Snap other = absurd (other refl)
+by-bare-off Unsnap other = refl
+
+module _ (eight r : List ℕ) (whole : length r ≡ recordSize) where
+  stays-on : (c : Command) → (c ≡ Bares Unsnap → ⊥) → snapped r ≡ true → snapped (keeps c eight r) ≡ true
+  stays-on (Reads p) other on = snap-st eight r whole (Reads p) ∙ on
+  stays-on (Writes c) other on = snap-st eight r whole (Writes c) ∙ on
+  stays-on (Bares c) other on = snap-st eight r whole (Bares c) ∙ ap (snappedBy c) on ∙ by-bare-on c (λ e. other (ap Bares e))
+  stays-on Unlisted other on = snap-st eight r whole Unlisted ∙ on
+
+  stays-off : (c : Command) → (c ≡ Bares Snap → ⊥) → snapped r ≡ false → snapped (keeps c eight r) ≡ false
+  stays-off (Reads p) other off = snap-st eight r whole (Reads p) ∙ off
+  stays-off (Writes c) other off = snap-st eight r whole (Writes c) ∙ off
+  stays-off (Bares c) other off = snap-st eight r whole (Bares c) ∙ ap (snappedBy c) off ∙ by-bare-off c (λ e. other (ap Bares e))
+  stays-off Unlisted other off = snap-st eight r whole Unlisted ∙ off
+
+held-along : (table : List ℕ) (events : List Event) → Without Unsnap events → sound table ≡ true → (k : ℕ) → k < monitors table
+    → Held (rowAt recordSize k table) (rowAt recordSize k (byRules table events .table))
+held-along =
+    along-run Unsnap Held (λ r. record { held = λ on. (on, refl) })
+    (λ r s t one two. record { held = λ on. let first = one .held on in let second = two .held (first .0) in (second .0, second .1 ∙ first .1) })
+    (λ c other eight r whole. record { held = λ on. (stays-on eight r whole c other on, copy-kept eight r whole on c) })
+    (λ codes r. record { held = λ on. (store-snap-st codes r ∙ on, store-copy codes r) })
+    (λ r. record { held = λ on. (compare-snap-st r ∙ on, compare-copy r) })
+
+off-along : (table : List ℕ) (events : List Event) → Without Snap events → sound table ≡ true → (k : ℕ) → k < monitors table
+    → Off (rowAt recordSize k table) (rowAt recordSize k (byRules table events .table))
+off-along =
+    along-run Snap Off (λ r. record { off = λ e. e }) (λ r s t one two. record { off = λ e. two .off (one .off e) })
+    (λ c other eight r whole. record { off = stays-off eight r whole c other }) (λ codes r. record { off = λ e. store-snap-st codes r ∙ e })
+    (λ r. record { off = λ e. compare-snap-st r ∙ e })
+
+-- ---- after an accepted bare command, the events up to a read, and the read
+
+module _ (c : Bare) (table first : List ℕ) (passed : Passed (ruleRefusals table first)) (its : commandIn first ≡ Bares c) (k : ℕ) (h : k < monitors table) where
+  none : Passed (frameRefusals table first (length (full table)))
+  none = bare-passes table first c its passed (length (full table))
+
+  -- the table that the command leaves
+  abbrev then : List ℕ
+  then = byRules table (Frame first ∷ []) .table
+
+  kept-then : Keeps table then
+  kept-then = subst⁻¹ (Keeps table) (ruled-frame table first) (kept-table table first (length (full table)) none)
+
+  there-then : k < monitors then
+  there-then = subst⁻¹ (λ (n : ℕ). k < n) (kept-then .monitors-after) h
+
+  abbrev row : List ℕ
+  row = rowAt recordSize k table
+
+  row-whole : length row ≡ recordSize
+  row-whole = record-at table first (length (full table)) none k h
+
+  abbrev eight : List ℕ
+  eight = eightAt table first (length (full table)) none k
+
+  row-then : rowAt recordSize k then ≡ keeps (Bares c) eight row
+  row-then = ap (rowAt recordSize k) (ruled-frame table first) ∙ kept-at table first (length (full table)) none its k h
+
+  -- the table that a read finds which stands behind other events
+  abbrev found : List Event → List ℕ
+  found before = byRules then before .table
+
+  shown-there : (events : List Event) (p : Part) (read : ReadIn events table p)
+      → shownBehind (read .before) k (byRules table (Frame first ∷ events) .seen) ≡ register p (rowAt recordSize k (found (read .before)))
+  unfolding byRules
+  shown-there events p read =
+      let table' = found (read .before) in
+      let kept = rules-keep then (read .before) (kept-then .sound-after) in
+      let many : monitors table' ≡ monitors table = kept .monitors-after ∙ kept-then .monitors-after in
+      let alike = judged-alike table table' (read .frame) (kept .sound-after ∙ sym (frame-sound table first (length (full table)) none)) many in
+      ap (λ (list : List Event). shownAt k (replyAt (length (read .before)) (byRules then list .seen))) (sym (read .there))
+      ∙ ap (shownAt k) (seen-there then (read .before) (Frame (read .frame)) (read .after))
+      ∙ read-shows table' (read .frame) p (subst⁻¹ Passed alike (read .accepted)) (read .its) k (subst⁻¹ (λ (n : ℕ). k < n) many h)
+
+-- ---- SNAP
+
+module _ (table snap : List ℕ) (passed : Passed (ruleRefusals table snap)) (its : commandIn snap ≡ Bares Snap) (k : ℕ) (h : k < monitors table) where
+  -- the cells as they stood at the SNAP; the copy that was there, where SNAP_ST was set
+  abbrev frozen : List ℕ
+  frozen = shownCells (rowAt recordSize k table)
+
+  module _ (before : List Event) (quiet : Without Unsnap before) where
+    abbrev now : List ℕ
+    now = rowAt recordSize k (found Snap table snap passed its k h before)
+
+    still-held : (snapped now ≡ true) × (bytesOf snapshot now ≡ frozen)
+    still-held =
+        let at-first = row-then Snap table snap passed its k h in
+        let whole = row-whole Snap table snap passed its k h in
+        let e = eight Snap table snap passed its k h in
+        let on = ap snapped at-first ∙ snap-st e (rowAt recordSize k table) whole (Bares Snap) in
+        let after =
+        held-along (then Snap table snap passed its k h) before quiet (kept-then Snap table snap passed its k h .sound-after) k (there-then Snap table snap passed its k h) .held on in
+        (after .0, after .1 ∙ ap (bytesOf snapshot) at-first ∙ snap-copies e (rowAt recordSize k table) whole)
+
+    still-shown : shownCells now ≡ frozen
+    unfolding shownCells
+    still-shown = ap (λ (on : Bool). cond on (bytesOf snapshot now) (bytesOf cells now)) (still-held .0) ∙ still-held .1
+
+  module _ (events : List Event) (quiet : Without Unsnap events) where
+    pub frozen-read : (p : Part) → ofCells p ≡ true → (read : ReadIn events table p)
+        → shownBehind (read .before) k (byRules table (Frame snap ∷ events) .seen) ≡ sixIn p frozen
+    frozen-read p of-them read =
+        let quiet-before = without-front Unsnap (read .before) (Frame (read .frame) ∷ read .after) (subst⁻¹ (Without Unsnap) (read .there) quiet) in
+        shown-there Snap table snap passed its k h events p read
+        ∙ shows-its-part p (now (read .before) quiet-before) of-them
+        ∙ ap (sixIn p) (still-shown (read .before) quiet-before)
+
+    pub one-moment : (a : ReadIn events table rdcva) (b : ReadIn events table rdcvb) (c : ReadIn events table rdcvc) (d : ReadIn events table rdcvd)
+        (e : ReadIn events table rdcve) (f : ReadIn events table rdcvf)
+        → let seen = byRules table (Frame snap ∷ events) .seen in
+        joined
+        (shownBehind (a .before) k seen
+        ∷ shownBehind (b .before) k seen
+        ∷ shownBehind (c .before) k seen
+        ∷ shownBehind (d .before) k seen
+        ∷ shownBehind (e .before) k seen
+        ∷ shownBehind (f .before) k seen
+        ∷ [])
+        ≡ frozen ++ replicate 4 0xFF
+    unfolding joined
+    one-moment a b c d e f =
+        (λ j.
+        joined
+        (frozen-read rdcva refl a j
+        ∷ frozen-read rdcvb refl b j
+        ∷ frozen-read rdcvc refl c j
+        ∷ frozen-read rdcvd refl d j
+        ∷ frozen-read rdcve refl e j
+        ∷ frozen-read rdcvf refl f j
+        ∷ []))
+        ∙ together frozen (length-shown (rowAt recordSize k table) (row-whole Snap table snap passed its k h))
+
+-- a SNAP among other events is no UNSNAP
+pub without-second : (second : List ℕ) → commandIn second ≡ Bares Snap → (front rest : List Event) → Without Unsnap (front ++ rest) → Without Unsnap (front ++ Frame second ∷ rest)
+without-second second its [] rest h = (λ unsnap. false≢true (sym (ap (λ (c : Command). snappedAfter c true) (sym its ∙ unsnap .1 .1))), h)
+without-second second its (event ∷ front) rest h = (h .0, without-second second its front rest (h .1))
+
+-- ---- UNSNAP
+
+module _ (table unsnap : List ℕ) (passed : Passed (ruleRefusals table unsnap)) (its : commandIn unsnap ≡ Bares Unsnap) (events : List Event) (quiet : Without Snap events)
+    (k : ℕ) (h : k < monitors table) where
+  pub live-read : (p : Part) (read : ReadIn events table p)
+      → shownBehind (read .before) k (byRules table (Frame unsnap ∷ events) .seen)
+      ≡ sixBytes p (rowAt recordSize k (byRules table (Frame unsnap ∷ read .before) .table))
+  unfolding register byRules
+  live-read p read =
+      let quiet-before = without-front Snap (read .before) (Frame (read .frame) ∷ read .after) (subst⁻¹ (Without Snap) (read .there) quiet) in
+      let at-first = row-then Unsnap table unsnap passed its k h in
+      let off = ap snapped at-first ∙ snap-st (eight Unsnap table unsnap passed its k h) (rowAt recordSize k table) (row-whole Unsnap table unsnap passed its k h) (Bares Unsnap) in
+      let still = off-along (then Unsnap table unsnap passed its k h) (read .before) quiet-before (kept-then Unsnap table unsnap passed its k h .sound-after) k (there-then Unsnap table unsnap passed its k h) .off off in
+      let now = rowAt recordSize k (found Unsnap table unsnap passed its k h (read .before)) in
+      shown-there Unsnap table unsnap passed its k h events p read ∙ ap (λ (q : Part). sixBytes q now) (shows-live p now still)
