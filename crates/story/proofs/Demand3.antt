@@ -21,7 +21,7 @@ use Rattle.records.specs.declared.record.Part.{Part}
 use Rattle.records.specs.Record.{cellCount, recordSize}
 use Rattle.records.specs.Commands.{rdcva, rdcvb, rdcvc, rdcvd, rdcve, rdcvf, mostMonitors, payloadSize}
 use Rattle.reads.specs.Shown.{ofCells, shownCells}
-use Rattle.reads.specs.Reply.{sixBytes, reply}
+use Rattle.reads.specs.Reply.{sixBytes, sixIn, reply}
 use Rattle.chain.specs.declared.frames.Answer.the-variants.{Refused, Accepted}
 use Rattle.judging.specs.Table.{monitors, sound}
 use Rattle.judging.specs.Refusals.{commandIn}
@@ -49,7 +49,7 @@ use Rattle.clocking.specs.Bytes.{clockOf, stateAfter}
 use Rattle.clocking.proofs.View.{view}
 use Rattle.clocked.proofs.Whole.{released-read}
 use Rattle.story.specs.Runs.{Event, Frame, Store, Compare, Seen, StoreAnswered, CompareAnswered, Left, saw, Step, ruleRefusals, byRules, byFrames, stateAfterAll, cameBack, byBytes, Engine, WholeFrames, ClockedBytes, Ready, by}
-use Rattle.story.specs.Snapshots.{Without, shownBehind, sixIn, ReadIn}
+use Rattle.story.specs.Snapshots.{Without, shownBehind, ReadIn}
 use Rattle.story.proofs.Along.{rules-keep, bare-passes, ruled-frame}
 use Rattle.story.proofs.OneMoment.{frozen-read, one-moment, without-second, live-read}
 use Rattle.story.proofs.ByteFour.{only-byte-four, at-byte-four, noted-stays, another-n}

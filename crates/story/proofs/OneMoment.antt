@@ -18,13 +18,13 @@ use Rattle.records.specs.Record.{cells, snapshot, recordSize, snapped, bytesOf}
 use Rattle.records.specs.Commands.{rdcva, rdcvb, rdcvc, rdcvd, rdcve, rdcvf}
 use Rattle.monitor.specs.Effects.{keeps}
 use Rattle.reads.specs.Shown.{ofCells, shownCells}
-use Rattle.reads.specs.Reply.{sixBytes, register}
+use Rattle.reads.specs.Reply.{sixBytes, sixIn, register}
 use Rattle.reads.proofs.Parts.{shows-live}
 use Rattle.judging.specs.Table.{monitors, sound}
 use Rattle.judging.specs.Refusals.{commandIn}
 use Rattle.judging.proofs.Keeps.{Keeps}
 use Rattle.story.specs.Runs.{Event, Frame, ruleRefusals, byRules}
-use Rattle.story.specs.Snapshots.{snappedBy, snappedAfter, Without, replyAt, shownAt, shownBehind, sixIn, ReadIn}
+use Rattle.story.specs.Snapshots.{snappedBy, snappedAfter, Without, replyAt, shownAt, shownBehind, ReadIn}
 use Rattle.chain.specs.Frame.{frameRefusals}
 use Rattle.story.proofs.Accepted.{frame-sound, kept-table, eightAt, record-at, kept-at}
 use Rattle.story.proofs.Along.{judged-alike, rules-keep, bare-passes, ruled-frame, read-shows, along-run, seen-there, without-front}

@@ -35,9 +35,9 @@ use Rattle.monitor.proofs.Sound.{length-locked, length-counted}
 use Rattle.monitor.proofs.Spares.{counted-spares}
 use Rattle.cells.specs.Cells.{store, compare}
 use Rattle.reads.specs.Shown.{cellReads, ofCells, copyOf, shownPart, shownCells}
-use Rattle.reads.specs.Reply.{sixBytes, register}
+use Rattle.reads.specs.Reply.{sixBytes, sixIn, register}
 use Rattle.reads.proofs.Parts.{of-cells, shows-copy, shows-live, shows-other}
-use Rattle.story.specs.Snapshots.{snappedBy, snappedAfter, sixIn}
+use Rattle.story.specs.Snapshots.{snappedBy, snappedAfter}
 use Rattle.story.proofs.AsBefore.{copy-by}
 
 -- a part made anew leaves another that has no byte of it
@@ -207,7 +207,7 @@ module _ (r : List ℕ) where
 
 -- one of them: its part of the cells that are shown
 pub shows-its-part : (p : Part) (r : List ℕ) → ofCells p ≡ true → register p r ≡ sixIn p (shownCells r)
-unfolding register shownCells sixBytes
+unfolding register shownCells sixBytes sixIn
 shows-its-part p r its = where-on (snapped r) refl
   where
     place : copyOf p .at - snapshot .at ≡ p .at - cells .at
@@ -225,7 +225,7 @@ shows-its-part p r its = where-on (snapped r) refl
 
 -- all six: the 32 bytes, and FF for the four that register F has not
 pub together : (bytes : List ℕ) → length bytes ≡ cells .size → joined (map (λ p. sixIn p bytes) cellReads) ≡ bytes ++ replicate 4 0xFF
-unfolding joined tabulate
+unfolding joined tabulate sixIn
 together bytes l =
     subst (λ (xs : List ℕ). joined (map (λ p. sixIn p xs) cellReads) ≡ xs ++ replicate 4 0xFF) (rebuilt bytes (cells .size) l) refl
 

@@ -3,10 +3,9 @@
 use mathlib.Core.Path.{_≡_}
 use mathlib.Core.Bool.{Bool, true, false}
 use mathlib.Core.List.{List, [], _∷_, _++_}
-use Prim.Native.Nat.{ℕ, zero, suc, _-_}
-use lib.ListN.{length, take, drop, getD}
+use Prim.Native.Nat.{ℕ, zero, suc}
+use lib.ListN.{length, take}
 use Rattle.laws.specs.Rows.{rowAt}
-use Rattle.laws.specs.Tables.{tabulate}
 use Rattle.pec.specs.Words.{commandRight}
 use Rattle.refusals.proofs.Deciding.{Passed}
 use Rattle.records.specs.declared.commands.Bare.{Bare}
@@ -14,7 +13,6 @@ use Rattle.records.specs.declared.commands.Bare.the-variants.{Mute, Unmute, Rst
 use Rattle.records.specs.declared.commands.Command.{Command}
 use Rattle.records.specs.declared.commands.Command.the-variants.{Reads, Writes, Bares, Unlisted}
 use Rattle.records.specs.declared.record.Part.{Part}
-use Rattle.records.specs.Record.{cells}
 use Rattle.records.specs.Commands.{payloadSize}
 use Rattle.judging.specs.Refusals.{commandIn}
 use Rattle.host.specs.Frames.{dataSize}
@@ -69,10 +67,6 @@ shownAt k reply = take dataSize (rowAt payloadSize k reply)
 -- and of a read that stands behind a first frame and other events, in what was seen of them all
 abbrev pub shownBehind : List Event → ℕ → List Seen → List ℕ
 shownBehind before k seen = shownAt k (replyAt (suc (length before)) seen)
-
--- a part of the cells, as a register has it, where the cells are these bytes
-abbrev pub sixIn : Part → List ℕ → List ℕ
-sixIn p bytes = tabulate (λ i. getD (take (p .size) (drop (p .at - cells .at) bytes)) i 0xFF) 0 6
 
 -- a read of a part that stands in a list of events and is accepted
 pub record ReadIn (events : List Event) (table : List ℕ) (p : Part) : Type 0 where
