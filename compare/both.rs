@@ -41,7 +41,7 @@ pub fn frame_into(run: &mut Run, table: &mut Both<u8>, frame: &[u8], reply: &mut
         vec![("table", listed(&table.before)), ("frame", listed(frame)), ("reply", listed(&reply.before))]
     })?;
     if !refused(library) {
-        effects::note(run, Engine::Whole, frame, table);
+        effects::note(run, Engine::Whole, frame, &table.before, table);
     }
     Ok(library)
 }

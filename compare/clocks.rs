@@ -161,7 +161,7 @@ impl Clocks {
 
     fn note(&self, run: &mut Run, answer: u32, table: &Both<u8>) {
         if !refused(answer) {
-            effects::note(run, Engine::Clocked, &self.came, table);
+            effects::note(run, Engine::Clocked, &self.came, &self.at_four, table);
         } else if answer == 1 && sound(&table.before) && self.came.len() >= 4 {
             let unsound = !sound(&self.at_four);
             run.tally.saw(if unsound { Situation::UnsoundAtByteFour } else { Situation::OtherNAtRelease });

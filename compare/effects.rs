@@ -1,10 +1,11 @@
 //! What an accepted frame did, read off the table before and after it and, in a write, off the payloads. An effect counts once a frame.
 
-use crate::inputs::{at, head, is_damaged, shape, with_check, Shape, RECORD, WRRR};
+use crate::copies;
+use crate::inputs::{at, head, is_damaged, shape, snapped, with_check, Shape, RECORD, WRRR};
 use crate::lent::Both;
 use crate::run::Run;
 use crate::tally::{Effect, Engine};
-use model::MUTE_ST;
+use model::{MUTE_ST, SNAP_ST};
 
 const WRCFGA: u16 = 0x0001;
 const WRPWMB: u16 = 0x0021;
@@ -27,6 +28,11 @@ impl Received<'_> {
 
     fn muted(&self) -> bool {
         self.before[at::CONFIGURATION_A + 5] & MUTE_ST != 0
+    }
+
+    /// Of a WRCFGA: the bit that it cannot change is sent as 1.
+    fn sends_snap_st(&self) -> bool {
+        self.sent[5] & SNAP_ST != 0
     }
 
     /// Of a WRRR: other bytes stand in retention than before.
@@ -52,14 +58,17 @@ fn retention(record: &[u8]) -> &[u8] {
     &record[at::RETENTION..][..6]
 }
 
-pub fn note(run: &mut Run, engine: Engine, frame: &[u8], table: &Both<u8>) {
+/// `shown` is the table that a read goes by: a whole frame's own before the call, a clocked one's of byte four.
+pub fn note(run: &mut Run, engine: Engine, frame: &[u8], shown: &[u8], table: &Both<u8>) {
     let code = u16::from_be_bytes([frame[0], frame[1]]);
     run.tally.accepted(engine, code);
     let records = || table.before.chunks(RECORD).zip(table.contents().chunks(RECORD));
     let after_63 = records().any(|(before, after)| before[at::COUNTER] == 63 && after[at::COUNTER] == 1);
     run.tally.did_if(engine, Effect::CounterAfter63, after_63);
-    if shape(code) != Some(Shape::Write) {
-        return;
+    match shape(code) {
+        Some(Shape::Write) => {}
+        Some(Shape::Read) => return copies::note_read(run, engine, code, shown),
+        _ => return copies::note_bare(run, engine, code, table),
     }
     // The last eight bytes are monitor 1's.
     let payloads = frame[4..].chunks(8).rev();
@@ -77,7 +86,11 @@ fn note_write(code: u16, all: &[Received], did_if: &mut dyn FnMut(Effect, bool))
     did_if(Effect::TakenBySome, 0 < took && took < all.len());
     did_if(Effect::TakenByNone, took == 0);
     match code {
-        WRCFGA => did_if(Effect::WrcfgaWhileMuted, any(&|one| one.taken() && one.muted())),
+        WRCFGA => {
+            did_if(Effect::WrcfgaWhileMuted, any(&|one| one.taken() && one.muted()));
+            did_if(Effect::WrcfgaInSnapshot, any(&|one| one.taken() && snapped(one.before) && !one.sends_snap_st()));
+            did_if(Effect::WrcfgaSendsSnapSt, any(&|one| one.taken() && !snapped(one.before) && one.sends_snap_st()));
+        }
         WRPWMB => {
             did_if(Effect::WrpwmbSentOther, any(&|one| one.taken() && one.sent[2..6] != FIXED));
             did_if(Effect::WrpwmbMakesFf, any(&|one| one.taken() && one.before[at::PWM_B + 2..][..4] != FIXED));

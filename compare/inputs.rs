@@ -1,15 +1,20 @@
 //! Tables, frames, payloads and codes to try: mostly good ones, and each way in which one can be bad.
 
 use crate::random::Random;
-use model::MUTE_ST;
 pub use model::{at, RECORD};
+use model::{MUTE_ST, SNAP_ST};
+use std::ops::Range;
 
 pub const MOST: usize = 32;
 pub const CLEARED: i16 = -32768;
-pub const STATUS_D: std::ops::Range<usize> = at::STATUS_D..at::STATUS_D + 6;
+pub const CELLS: Range<usize> = at::CELLS..at::STATUS_C;
+pub const STATUS_C: Range<usize> = at::STATUS_C..at::STATUS_D;
+pub const STATUS_D: Range<usize> = at::STATUS_D..at::STATUS_D + 6;
+/// The copy of the cells, which L6 has as the record's last part.
+pub const COPY: Range<usize> = at::COPY..RECORD;
 
 /// Every command, in the paper's order: reads, writes, bare ones.
-pub const LISTED: [(u16, &str); 26] = [
+pub const LISTED: [(u16, &str); 28] = [
     (0x0002, "RDCFGA"),
     (0x0026, "RDCFGB"),
     (0x0004, "RDCVA"),
@@ -36,10 +41,23 @@ pub const LISTED: [(u16, &str); 26] = [
     (0x002E, "RSTCC"),
     (0x0038, "ULRR"),
     (0x0711, "CLRCELL"),
+    (SNAP, "SNAP"),
+    (UNSNAP, "UNSNAP"),
 ];
-const READS: std::ops::Range<usize> = 0..14;
-const WRITES: std::ops::Range<usize> = 14..21;
+const READS: Range<usize> = 0..14;
+const WRITES: Range<usize> = 14..21;
 pub const WRRR: u16 = 0x0039;
+pub const SNAP: u16 = 0x002D;
+pub const UNSNAP: u16 = 0x002F;
+
+/// RDCVA to RDCVF.
+pub const CELL_READS: [u16; 6] = [0x0004, 0x0006, 0x0008, 0x000A, 0x0009, 0x000B];
+
+/// Which bytes of the cells, or of their copy, a cell read shows: six, and RDCVF the last two.
+pub fn part_shown(code: u16) -> Option<Range<usize>> {
+    let first = 6 * CELL_READS.iter().position(|&read| read == code)?;
+    Some(first..CELLS.len().min(first + 6))
+}
 
 #[derive(Clone, Copy, PartialEq, Eq)]
 pub enum Shape {
@@ -193,7 +211,8 @@ pub fn frame(random: &mut Random, monitors: usize) -> Vec<u8> {
     frame
 }
 
-/// One record that is sound: any bytes, or all alike, or with clear flags and near thresholds, so that a compare shows.
+/// One record that is sound: any bytes, or all alike, or with clear flags and near thresholds, so that a compare shows. Half have
+/// SNAP_ST set.
 pub fn record(random: &mut Random) -> Vec<u8> {
     let mut record = match random.below(4) {
         0 => vec![random.pick(&[0x00, 0xFF]); RECORD],
@@ -207,9 +226,32 @@ pub fn record(random: &mut Random) -> Vec<u8> {
         let (vuv, vov) = random.pick(&edges);
         set_thresholds(&mut record, vuv, vov);
     }
+    if random.once_in(2) {
+        set_copy(random, &mut record);
+    }
     record[at::COUNTER] = if random.once_in(2) { random.pick(&[0, 1, 61, 62, 63]) } else { random.below(64) as u8 };
     record[at::UNLOCKED] = random.below(2) as u8;
     record
+}
+
+/// A copy of any bytes, or of the live cells, whole or but for one bit.
+fn set_copy(random: &mut Random, record: &mut [u8]) {
+    record.copy_within(CELLS, COPY.start);
+    match random.below(4) {
+        0 => {}
+        1 => record[COPY.start + random.below(COPY.len())] ^= 1 << random.below(8),
+        _ => record[COPY].copy_from_slice(&random.bytes(COPY.len())),
+    }
+}
+
+/// A snapshot is on, lent so or taken.
+pub fn snapped(record: &[u8]) -> bool {
+    record[at::CONFIGURATION_A + 5] & SNAP_ST != 0
+}
+
+pub fn set_snap_st(record: &mut [u8], on: bool) {
+    let flags = &mut record[at::CONFIGURATION_A + 5];
+    *flags = *flags & !SNAP_ST | if on { SNAP_ST } else { 0 };
 }
 
 fn set_thresholds(record: &mut [u8], vuv: i16, vov: i16) {

@@ -45,6 +45,13 @@ impl Random {
         choices[self.below(choices.len())]
     }
 
+    /// Puts them in any order.
+    pub fn shuffle<T>(&mut self, items: &mut [T]) {
+        for left in (1..items.len()).rev() {
+            items.swap(left, self.below(left + 1));
+        }
+    }
+
     pub fn bytes(&mut self, length: usize) -> Vec<u8> {
         let mut bytes = vec![0; length];
         for eight in bytes.chunks_mut(8) {

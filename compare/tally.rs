@@ -1,6 +1,6 @@
 //! What came up, so that a run which tried too little fails instead of passing.
 
-use crate::inputs::{needs_check, LISTED};
+use crate::inputs::{needs_check, part_shown, LISTED};
 use crate::surface::Function;
 use std::collections::BTreeMap;
 
@@ -38,6 +38,19 @@ situations! { Effect:
     WrrrDamagedBoth: "WRRR with a right payload, and damaged ones at a locked and at an unlocked monitor",
     WrpwmbSentOther: "WRPWMB taken with something other than FF for bytes 2 to 5",
     WrpwmbMakesFf: "WRPWMB makes FF of bytes 2 to 5 that were something else",
+    SnapCopies: "SNAP where SNAP_ST is clear makes another copy",
+    SnapKeepsCopy: "SNAP where SNAP_ST is set keeps a copy that differs from the live cells",
+    SnapBoth: "SNAP where SNAP_ST is clear at one monitor and set at another",
+    SecondSnapAfter63: "SNAP where SNAP_ST is set makes 1 of a counter of 63",
+    SecondSnapLocks: "SNAP where SNAP_ST is set ends an unlocking",
+    UnsnapEnds: "UNSNAP where SNAP_ST is set, with a copy that differs from the live cells",
+    UnsnapOfNone: "UNSNAP where SNAP_ST is clear, with a copy that differs from the live cells",
+    UnsnapLocks: "UNSNAP ends an unlocking",
+    ClrcellInSnapshot: "CLRCELL while a snapshot is on leaves a copy that is not cleared",
+    WrcfgaInSnapshot: "WRCFGA taken while a snapshot is on, sent with SNAP_ST clear",
+    WrcfgaSendsSnapSt: "WRCFGA taken while no snapshot is on, sent with SNAP_ST set",
+    StatusCInSnapshot: "RDSTATC while a snapshot is on",
+    StatusDInSnapshot: "RDSTATD while a snapshot is on",
 }
 
 // Other situations that the answers alone do not show.
@@ -54,6 +67,9 @@ situations! { Situation:
     LoadSetsUv: "a load sets UV",
     LoadSetsOv: "a load sets OV",
     LoadKeepsFlag: "a load leaves a flag of a cell within its thresholds",
+    StoreInSnapshot: "a store of codes other than the copy's while a snapshot is on",
+    CompareInSnapshot: "a compare while a snapshot is on flags otherwise than the copy calls for",
+    LoadInSnapshot: "a load while a snapshot is on flags otherwise than the copy calls for",
     Row7: "row 7 decides an output",
     Row6: "row 6 decides an output",
     Row5: "row 5 decides an output",
@@ -100,6 +116,14 @@ situations! { Situation:
     DamagedRetentionAfterRefusal: "ULRR, a refused frame, a damaged WRRR, and RDRR shows the bytes sent",
     DamagedRetentionLocked: "ULRR, another command, a damaged WRRR, and RDRR shows what stood",
     DamagedRetentionTwice: "ULRR, two damaged WRRRs, and RDRR shows the bytes of the first",
+    LongRead: "SNAP and six cell reads of one moment, with a store, CLRCELL and a second SNAP between them",
+    LongReadOfLent: "a second SNAP on a lent snapshot, and six cell reads of the lent copy",
+    RefusedUnsnap: "a refused UNSNAP between cell reads, and the next one shows the copy",
+    LiveAfterUnsnap: "after UNSNAP six cell reads of live cells that differ from the copy",
+    SnappedAgain: "SNAP, a store, UNSNAP, SNAP, and the cell reads show another moment",
+    FlagsSetInSnapshot: "RDSTATD shows flags that a compare set after SNAP",
+    FlagsClearedInSnapshot: "RDSTATD shows flags as CLOVUV cleared them after SNAP",
+    StatusCClearedInSnapshot: "RDSTATC shows flags as CLRFLAG cleared them after SNAP",
 }
 
 /// Accepted calls at 0, refusals at their number.
@@ -112,11 +136,14 @@ pub enum Engine {
     Clocked,
 }
 
-/// What came up of one engine's accepted frames: how many of each command, its damaged payloads that were not taken, and the effects.
+/// What came up of one engine's accepted frames: how many of each command, its damaged payloads that were not taken, its replies that
+/// showed the copy or the live cells where the other ones differ, and the effects.
 #[derive(Default)]
 struct Frames {
     accepted: [u64; LISTED.len()],
     not_taken: [u64; LISTED.len()],
+    showed_copy: [u64; LISTED.len()],
+    showed_live: [u64; LISTED.len()],
     effects: BTreeMap<Effect, u64>,
 }
 
@@ -164,6 +191,12 @@ impl Tally {
 
     pub fn not_taken(&mut self, engine: Engine, code: u16) {
         self.frames[engine as usize].not_taken[place_of(code)] += 1;
+    }
+
+    pub fn showed(&mut self, engine: Engine, code: u16, copy: bool) {
+        let frames = &mut self.frames[engine as usize];
+        let showed = if copy { &mut frames.showed_copy } else { &mut frames.showed_live };
+        showed[place_of(code)] += 1;
     }
 
     pub fn did_if(&mut self, engine: Engine, effect: Effect, came_up: bool) {
@@ -216,6 +249,10 @@ impl Tally {
                 want(frames.accepted[place], format!("{name} ({code:04X}) accepted {how}"));
                 if needs_check(*code) {
                     want(frames.not_taken[place], format!("{name} ({code:04X}) with a damaged payload not taken {how}"));
+                }
+                if part_shown(*code).is_some() {
+                    want(frames.showed_copy[place], format!("{name} ({code:04X}) shows a copy that differs from the live cells {how}"));
+                    want(frames.showed_live[place], format!("{name} ({code:04X}) shows live cells that differ from the copy {how}"));
                 }
             }
             for (effect, name) in Effect::ALL {

@@ -10,13 +10,14 @@ mod never_started;
 mod payloads;
 mod readings;
 mod retention;
+mod snapshots;
 mod stores;
 mod tables;
 
 use crate::run::{Done, Run};
 use crate::tally::NEVER_STARTED;
 
-pub const KINDS: [(&str, fn(&mut Run) -> Done); 12] = [
+pub const KINDS: [(&str, fn(&mut Run) -> Done); 13] = [
     ("frames", frames::cases),
     ("tables", tables::cases),
     ("stores", stores::cases),
@@ -27,6 +28,7 @@ pub const KINDS: [(&str, fn(&mut Run) -> Done); 12] = [
     ("readings", readings::cases),
     ("clocked", clocked::cases),
     ("retention", retention::cases),
+    ("snapshots", snapshots::cases),
     ("long runs", long_runs::cases),
     (NEVER_STARTED, never_started::cases),
 ];

@@ -9,9 +9,13 @@ use crate::run::{Done, Run};
 
 const RSTCC: u16 = 0x002E;
 
+/// The lengths of a record before L2 and before L6, which is where their parts begin.
+const EARLIER_RECORDS: [usize; 2] = [at::PWM_A, at::COPY];
+
 pub fn cases(run: &mut Run) -> Done {
     let mut clocks = Clocks::new(run)?;
     lengths(run, &mut clocks)?;
+    earlier_lengths(run, &mut clocks)?;
     each_value(run, &mut clocks)?;
     each_record(run, &mut clocks)
 }
@@ -45,6 +49,16 @@ fn lengths(run: &mut Run, clocks: &mut Clocks) -> Done {
         for length in [whole.saturating_sub(1), whole, whole + 1, whole + run.random.below(RECORD)] {
             try_table(run, clocks, &records[..length])?;
         }
+    }
+    Ok(())
+}
+
+/// Tables of records without the parts that came later.
+fn earlier_lengths(run: &mut Run, clocks: &mut Clocks) -> Done {
+    for (monitors, length) in (1..=MOST).flat_map(|monitors| EARLIER_RECORDS.map(|length| (monitors, length))) {
+        let records = inputs::table(&mut run.random, monitors);
+        let shorter: Vec<u8> = records.chunks(RECORD).flat_map(|record| record[..length].to_vec()).collect();
+        try_table(run, clocks, &shorter)?;
     }
     Ok(())
 }

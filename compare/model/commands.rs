@@ -15,7 +15,9 @@ pub enum Command {
 pub enum Read {
     /// The six bytes from this one on.
     SixFrom(usize),
-    /// RDCVF: cell 16 and then four bytes FF.
+    /// RDCVA to RDCVE: six bytes of the cells from this one on, or of their copy (L6).
+    CellsFrom(usize),
+    /// RDCVF: cell 16, or its copy, and then four bytes FF.
     Cell16,
 }
 
@@ -37,9 +39,11 @@ pub enum Bare {
     Rstcc,
     Ulrr,
     Clrcell,
+    Snap,
+    Unsnap,
 }
 
-/// The places of a record, as the paper's table has them and, after byte 69, L2.
+/// The places of a record, as the paper's table has them and, after byte 69, L2 and L6.
 pub mod at {
     pub const CONFIGURATION_A: usize = 0;
     pub const CONFIGURATION_B: usize = 6;
@@ -52,6 +56,7 @@ pub mod at {
     pub const UNLOCKED: usize = 69;
     pub const PWM_A: usize = 70;
     pub const PWM_B: usize = 76;
+    pub const COPY: usize = 82;
 }
 
 pub fn listed(code: u16) -> Option<Command> {
@@ -59,11 +64,11 @@ pub fn listed(code: u16) -> Option<Command> {
     Some(match code {
         0x0002 => R(Read::SixFrom(at::CONFIGURATION_A)),
         0x0026 => R(Read::SixFrom(at::CONFIGURATION_B)),
-        0x0004 => R(Read::SixFrom(at::CELLS)),
-        0x0006 => R(Read::SixFrom(at::CELLS + 6)),
-        0x0008 => R(Read::SixFrom(at::CELLS + 12)),
-        0x000A => R(Read::SixFrom(at::CELLS + 18)),
-        0x0009 => R(Read::SixFrom(at::CELLS + 24)),
+        0x0004 => R(Read::CellsFrom(0)),
+        0x0006 => R(Read::CellsFrom(6)),
+        0x0008 => R(Read::CellsFrom(12)),
+        0x000A => R(Read::CellsFrom(18)),
+        0x0009 => R(Read::CellsFrom(24)),
         0x000B => R(Read::Cell16),
         0x0032 => R(Read::SixFrom(at::STATUS_C)),
         0x0033 => R(Read::SixFrom(at::STATUS_D)),
@@ -83,6 +88,8 @@ pub fn listed(code: u16) -> Option<Command> {
         0x002E => B(Bare::Rstcc),
         0x0038 => B(Bare::Ulrr),
         0x0711 => B(Bare::Clrcell),
+        0x002D => B(Bare::Snap),
+        0x002F => B(Bare::Unsnap),
         _ => return None,
     })
 }

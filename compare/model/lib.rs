@@ -1,4 +1,4 @@
-//! Document 01, with requests L1, L2 and L3 of document 02, written once more from the papers alone: one file for each section.
+//! Document 01, with requests L1, L2, L3 and L6 of document 02, written once more from the papers alone: one file for each section.
 //!
 //! It shares nothing with the proved code, so that a difference between the two shows a mistake in one of them. Each public function
 //! stands beside a function of include/oskorbine.h and packs its answer the same way. Nothing here allocates.
@@ -14,11 +14,15 @@ mod numbers;
 mod readings;
 
 #[cfg(test)]
+mod both_engines;
+#[cfg(test)]
 mod worked_discharge;
 #[cfg(test)]
 mod worked_examples;
 #[cfg(test)]
 mod worked_retention;
+#[cfg(test)]
+mod worked_snapshot;
 
 pub use chain::{compare, frame, load, store};
 pub use check_words::{
@@ -28,5 +32,5 @@ pub use clocked::Clock;
 pub use commands::at;
 pub use discharge::{discharge, event, OUTPUT_ON};
 pub use host::{check, host_frame, two_ports};
-pub use monitor::{MUTE_ST, RECORD};
+pub use monitor::{MUTE_ST, RECORD, SNAP_ST};
 pub use readings::{microvolts, summary, volts};

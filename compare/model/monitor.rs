@@ -1,17 +1,19 @@
 //! One monitor's record: what a command does to it, what it replies, and its cells stored, compared and loaded ("Effects", "Counter",
-//! "Thresholds", L1, the PWM groups of L2, and retention by L3).
+//! "Thresholds", L1, the PWM groups of L2, retention by L3, and the copy of the cells of L6).
 
 use crate::check_words::{payload, payload_right};
 use crate::commands::{at, Bare, Read, Write};
 
-pub const RECORD: usize = 82;
+pub const RECORD: usize = 114;
 pub type Record = [u8; RECORD];
 
+/// The cells, and their copy as well: sixteen of two bytes.
+const CELL_BYTES: usize = 32;
 pub const CLEARED: i16 = -32768;
 
 const WRCFGA_MASKS: [u8; 6] = [0x87, 0xFF, 0xF8, 0xFF, 0x03, 0x0F];
 pub const MUTE_ST: u8 = 1 << 4;
-const SNAP_ST: u8 = 1 << 5;
+pub const SNAP_ST: u8 = 1 << 5;
 /// What CLRFLAG may clear in status C: nothing in bytes 2 and 3, nor bit 5 of byte 5.
 const CLRFLAG_MASKS: [u8; 6] = [0xFF, 0xFF, 0x00, 0x00, 0xFF, 0xDF];
 /// Bytes 2 to 5 of PWM group B: the memory map has all ones there, so what is sent for them is lost.
@@ -22,11 +24,18 @@ pub fn sound(record: &Record) -> bool {
 }
 
 pub fn reply(record: &Record, read: Read) -> [u8; 8] {
+    let cells = if snapshot_on(record) { at::COPY } else { at::CELLS };
     let six = match read {
         Read::SixFrom(first) => std::array::from_fn(|byte| record[first + byte]),
-        Read::Cell16 => [record[at::CELLS + 30], record[at::CELLS + 31], 0xFF, 0xFF, 0xFF, 0xFF],
+        Read::CellsFrom(first) => std::array::from_fn(|byte| record[cells + first + byte]),
+        Read::Cell16 => [record[cells + 30], record[cells + 31], 0xFF, 0xFF, 0xFF, 0xFF],
     };
     payload(six, record[at::COUNTER])
+}
+
+/// Also in a record that was lent so: its copy is then what the reads show, whatever it holds.
+fn snapshot_on(record: &Record) -> bool {
+    record[at::CONFIGURATION_A + 5] & SNAP_ST != 0
 }
 
 /// Every command but ULRR ends an unlocking, whether the monitor takes it or not.
@@ -89,6 +98,13 @@ pub fn bare(record: &mut Record, bare: Bare) {
                 set_cell(record, cell, CLEARED);
             }
         }
+        // A second one leaves the moment of the first.
+        Bare::Snap if snapshot_on(record) => {}
+        Bare::Snap => {
+            record.copy_within(at::CELLS..at::CELLS + CELL_BYTES, at::COPY);
+            record[at::CONFIGURATION_A + 5] |= SNAP_ST;
+        }
+        Bare::Unsnap => record[at::CONFIGURATION_A + 5] &= !SNAP_ST,
     }
 }
 

@@ -168,8 +168,8 @@ fn both_ways_to_a_remainder_agree() {
 }
 
 #[test]
-fn twenty_six_codes_are_listed() {
-    assert_eq!((0..=u16::MAX).filter(|&code| listed(code).is_some()).count(), 14 + 7 + 5);
+fn twenty_eight_codes_are_listed() {
+    assert_eq!((0..=u16::MAX).filter(|&code| listed(code).is_some()).count(), 14 + 7 + 7);
 }
 
 #[test]

@@ -1,5 +1,6 @@
 //! L3 by hand: WRRR with a bad check, as a whole frame and clocked.
 
+use crate::both_engines::sent;
 use crate::*;
 
 const ULRR: [u8; 4] = [0x00, 0x38, 0xB3, 0x20];
@@ -19,21 +20,6 @@ fn record(retention: [u8; 6], counter: u8, unlocked: u8) -> [u8; RECORD] {
     record[56..62].copy_from_slice(&retention);
     record[68..70].copy_from_slice(&[counter, unlocked]);
     record
-}
-
-/// The answer and the reply, which both engines must give alike, and leave the same table.
-fn sent(table: &mut [[u8; RECORD]], bytes: &[u8]) -> (u32, Vec<u8>) {
-    let mut clocked = table.to_vec();
-    let mut clock = Clock::new();
-    let answered: Vec<u8> = bytes.iter().map(|&byte| (clock.byte(clocked.as_flattened(), byte) >> 8) as u8).collect();
-    let released = clock.release(clocked.as_flattened_mut());
-
-    let mut reply = vec![0; 8 * table.len()];
-    let answer = frame(table.as_flattened_mut(), bytes, &mut reply);
-    reply.truncate((answer >> 16) as usize);
-    assert_eq!((released, &clocked[..]), (answer, &*table));
-    assert!(answered[4..].starts_with(&reply));
-    (answer, reply)
 }
 
 #[test]

@@ -1,0 +1,97 @@
+//! What may come on a chain between the frames of a long read, and leaves the copy of a snapshot alone. By both engines.
+
+use crate::chain::Chain;
+use crate::difference::refused;
+use crate::inputs::{self, head, payload, UNSNAP};
+use crate::run::{expect, Done, Run};
+use crate::surface::Function;
+
+const WRCFGA: u16 = 0x0001;
+const CLRFLAG: u16 = 0x0717;
+const CLOVUV: u16 = 0x0715;
+const CLRCELL: u16 = 0x0711;
+
+pub type Event = fn(&mut Run, &mut Chain) -> Done;
+
+fn any_position(run: &mut Run, chain: &Chain) -> usize {
+    run.random.within(1, chain.monitors())
+}
+
+pub fn store(run: &mut Run, chain: &mut Chain) -> Done {
+    let position = any_position(run, chain);
+    let codes = chain.codes_for(run, position);
+    chain.store(run, position, &codes)
+}
+
+pub fn compare(run: &mut Run, chain: &mut Chain) -> Done {
+    let position = any_position(run, chain);
+    chain.compare(run, position)
+}
+
+pub fn load(run: &mut Run, chain: &mut Chain) -> Done {
+    let position = any_position(run, chain);
+    let codes = chain.codes_for(run, position);
+    chain.load(run, position, &codes)
+}
+
+pub fn store_and_compare(run: &mut Run, chain: &mut Chain) -> Done {
+    let position = any_position(run, chain);
+    let codes = chain.codes_for(run, position);
+    chain.store(run, position, &codes)?;
+    chain.compare(run, position)
+}
+
+/// With right payloads only.
+fn write(run: &mut Run, chain: &mut Chain, code: u16) -> Done {
+    let payloads: Vec<u8> = (0..chain.monitors()).flat_map(|_| payload(&mut run.random)).collect();
+    chain.frame(run, &[&head(code)[..], &payloads].concat())?;
+    Ok(())
+}
+
+pub fn clovuv(run: &mut Run, chain: &mut Chain) -> Done {
+    write(run, chain, CLOVUV)
+}
+
+pub fn clrflag(run: &mut Run, chain: &mut Chain) -> Done {
+    write(run, chain, CLRFLAG)
+}
+
+pub fn clrcell(run: &mut Run, chain: &mut Chain) -> Done {
+    chain.frame(run, &head(CLRCELL))?;
+    Ok(())
+}
+
+pub fn wrcfga(run: &mut Run, chain: &mut Chain) -> Done {
+    let frame = inputs::frame_of(&mut run.random, WRCFGA, chain.monitors());
+    chain.frame(run, &frame)?;
+    Ok(())
+}
+
+/// Good or bad, but no UNSNAP: nothing else may end a snapshot.
+pub fn any_frame(run: &mut Run, chain: &mut Chain) -> Done {
+    let frame = loop {
+        let frame = inputs::frame(&mut run.random, chain.monitors());
+        if frame != head(UNSNAP) {
+            break frame;
+        }
+    };
+    chain.frame(run, &frame)?;
+    Ok(())
+}
+
+/// With one wrong bit, which the check always tells, cut short, or with bytes after it.
+pub fn refused_unsnap(run: &mut Run, chain: &mut Chain) -> Done {
+    let mut frame = head(UNSNAP).to_vec();
+    match run.random.below(4) {
+        0 => frame.truncate(run.random.below(4)),
+        1 => {
+            let more = run.random.pick(&[1, 2, 8, 8 * chain.monitors()]);
+            frame.extend(run.random.bytes(more));
+        }
+        _ => frame[run.random.below(4)] ^= 1 << run.random.below(8),
+    }
+    let before = chain.table().to_vec();
+    let (answer, _) = chain.frame(run, &frame)?;
+    expect(run, Function::Frame, (refused(answer), true), &before, chain.monitors())?;
+    expect(run, Function::Frame, (chain.table(), &before), &before, chain.monitors())
+}
