@@ -45,16 +45,24 @@ fn came_of(c: Case, before: Bytes, sent: Bytes) -> Came {
 }
 
 // The table expected: the bytes at a place of both records, and the counter and byte 69 of both; or after a load, a store or a
-// compare the flags of one.
+// compare the flags of one. A SNAP that finds the cells of the second monitor as they were lent copies them.
 fn wanted(c: Case, before: Bytes) -> Bytes {
     let place = c.sizes / 1000 % 100;
     let count = c.sizes / 10 % 100;
-    let registers = lay(
+    let mut registers = lay(
         lay(before, place, count, c.at_first),
         place + RECORD,
         count,
         c.at_second,
     );
+    if c.sizes / 100_000 % 10 == 3 {
+        bytes::put(
+            &mut registers,
+            TWO - 32,
+            b"\x99\x9a\x9b\x9c\x9d\x9e\x9f\xa0\xa1\xa2\xa3\xa4\xa5\xa6\xa7\xa8\
+            \xa9\xaa\xab\xac\xad\xae\xaf\xb0\xb1\xb2\xb3\xb4\xb5\xb6\xb7\xb8",
+        );
+    }
     if is_load(c.given) {
         return lay(
             registers,

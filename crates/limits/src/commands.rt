@@ -12,12 +12,12 @@ use crate::words::CASES;
 //    stored before it, and at which position.
 // 2. Its sizes and what is expected, in decimal, begin_monitors_frame_room_refusal_taken_kind_place_count_shown: the table that the case begins
 //    with (starts.rt), its monitors, the bytes of the frame and the room for a reply; then the refusal or 0, how many monitors take it, and
-//    the kind (0 is bare or refused, 1 a read, 2 a write); then the place in a record and the count of the bytes that numbers 5 and 6 are;
+//    the kind (0 is bare or refused, 1 a read, 2 a write, 3 a SNAP that copies in the second monitor); then the place in a record and the count of the bytes that numbers 5 and 6 are;
 //    and what is shown of the outcome (cases.rt).
 // 3, 4. Of a read, the replies of the first and the second monitor. Of a write, the eight bytes that each is sent, and of a load, a
 //    store or a compare the first is what WRCFGB sent before it, to both, where its table asks for that.
 // 5, 6. The bytes that are expected at that place of the first and the second record. Every other byte stays as it was.
-const ROWS: [u64; 606] = [
+const ROWS: [u64; 702] = [
     // MUTE on 0, 1, 32 and 33 monitors of 0
     0x0028_e80e_0000_0000,
     00_00_004_008_1_00_0_00_00_0,
@@ -134,45 +134,45 @@ const ROWS: [u64; 606] = [
     0xc5c6_c7c8_c9ca_24a1,
     0,
     0,
-    // RDCVA
+    // RDCVA: SNAP_ST is set in the first monitor, which shows its copy, and clear in the second
     0x0004_07c2_0500_0900,
     01_02_020_020_0_02_1_00_00_5,
-    0x2d2e_2f30_3132_146c,
+    0x7172_7374_7576_142b,
     0x999a_9b9c_9d9e_2439,
     0,
     0,
     // RDCVB
     0x0006_9a94_0500_0900,
     01_02_020_020_0_02_1_00_00_5,
-    0x3334_3536_3738_14f6,
+    0x7778_797a_7b7c_159d,
     0x9fa0_a1a2_a3a4_25b0,
     0,
     0,
     // RDCVC
     0x0008_5e52_0500_0900,
     01_02_020_020_0_02_1_00_00_5,
-    0x393a_3b3c_3d3e_1411,
+    0x7d7e_7f80_8182_17ef,
     0xa5a6_a7a8_a9aa_2500,
     0,
     0,
     // RDCVD
     0x000a_c304_0500_0900,
     01_02_020_020_0_02_1_00_00_5,
-    0x3f40_4142_4344_15cc,
+    0x8384_8586_8788_141d,
     0xabac_adae_afb0_26f6,
     0,
     0,
     // RDCVE
     0x0009_d560_0500_0900,
     01_02_020_020_0_02_1_00_00_5,
-    0x4546_4748_494a_1416,
+    0x898a_8b8c_1d1e_14c6,
     0xb1b2_b3b4_b5b6_25a2,
     0,
     0,
     // RDCVF: cell 16 and then four bytes FF
     0x000b_4836_0500_0900,
     01_02_020_020_0_02_1_00_00_5,
-    0x4b4c_ffff_ffff_16f2,
+    0x1f20_ffff_ffff_15a9,
     0xb7b8_ffff_ffff_240e,
     0,
     0,
@@ -308,6 +308,98 @@ const ROWS: [u64; 606] = [
     0,
     0x0080_0080_0080_0080,
     0x0080_0080_0080_0080,
+    // SNAP: SNAP_ST is bit 5 of byte 5. It was set in monitor 1 alone, which keeps its copy
+    0x002d_d2a2_0600_0a00,
+    01_02_004_020_0_02_3_00_08_6,
+    0,
+    0,
+    0x2122_2324_2526_2728,
+    0x8d8e_8f90_91b2_9394,
+    // SNAP, after SNAP and CLRCELL: nothing but the count
+    0x002d_d2a2_0800_0c00,
+    19_02_004_020_0_02_0_00_08_6,
+    0,
+    0,
+    0x2122_2324_2526_2728,
+    0x8d8e_8f90_91b2_9394,
+    // each cell read, after SNAP and CLRCELL: the cells of monitor 2 as they were at the SNAP
+    0x0004_07c2_0700_0b00,
+    19_02_020_020_0_02_1_00_00_5,
+    0x7172_7374_7576_1d35,
+    0x999a_9b9c_9d9e_2d27,
+    0,
+    0,
+    0x0006_9a94_0700_0b00,
+    19_02_020_020_0_02_1_00_00_5,
+    0x7778_797a_7b7c_1c83,
+    0x9fa0_a1a2_a3a4_2cae,
+    0,
+    0,
+    0x0008_5e52_0700_0b00,
+    19_02_020_020_0_02_1_00_00_5,
+    0x7d7e_7f80_8182_1ef1,
+    0xa5a6_a7a8_a9aa_2c1e,
+    0,
+    0,
+    0x000a_c304_0700_0b00,
+    19_02_020_020_0_02_1_00_00_5,
+    0x8384_8586_8788_1d03,
+    0xabac_adae_afb0_2fe8,
+    0,
+    0,
+    0x0009_d560_0700_0b00,
+    19_02_020_020_0_02_1_00_00_5,
+    0x898a_8b8c_1d1e_1dd8,
+    0xb1b2_b3b4_b5b6_2cbc,
+    0,
+    0,
+    0x000b_4836_0700_0b00,
+    19_02_020_020_0_02_1_00_00_5,
+    0x1f20_ffff_ffff_1cb7,
+    0xb7b8_ffff_ffff_2d10,
+    0,
+    0,
+    // RDSTATD, after SNAP and a load of sixteen codes 800 in monitor 2, below 16 times 0493 and above 16 times -06a7: status D is live
+    0x0033_4d4a_0600_0a00,
+    20_02_020_020_0_02_1_00_00_5,
+    0x5354_5556_5758_18c6,
+    0xffff_ffff_c3c4_2beb,
+    0,
+    0,
+    // RDCVA, the same
+    0x0004_07c2_0600_0a00,
+    20_02_020_020_0_02_1_00_00_5,
+    0x7172_7374_7576_19ba,
+    0x999a_9b9c_9d9e_29a8,
+    0,
+    0,
+    // UNSNAP: it was set in monitor 1 alone
+    0x002f_4ff4_0600_0a00,
+    01_02_004_020_0_02_0_00_08_6,
+    0,
+    0,
+    0x2122_2324_2506_2728,
+    0x8d8e_8f90_9192_9394,
+    // RDCVA, after SNAP, that load and UNSNAP: the live cells
+    0x0004_07c2_0700_0b00,
+    21_02_020_020_0_02_1_00_00_5,
+    0x2d2e_2f30_3132_1d72,
+    0x2003_2003_2003_2d72,
+    0,
+    0,
+    // both, after ULRR: they lock
+    0x002d_d2a2_0700_0b00,
+    03_02_004_020_0_02_3_00_08_6,
+    0,
+    0,
+    0x2122_2324_2526_2728,
+    0x8d8e_8f90_91b2_9394,
+    0x002f_4ff4_0700_0b00,
+    03_02_004_020_0_02_0_00_08_6,
+    0,
+    0,
+    0x2122_2324_2506_2728,
+    0x8d8e_8f90_9192_9394,
     // MUTE, room 0: only a read asks for room
     0x0028_e80e_0600_0a00,
     01_02_004_000_0_02_0_00_08_0,
@@ -401,6 +493,19 @@ const ROWS: [u64; 606] = [
     0x0000_0000_0010_0000,
     // RSTCC, the same
     0x002e_c4c6_0000_0000,
+    05_02_004_020_0_02_0_00_08_6,
+    0,
+    0,
+    0,
+    0,
+    // SNAP and UNSNAP, the same
+    0x002d_d2a2_3f00_0100,
+    05_02_004_020_0_02_0_00_08_6,
+    0,
+    0,
+    0x0000_0000_0020_0000,
+    0x0000_0000_0020_0000,
+    0x002f_4ff4_3f00_0100,
     05_02_004_020_0_02_0_00_08_6,
     0,
     0,
@@ -698,11 +803,11 @@ const ROWS: [u64; 606] = [
 ];
 
 fn number(k: usize) -> u64 {
-    ROWS[k % 606]
+    ROWS[k % 702]
 }
 
 pub(crate) fn command(i: usize) -> bool {
-    let k = i % 101 * 6;
+    let k = i % 117 * 6;
     let c = Case {
         given: number(k),
         sizes: number(k + 1),
@@ -711,5 +816,5 @@ pub(crate) fn command(i: usize) -> bool {
         at_first: number(k + 4),
         at_second: number(k + 5),
     };
-    tried(c, CASES + (i % 101) as u64)
+    tried(c, CASES + (i % 117) as u64)
 }

@@ -65,17 +65,18 @@ fn run(t: Tally, heading: u64, kind: u8, from: usize, to: usize) -> Tally {
 fn main() {
     let t = Tally { lines: 0, right: 0 };
     let t = run(t, words::TABLES, COMMAND, 0, 4);
-    let t = run(t, 0, SOUND, 0, 19);
+    let t = run(t, 0, SOUND, 0, 20);
     let t = run(t, words::ROOM, COMMAND, 4, 12);
     let t = run(t, words::COMMANDS, COMMAND, 12, 43);
+    let t = run(t, words::SNAPSHOTS, COMMAND, 43, 57);
     let t = run(t, words::LONGEST, LONGEST, 0, 1);
-    let t = run(t, words::ORDER, ORDER, 0, 26);
-    let t = run(t, 0, COMMAND, 43, 44);
-    let t = run(t, words::DAMAGE, COMMAND, 44, 55);
-    let t = run(t, words::COUNTERS, COMMAND, 55, 58);
-    let t = run(t, words::LOADS, COMMAND, 58, 74);
-    let t = run(t, words::STORES, COMMAND, 74, 86);
-    let t = run(t, words::COMPARES, COMMAND, 86, 101);
+    let t = run(t, words::ORDER, ORDER, 0, 31);
+    let t = run(t, 0, COMMAND, 57, 58);
+    let t = run(t, words::DAMAGE, COMMAND, 58, 69);
+    let t = run(t, words::COUNTERS, COMMAND, 69, 74);
+    let t = run(t, words::LOADS, COMMAND, 74, 90);
+    let t = run(t, words::STORES, COMMAND, 90, 102);
+    let t = run(t, words::COMPARES, COMMAND, 102, 117);
     let t = run(t, words::OUTPUTS, OUTPUTS, 0, 51);
     let t = run(t, words::HOSTS, BUILD, 0, 20);
     let t = run(t, words::VOLTS, VOLTS, 0, 5);

@@ -9,32 +9,34 @@ use crate::words::WITH_BYTE;
 use crate::words::words;
 
 // The bytes of a table; a place and its value, the others being 0; 1 where the table is sound.
-const ROWS: [u64; 19] = [
+const ROWS: [u64; 20] = [
     0000_000_000_0,
+    // what a record was before, twice
     0070_000_000_0,
-    0081_000_000_0,
-    0082_000_000_1,
-    2623_000_000_0,
-    2624_000_000_1,
-    2625_000_000_0,
-    2706_000_000_0,
+    0082_000_000_0,
+    0113_000_000_0,
+    0114_000_000_1,
+    3647_000_000_0,
+    3648_000_000_1,
+    3649_000_000_0,
+    3762_000_000_0,
     // the counter and byte 69, in the first record and in the second
-    0164_068_063_1,
-    0164_068_064_0,
-    0164_150_063_1,
-    0164_150_064_0,
-    0164_069_001_1,
-    0164_069_002_0,
-    0164_151_001_1,
-    0164_151_002_0,
+    0228_068_063_1,
+    0228_068_064_0,
+    0228_182_063_1,
+    0228_182_064_0,
+    0228_069_001_1,
+    0228_069_002_0,
+    0228_183_001_1,
+    0228_183_002_0,
     // what lies beside them, and the last byte of the first record
-    0164_067_255_1,
-    0164_070_255_1,
-    0164_081_255_1,
+    0228_067_255_1,
+    0228_070_255_1,
+    0228_113_255_1,
 ];
 
 pub(crate) fn sound(i: usize) -> bool {
-    let row = ROWS[i % 19];
+    let row = ROWS[i % 20];
     let size = row / 10_000_000 % 6000;
     let place = row / 10_000 % 1000;
     let value = row / 10 % 1000;

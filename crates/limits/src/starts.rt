@@ -25,6 +25,11 @@ fn load(table: Bytes, given: u64) -> Bytes {
     came.table
 }
 
+// Sixteen codes 800 loaded at position 2.
+fn load_at_2(table: Bytes) -> Bytes {
+    load(table, 0x0000_2610_0000_0000)
+}
+
 // A store of the code that a compare names, at the position that it names.
 fn stored(table: Bytes, compare: u64) -> Bytes {
     let position = compare >> 36 & 15;
@@ -68,6 +73,14 @@ pub(crate) fn start(which: u64, eight: u64, given: u64) -> Bytes {
         16 => after(two(), 0x0028_e80e, BARE, 0),
         17 => after(after(two(), 0x0028_e80e, BARE, 0), 0x0029_633c, BARE, 0),
         // monitor 1 alone is unlocked
-        _ => lay(two(), 69, 1, 1),
+        18 => lay(two(), 69, 1, 1),
+        19 => after(after(two(), 0x002d_d2a2, BARE, 0), 0x0711_c9c0, BARE, 0),
+        20 => load_at_2(after(two(), 0x002d_d2a2, BARE, 0)),
+        _ => after(
+            load_at_2(after(two(), 0x002d_d2a2, BARE, 0)),
+            0x002f_4ff4,
+            BARE,
+            0,
+        ),
     }
 }

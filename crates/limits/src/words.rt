@@ -83,13 +83,15 @@ pub(crate) const OUTPUTS: u64 = 55;
 
 pub(crate) const ON: u64 = 56;
 
-pub(crate) const MICROVOLTS: u64 = 57;
+pub(crate) const SNAPSHOTS: u64 = 57;
 
-pub(crate) const ORDERED: u64 = 67;
+pub(crate) const MICROVOLTS: u64 = 58;
 
-pub(crate) const CASES: u64 = 93;
+pub(crate) const ORDERED: u64 = 68;
 
-pub(crate) const ASKED: u64 = 194;
+pub(crate) const CASES: u64 = 99;
+
+pub(crate) const ASKED: u64 = 216;
 
 // The words of a number, with the numbers in them.
 pub(crate) fn words(k: u64, a: u64, b: u64, c: u64, d: u64) {
@@ -151,6 +153,7 @@ pub(crate) fn words(k: u64, a: u64, b: u64, c: u64, d: u64) {
     |: cells #, lowest @, highest @, total @\
     |discharge outputs\n\
     |: on #;\
+    |snapshots, of which monitor 1 is lent one\n\
     |code -10000\
     |: microvolts 0\
     |code 0\
@@ -171,15 +174,20 @@ pub(crate) fn words(k: u64, a: u64, b: u64, c: u64, d: u64) {
     |the same, four bytes\
     |WRPWMA with the check 00 01\
     |WRPWMA with the check 00 02\
+    |SNAP with the check d2 a3\
+    |UNSNAP with the check d2 a2\
     |0003, check wrong\
     |0003, four bytes\
     |0003, twenty bytes\
     |0003, seven bytes, no room\
     |001f, twenty bytes\
     |0025, twenty bytes\
+    |0030, four bytes\
     |RDCFGA, nineteen bytes\
     |RDCFGA, four bytes\
     |MUTE, five bytes\
+    |SNAP, five bytes\
+    |UNSNAP, twenty bytes\
     |WRCFGA, twelve bytes\
     |WRPWMA, nineteen bytes\
     |WRPWMB, twenty-one bytes\
@@ -230,6 +238,20 @@ pub(crate) fn words(k: u64, a: u64, b: u64, c: u64, d: u64) {
     |UNMUTE\
     |RSTCC\
     |CLRCELL\
+    |SNAP\
+    |SNAP, after SNAP and CLRCELL\
+    |RDCVA, after SNAP and CLRCELL\
+    |RDCVB, after SNAP and CLRCELL\
+    |RDCVC, after SNAP and CLRCELL\
+    |RDCVD, after SNAP and CLRCELL\
+    |RDCVE, after SNAP and CLRCELL\
+    |RDCVF, after SNAP and CLRCELL\
+    |RDSTATD, after SNAP and a load at position 2\
+    |RDCVA, after SNAP and a load at position 2\
+    |UNSNAP\
+    |RDCVA, after SNAP, a load at position 2 and UNSNAP\
+    |SNAP, after ULRR\
+    |UNSNAP, after ULRR\
     |MUTE, room 0\
     |WRCFGB, the second monitor's data damaged\
     |WRCFGB, the first monitor's check damaged\
@@ -244,6 +266,8 @@ pub(crate) fn words(k: u64, a: u64, b: u64, c: u64, d: u64) {
     |WRRR, both damaged, monitor 1 alone unlocked\
     |MUTE\
     |RSTCC\
+    |SNAP\
+    |UNSNAP\
     |WRRR, both damaged, locked\
     |unsound table\
     |unsound table, position 0\
