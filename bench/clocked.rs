@@ -10,7 +10,7 @@ use crate::work::{self, differences, each, figures};
 pub fn bytes(sides: &[Side], names: &[&str], random: &mut Random) {
     let mut rows = Vec::new();
     for n in SIZES {
-        let lent = random.sound_table(n);
+        let lent = random.live_table(n);
         let frames = Frames::new(&sides[0], n, random);
         let goal = if n == 32 { Goal::ClockedByte } else { Goal::None };
         for (kind, set) in [("write", &frames.writes), ("read", &frames.reads)] {

@@ -8,7 +8,7 @@ use crate::work::{self, timed};
 pub fn whole(sides: &[Side], names: &[&str], random: &mut Random) {
     let mut rows = Vec::new();
     for n in SIZES {
-        let lent = random.sound_table(n);
+        let lent = random.live_table(n);
         let frames = Frames::new(&sides[0], n, random);
         let mut unsound = lent.clone();
         unsound[(n - 1) * RECORD + COUNTER] = 64;
@@ -20,6 +20,7 @@ pub fn whole(sides: &[Side], names: &[&str], random: &mut Random) {
         add("write (WRCFGB)", &lent, &frames.writes);
         add("read (RDCVA)", &lent, &frames.reads);
         add("16 commands in turn", &lent, &frames.mixed);
+        add("SNAP and UNSNAP in turn", &lent, &frames.snaps);
         add("refused, 1: last record", &unsound, &frames.writes);
         add("refused, 3", &lent, &frames.command_wrong);
         add("refused, 5: a byte short", &lent, &frames.length_wrong);

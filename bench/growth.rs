@@ -35,7 +35,7 @@ fn line(points: &[(f64, f64)]) -> Line {
 pub fn growth(sides: &[Side], random: &mut Random) {
     let mut medians: Vec<Vec<Vec<f64>>> = vec![vec![Vec::new(); sides.len()]; KINDS.len()];
     for n in CHAINS {
-        let lent = random.sound_table(n);
+        let lent = random.live_table(n);
         let frames = Frames::new(&sides[0], n, random);
         let all = 4 + 8 * n;
         let found = [

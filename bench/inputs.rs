@@ -2,7 +2,7 @@
 
 use crate::sides::Side;
 
-pub const RECORD: usize = 82;
+pub const RECORD: usize = 114;
 pub const COUNTER: usize = 68;
 pub const UNLOCKED: usize = 69;
 /// So many inputs take turns in each measure, so that no predictor of the machine learns a single one.
@@ -12,10 +12,14 @@ pub const SIZES: [usize; 3] = [1, 8, 32];
 
 pub const READS: [u16; 14] = [0x02, 0x26, 0x04, 0x06, 0x08, 0x0a, 0x09, 0x0b, 0x32, 0x33, 0x2c, 0x3a, 0x22, 0x23];
 pub const WRITES: [u16; 7] = [0x01, 0x24, 0x39, 0x717, 0x715, 0x20, 0x21];
-pub const BARE: [u16; 5] = [0x28, 0x29, 0x2e, 0x38, 0x711];
+pub const BARE: [u16; 7] = [0x28, 0x29, 0x2e, 0x38, 0x711, SNAP, UNSNAP];
 pub const RDCVA: u16 = 0x04;
 pub const WRCFGB: u16 = 0x24;
 pub const MUTE: u16 = 0x28;
+pub const SNAP: u16 = 0x2d;
+pub const UNSNAP: u16 = 0x2f;
+/// In byte 5 of a record.
+const SNAP_ST: u8 = 0x20;
 
 /// splitmix64.
 pub struct Random(pub u64);
@@ -49,6 +53,15 @@ impl Random {
         }
         table
     }
+
+    /// One without a snapshot, as tables are timed: cell reads show the live cells of every monitor.
+    pub fn live_table(&mut self, n: usize) -> Vec<u8> {
+        let mut table = self.sound_table(n);
+        for record in table.chunks_mut(RECORD) {
+            record[5] &= !SNAP_ST;
+        }
+        table
+    }
 }
 
 /// How many value bytes the host needs for a command.
@@ -75,6 +88,8 @@ pub struct Frames {
     pub reads: Vec<Vec<u8>>,
     /// Sixteen different commands, of all three kinds.
     pub mixed: Vec<Vec<u8>>,
+    /// SNAP and UNSNAP in turn: on a table without a snapshot each SNAP copies the cells.
+    pub snaps: Vec<Vec<u8>>,
     /// Refusal 3.
     pub command_wrong: Vec<Vec<u8>>,
     /// Refusal 5: the last byte of a write is missing.
@@ -92,11 +107,12 @@ impl Frames {
         }
         let order = [0x01, 0x02, 0x28, 0x0b, 0x38, 0x39, 0x3a, 0x24, 0x04, 0x717, 0x32, 0x29, 0x715, 0x33, 0x711, 0x2c];
         let mixed = order.iter().map(|&command| host_frame(side, command, n, random)).collect();
+        let snaps = (0..INPUTS).map(|turn| host_frame(side, [SNAP, UNSNAP][turn % 2], n, random)).collect();
         let mut command_wrong = writes.clone();
         for frame in &mut command_wrong {
             frame[2] ^= 1 + random.below(255) as u8;
         }
         let length_wrong = writes.iter().map(|frame| frame[..frame.len() - 1].to_vec()).collect();
-        Frames { writes, reads, mixed, command_wrong, length_wrong }
+        Frames { writes, reads, mixed, snaps, command_wrong, length_wrong }
     }
 }

@@ -1,4 +1,4 @@
-/* Document 01, L2 and L3 in plain C99. See plain.h. */
+/* Document 01, L2, L3 and L6 in plain C99. See plain.h. */
 #include "plain.h"
 
 #include <stdbool.h>
@@ -126,15 +126,18 @@ uint16_t plain_data_pec10_bits(const uint8_t *bytes, size_t length, uint8_t coun
 
 /* ---- records and commands */
 
-enum { RECORD = 82, CONFIG_A = 0, CONFIG_B = 6, CELLS = 12, STATUS_C = 44, STATUS_D = 50, RETENTION = 56, SERIAL = 62, COUNTER = 68,
-       UNLOCKED = 69, PWM_A = 70, PWM_B = 76, MONITORS = 32 };
+enum { CONFIG_A = 0, CONFIG_B = 6, CELLS = 12, STATUS_C = 44, STATUS_D = 50, RETENTION = 56, SERIAL = 62, COUNTER = 68, UNLOCKED = 69,
+       PWM_A = 70, PWM_B = 76, COPY = 82, CELL_BYTES = 32, RECORD = COPY + CELL_BYTES, MONITORS = 32 };
+
+enum { MUTE_ST = 0x10, SNAP_ST = 0x20 }; /* in byte 5 */
 
 enum { NONE, READ, WRITE, BARE };
 
 enum { WRCFGA = 0x0001, WRCFGB = 0x0024, MUTE = 0x0028, UNMUTE = 0x0029, RSTCC = 0x002e, ULRR = 0x0038, WRRR = 0x0039,
-       CLRCELL = 0x0711, CLOVUV = 0x0715, CLRFLAG = 0x0717, RDCVF = 0x000b, WRPWMA = 0x0020, WRPWMB = 0x0021 };
+       CLRCELL = 0x0711, CLOVUV = 0x0715, CLRFLAG = 0x0717, RDCVF = 0x000b, WRPWMA = 0x0020, WRPWMB = 0x0021, SNAP = 0x002d,
+       UNSNAP = 0x002f };
 
-struct command { uint8_t kind, at; }; /* `at` says where a read finds its six bytes */
+struct command { uint8_t kind, at; }; /* `at` says where a read finds its six bytes, cells where no snapshot is on */
 
 static const struct command low_codes[64] = {
     [0x02] = { READ, CONFIG_A },   [0x26] = { READ, CONFIG_B },   [0x04] = { READ, CELLS },      [0x06] = { READ, CELLS + 6 },
@@ -143,6 +146,7 @@ static const struct command low_codes[64] = {
     [0x22] = { READ, PWM_A },      [0x23] = { READ, PWM_B },      [WRCFGA] = { WRITE, 0 },       [WRCFGB] = { WRITE, 0 },
     [WRRR] = { WRITE, 0 },         [WRPWMA] = { WRITE, 0 },       [WRPWMB] = { WRITE, 0 },
     [MUTE] = { BARE, 0 },          [UNMUTE] = { BARE, 0 },        [RSTCC] = { BARE, 0 },         [ULRR] = { BARE, 0 },
+    [SNAP] = { BARE, 0 },          [UNSNAP] = { BARE, 0 },
 };
 
 static inline struct command command_of(uint16_t code)
@@ -189,7 +193,7 @@ static inline void store(uint8_t *record, uint16_t code, const uint8_t *sent)
         record[2] = sent[2] & 0xf8;
         record[3] = sent[3];
         record[4] = sent[4] & 0x03;
-        record[5] = (uint8_t)((record[5] & 0x30) | (sent[5] & 0x0f));
+        record[5] = (uint8_t)((record[5] & (SNAP_ST | MUTE_ST)) | (sent[5] & 0x0f));
         break;
     case WRCFGB:
         memcpy(record + CONFIG_B, sent, 6);
@@ -244,10 +248,18 @@ static void take_bare(uint8_t *table, size_t n, uint16_t code)
         record[UNLOCKED] = 0;
         switch (code) {
         case MUTE:
-            record[5] |= 0x10;
+            record[5] |= MUTE_ST;
             break;
         case UNMUTE:
-            record[5] &= 0xef;
+            record[5] &= (uint8_t)~MUTE_ST;
+            break;
+        case SNAP: /* a second one keeps the first copy */
+            if (!(record[5] & SNAP_ST))
+                memcpy(record + COPY, record + CELLS, CELL_BYTES);
+            record[5] |= SNAP_ST;
+            break;
+        case UNSNAP:
+            record[5] &= (uint8_t)~SNAP_ST;
             break;
         case RSTCC:
             record[COUNTER] = 0;
@@ -265,13 +277,19 @@ static void take_bare(uint8_t *table, size_t n, uint16_t code)
     }
 }
 
+/* While SNAP_ST is set the cells are shown by their copy. Two places to seal from, since one that is picked by byte 5 makes each payload
+ * wait for that byte, which takes a tenth longer. */
 static inline void read_out(const uint8_t *table, size_t n, uint16_t code, uint8_t at, uint8_t *reply)
 {
+    bool cells = at >= CELLS && at < CELLS + CELL_BYTES;
     for (size_t i = 0; i < n; i++) {
         const uint8_t *record = table + i * RECORD;
         if (code == RDCVF) {
-            const uint8_t six[6] = { record[at], record[at + 1], 0xff, 0xff, 0xff, 0xff };
+            const uint8_t *last = record + at + (record[5] & SNAP_ST ? COPY - CELLS : 0);
+            const uint8_t six[6] = { last[0], last[1], 0xff, 0xff, 0xff, 0xff };
             seal(reply + 8 * i, six, record[COUNTER]);
+        } else if (cells && (record[5] & SNAP_ST)) {
+            seal(reply + 8 * i, record + at + (COPY - CELLS), record[COUNTER]);
         } else {
             seal(reply + 8 * i, record + at, record[COUNTER]);
         }
@@ -358,7 +376,7 @@ uint32_t plain_discharge(const uint8_t *table, size_t table_length, size_t posit
     if (out_length < 16)
         return 6;
     const uint8_t *record = table + (position - 1) * RECORD;
-    uint8_t off = events & SHUTDOWN ? 7 : record[5] & 0x10 ? 6 : events & WRITING_CFGB ? 5 : 0;
+    uint8_t off = events & SHUTDOWN ? 7 : record[5] & MUTE_ST ? 6 : events & WRITING_CFGB ? 5 : 0;
     if (off != 0) {
         memset(out, off, 16);
         return answer(0, 0);

@@ -1,6 +1,6 @@
-/* Document 01 with requests L2 and L3 of document 02, in plain C99, written from the papers alone: what the proved library is timed against.
- * Answers are packed as in oskorbine.h, a pointer and the length behind it are one buffer, and a refusal leaves every lent buffer as it
- * was.
+/* Document 01 with requests L2, L3 and L6 of document 02, in plain C99, written from the papers alone: what the proved library is timed
+ * against. Answers are packed as in oskorbine.h, a pointer and the length behind it are one buffer, and a refusal leaves every lent buffer
+ * as it was.
  */
 #ifndef PLAIN_H
 #define PLAIN_H

@@ -1,6 +1,6 @@
 #!/usr/bin/env python3
-"""Works a chain of two monitors: thresholds written, readings loaded, flags and cells read back, the same write clocked, and the
-highest cell balanced.
+"""Works a chain of two monitors: thresholds written, the same write clocked, readings loaded, flags and cells read back, the cells of one
+moment read by a snapshot, and the highest cell balanced.
 
 Both monitors get the same readings but not the same thresholds, so what differs in their flags comes from configuration B alone.
 It ends non-zero where the library refuses, where a reply is damaged, and where the clocked write leaves another table.
@@ -15,6 +15,8 @@ MONITORS = 2
 WRCFGB = 0x0024
 WRPWMA = 0x0020
 MUTE = 0x0028
+SNAP = 0x002D
+UNSNAP = 0x002F
 RDSTATD = 0x0033
 RDCV = {"RDCVA": 0x0004, "RDCVB": 0x0006, "RDCVC": 0x0008, "RDCVD": 0x000A, "RDCVE": 0x0009, "RDCVF": 0x000B}
 
@@ -26,6 +28,9 @@ READINGS[2] = 9000
 READINGS[6] = 17000
 READINGS[11] = 10000
 READINGS[15] = 6000
+
+# What both monitors measure later, while the cells are being read.
+LATER = [13000] * 16
 
 # How many of the fifteen phases of the PWM cell 7, the highest, is to be discharged for at each monitor.
 DUTIES = [6, 9]
@@ -63,6 +68,17 @@ def read(name, command, table):
             sys.exit(f"example: {name}: the reply of monitor {start // 8 + 1} is damaged")
         registers.append(bytes(payload[:6]))
     return registers
+
+
+def read_cells(table):
+    """The sixteen codes of each monitor, nearest first, by six reads."""
+    cells = [array.array("h") for _ in range(MONITORS)]
+    for name, command in RDCV.items():
+        for codes, register in zip(cells, read(name, command, table)):
+            codes.extend(int.from_bytes(register[at:at + 2], "little", signed=True) for at in (0, 2, 4))
+    for codes in cells:
+        del codes[16:]  # RDCVF shows cell 16 and then four bytes FF, which are no cells
+    return cells
 
 
 def flagged(status_d, above):
@@ -126,14 +142,20 @@ def main():
     for number, status_d in enumerate(read("RDSTATD", RDSTATD, table), 1):
         print(f"monitor {number} has status D {hexadecimal(status_d)}; UV: {flagged(status_d, 0)}; OV: {flagged(status_d, 1)}")
 
-    cells = [array.array("h") for _ in range(MONITORS)]
-    for name, command in RDCV.items():
-        for codes, register in zip(cells, read(name, command, table)):
-            codes.extend(int.from_bytes(register[at:at + 2], "little", signed=True) for at in (0, 2, 4))
-    for number, codes in enumerate(cells, 1):
-        del codes[16:]  # RDCVF shows cell 16 and then four bytes FF, which are no cells
+    near, far = read_cells(table)
+    for number, codes in enumerate((near, far), 1):
         print(f"monitor {number} reads {summary_line(codes)}")
-    print(f"the pack reads {summary_line(cells[0] + cells[1])}")
+    print(f"the pack reads {summary_line(near + far)}")
+
+    # Six reads take their time, and the monitors go on measuring. From SNAP to UNSNAP the reads show the cells of one moment.
+    accepted("SNAP", osk.osk_frame(table, host_frame(SNAP), bytearray()))
+    for number in range(1, MONITORS + 1):
+        accepted(f"the store of monitor {number}", osk.osk_store(table, number, LATER))
+    near, far = read_cells(table)
+    print(f"after SNAP and other readings, the pack reads {summary_line(near + far)}")
+    accepted("UNSNAP", osk.osk_frame(table, host_frame(UNSNAP), bytearray()))
+    near, far = read_cells(table)
+    print(f"after UNSNAP, the pack reads {summary_line(near + far)}")
 
     # Cells 7 and 8 share byte 3 of PWM group A, cell 7 in its low half.
     duties = host_frame(WRPWMA, b"".join(bytes([0, 0, 0, duty, 0, 0]) for duty in DUTIES))

@@ -49,7 +49,7 @@ OSK_COUNT_WRONG = 8  # wrong number of codes or value bytes
 OSK_CODE_CLEARED = 9  # a code to store or load is -32768
 OSK_NEITHER_RIGHT = 10  # neither port's bytes are right
 
-OSK_RECORD_SIZE = 82  # the bytes of one monitor's record
+OSK_RECORD_SIZE = 114  # the bytes of one monitor's record; the last 32 are the copy of its cells that SNAP makes
 
 # ---- what goes on at the monitor while its outputs are asked for, added up; bits above these are not looked at
 
@@ -309,6 +309,11 @@ def osk_frame(table: Writable, frame: Readable, reply: Writable) -> Answer:
     """Handles a frame. The table becomes what the monitors keep of it; the reply to a read, nearest monitor first, goes to the start of
     `reply`, and bytes past it stay.
 
+    A snapshot is for a long read of one moment: the cells are read by six frames, and codes stored between two of them are of another.
+    SNAP (002D) copies each monitor's cells to the last 32 bytes of its record and sets SNAP_ST (byte 5, bit 5). While that is set RDCVA to
+    RDCVF show the copy, also one that was lent so, and a further SNAP leaves it; every other read, stores, compares and CLRCELL go by the
+    live record. UNSNAP (002F) clears SNAP_ST, and the reads show the live cells again.
+
     First: how many monitors took the frame: N for a read, a bare command or a WRRR, and for any other write as many as found the data PEC
     of their own eight bytes right. A WRRR is executed whatever its data PEC: every monitor takes and counts it, stores its own six bytes
     only where its retention was unlocked (byte 69 was 1, as ULRR leaves it), and is locked after it.
@@ -320,6 +325,7 @@ def osk_frame(table: Writable, frame: Readable, reply: Writable) -> Answer:
 
 def osk_store(table: Writable, position: int, codes: Codes) -> Answer:
     """Stores 16 codes of 150 microvolts as the cells of the monitor at a position, 1 to N, and compares nothing: no other byte changes.
+    Where SNAP_ST is set the cell reads go on showing the copy, and these codes after UNSNAP.
 
     No values. Refusals: 1, 7, 8, 9.
     """

@@ -3,7 +3,7 @@
 A remainder is had by long division of the whole bit string, start word in front, and not by a register or a table of bytes.
 """
 
-RECORD = 82
+RECORD = 114
 
 COMMAND_POLYNOMIAL = 1 << 15 | 1 << 14 | 1 << 10 | 1 << 8 | 1 << 7 | 1 << 4 | 1 << 3 | 1
 DATA_POLYNOMIAL = 1 << 10 | 1 << 7 | 1 << 3 | 1 << 2 | 1 << 1 | 1
@@ -13,7 +13,7 @@ RDCFGA, RDCFGB, RDCVA, RDCVB, RDCVC, RDCVD = 0x0002, 0x0026, 0x0004, 0x0006, 0x0
 RDCVE, RDCVF, RDSTATC, RDSTATD, RDSID, RDRR = 0x0009, 0x000B, 0x0032, 0x0033, 0x002C, 0x003A
 RDPWMA, RDPWMB = 0x0022, 0x0023
 WRCFGA, WRCFGB, WRRR, CLRFLAG, CLOVUV, WRPWMA, WRPWMB = 0x0001, 0x0024, 0x0039, 0x0717, 0x0715, 0x0020, 0x0021
-MUTE, UNMUTE, RSTCC, ULRR, CLRCELL = 0x0028, 0x0029, 0x002E, 0x0038, 0x0711
+MUTE, UNMUTE, RSTCC, ULRR, CLRCELL, SNAP, UNSNAP = 0x0028, 0x0029, 0x002E, 0x0038, 0x0711, 0x002D, 0x002F
 
 
 def remainder(width, polynomial, value, bits):

@@ -33,7 +33,7 @@ class Example(unittest.TestCase):
         self.assertEqual(done.stdout, expected)
 
     def test_refusal(self):
-        for name in "frame", "load", "host_frame", "check", "clock_byte", "clock_release", "summary", "discharge":
+        for name in "frame", "load", "store", "host_frame", "check", "clock_byte", "clock_release", "summary", "discharge":
             with self.subTest(function=name):
                 self.fails("^example: .* was refused with number 6$", f"osk_{name}", lambda *_: osk.Answer(osk.OSK_NO_ROOM))
 

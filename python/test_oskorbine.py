@@ -19,6 +19,9 @@ RECORD = wire.RECORD
 COUNTER, UNLOCKED = 68, 69
 STATUS_D = 50
 PWM_A, PWM_B = 70, 76
+CELLS, COPY = 12, 82
+SNAP_ST = 0x20  # in byte 5
+CELL_READS = wire.RDCVA, wire.RDCVB, wire.RDCVC, wire.RDCVD, wire.RDCVE, wire.RDCVF
 PAST_32_BITS = (1 << 32) + 1  # a size_t that would pass for 1 if it went through a C int
 WRONG_COMMAND = bytes.fromhex("00022B0B")
 UNLISTED = wire.command_bytes(0x0003)
@@ -41,7 +44,8 @@ def edited(table, changes):
 
 
 UNSOUND = {
-    "empty": bytes(0), "the record before L2": bytes(70), "a byte short": bytes(RECORD - 1), "a byte long": bytes(RECORD + 1),
+    "empty": bytes(0), "the record before L2": bytes(70), "the record before L6": bytes(82), "32 records before L6": bytes(32 * 82),
+    "a byte short": bytes(RECORD - 1), "a byte long": bytes(RECORD + 1),
     "32 records but a byte": bytes(32 * RECORD - 1), "32 records and a byte": bytes(32 * RECORD + 1), "33 records": bytes(33 * RECORD),
     "counter 64": edited(bytes(RECORD), {COUNTER: b"\x40"}), "byte 69 is 2": edited(bytes(RECORD), {UNLOCKED: b"\x02"}),
     "counter 64 in the last of 32": edited(bytes(32 * RECORD), {31 * RECORD + COUNTER: b"\x40"}),
@@ -51,6 +55,12 @@ UNSOUND = {
 def cells(codes):
     """The bytes of stored codes."""
     return b"".join(code.to_bytes(2, "little", signed=True) for code in codes)
+
+
+def group(shown, command):
+    """What a cell read has of the 32 bytes that are shown: six of them, and RDCVF the last two and then FF."""
+    start = 6 * CELL_READS.index(command)
+    return (shown + b"\xff" * 4)[start:start + 6]
 
 
 def stored_and_compared(table, position, codes):
@@ -121,19 +131,23 @@ class Frames(Case):
         self.assertEqual(reply, bytearray([CANARY]) * 9)
 
     def test_every_read(self):
-        at = {wire.RDCFGA: 0, wire.RDCFGB: 6, wire.RDCVA: 12, wire.RDCVB: 18, wire.RDCVC: 24, wire.RDCVD: 30, wire.RDCVE: 36,
-              wire.RDSTATC: 44, wire.RDSTATD: 50, wire.RDRR: 56, wire.RDSID: 62, wire.RDPWMA: 70, wire.RDPWMB: 76}
-        table = edited(filled(2), {COUNTER: b"\x3f", RECORD + COUNTER: b"\x01"})
-        near_one, far_one = table[:RECORD], table[RECORD:]
-        registers = {command: (near_one[start:start + 6], far_one[start:start + 6]) for command, start in at.items()}
-        registers[wire.RDCVF] = near_one[42:44] + b"\xff" * 4, far_one[42:44] + b"\xff" * 4
-        self.assertEqual(len(registers), 14)
-        for command, (near, far) in registers.items():
-            with self.subTest(command=f"{command:04X}"):
-                lent, reply = bytearray(table), bytearray([CANARY]) * 20
-                self.assert_answer(osk_frame(lent, wire.read(command, 2, filler=0x5A), reply), 2, 16)
-                self.assertEqual(reply, wire.payload(near, 63) + wire.payload(far, 1) + bytes([CANARY]) * 4)
-                self.assertEqual(lent, table)
+        """The cell reads show the cells, and where a monitor's own SNAP_ST is set the copy. Every other read has one place."""
+        at = {wire.RDCFGA: 0, wire.RDCFGB: 6, wire.RDSTATC: 44, wire.RDSTATD: 50, wire.RDRR: 56, wire.RDSID: 62, wire.RDPWMA: 70,
+              wire.RDPWMB: 76}
+        for near_cells, far_cells in itertools.product((CELLS, COPY), repeat=2):
+            changes = {5: b"\xbe" if near_cells == COPY else b"\x9e", RECORD + 5: b"\x20" if far_cells == COPY else b"\xdf"}
+            table = edited(filled(2), {COUNTER: b"\x3f", RECORD + COUNTER: b"\x01", **changes})
+            near_one, far_one = table[:RECORD], table[RECORD:]
+            registers = {command: (near_one[start:start + 6], far_one[start:start + 6]) for command, start in at.items()}
+            for command in CELL_READS:
+                registers[command] = group(near_one[near_cells:][:32], command), group(far_one[far_cells:][:32], command)
+            self.assertEqual(len(registers), 14)
+            for command, (near, far) in registers.items():
+                with self.subTest(command=f"{command:04X}", near=near_cells, far=far_cells):
+                    lent, reply = bytearray(table), bytearray([CANARY]) * 20
+                    self.assert_answer(osk_frame(lent, wire.read(command, 2, filler=0x5A), reply), 2, 16)
+                    self.assertEqual(reply, wire.payload(near, 63) + wire.payload(far, 1) + bytes([CANARY]) * 4)
+                    self.assertEqual(lent, table)
 
     def test_reply_of_zeros(self):
         reply = bytearray(8)
@@ -162,9 +176,11 @@ class Frames(Case):
         self.changes(filled(1), wire.write(wire.WRCFGB, wire.payload(six, 42)), {6: six, COUNTER: b"\x06"}, 1)
 
     def test_configuration_a_is_masked(self):
-        table = edited(filled(1), {0: bytes.fromhex("FFFFFFFFFF3F")})
-        self.changes(table, wire.write(wire.WRCFGA, wire.payload(b"\xff" * 6)), {0: bytes.fromhex("87FFF8FF033F"), COUNTER: b"\x06"}, 1)
-        self.changes(table, wire.write(wire.WRCFGA, wire.payload(bytes(6))), {0: bytes.fromhex("000000000030"), COUNTER: b"\x06"}, 1)
+        """It keeps SNAP_ST and MUTE_ST, each as it is: a snapshot neither starts nor ends by it, and the copy stays."""
+        for kept in 0x00, 0x10, 0x20, 0x30:
+            table = edited(filled(1), {0: b"\xff" * 5 + bytes([0xCF | kept])})
+            for sent, stored in (b"\xff" * 6, bytes.fromhex("87FFF8FF03") + bytes([0x0F | kept])), (bytes(6), bytes(5) + bytes([kept])):
+                self.changes(table, wire.write(wire.WRCFGA, wire.payload(sent)), {0: stored, COUNTER: b"\x06"}, 1)
 
     def test_flags_are_cleared_where_1_is_sent(self):
         table = edited(filled(1), {44: b"\xff" * 12})
@@ -418,28 +434,204 @@ class LoadsInTwo(Loads):
 
 
 class Record(Case):
+    """Each function that is lent a table, by a call that a sound table of any N allows."""
+
+    @staticmethod
+    def release(table):
+        state = started()
+        clocked(state, table, wire.command_bytes(wire.SNAP))
+        return osk_clock_release(state, table)
+
+    def functions(self):
+        return {
+            "frame": lambda table: osk_frame(table, wire.command_bytes(wire.SNAP), bytearray()),
+            "store": lambda table: osk_store(table, 1, [0] * 16), "compare": lambda table: osk_compare(table, 1),
+            "load": lambda table: osk_load(table, 1, [0] * 16), "discharge": lambda table: osk_discharge(table, 1, 0, 0, bytearray(16)),
+            "release": self.release,
+        }.items()
+
     def test_size_is_the_librarys_own(self):
-        """Zeroed records are sound; a byte more or less is not, for each function that is lent a table."""
+        """Zeroed records are sound; a byte more or less is not."""
         self.assertEqual(OSK_RECORD_SIZE, RECORD)
-        mute = wire.command_bytes(wire.MUTE)
-
-        def release(table):
-            state = started()
-            clocked(state, table, mute)
-            return osk_clock_release(state, table)
-
-        functions = {
-            "frame": lambda table: osk_frame(table, mute, bytearray()), "store": lambda table: osk_store(table, 1, [0] * 16),
-            "compare": lambda table: osk_compare(table, 1), "load": lambda table: osk_load(table, 1, [0] * 16),
-            "discharge": lambda table: osk_discharge(table, 1, 0, 0, bytearray(16)), "release": release,
-        }
         for monitors in 1, 2, 32:
             size = OSK_RECORD_SIZE * monitors
-            for name, function in functions.items():
+            for name, function in self.functions():
                 with self.subTest(function=name, monitors=monitors):
                     self.assertEqual(function(bytearray(size)).number, OSK_ACCEPTED)
                     for wrong in size - 1, size + 1:
                         self.assert_refused(function(bytearray(wrong)), OSK_TABLE_NOT_SOUND)
+
+    def test_records_without_the_copy(self):
+        """N records of 82 bytes, sound before L6, are refused with 1 for each N, and keep every byte."""
+        for monitors in range(1, 33):
+            whole = filled(monitors)
+            table = b"".join(whole[at:at + 82] for at in range(0, len(whole), RECORD))
+            for name, function in self.functions():
+                with self.subTest(function=name, monitors=monitors):
+                    lent = bytearray(table)
+                    self.assert_refused(function(lent), OSK_TABLE_NOT_SOUND)
+                    self.assertEqual(lent, table)
+
+
+class Snapshots(Case):
+    """SNAP and UNSNAP, by both engines."""
+
+    SNAP, UNSNAP = bytes.fromhex("002DD2A2"), bytes.fromhex("002F4FF4")
+
+    @staticmethod
+    def each(place, *some_bytes):
+        """Changes at one place of every record, nearest monitor first."""
+        return {RECORD * at + place: each for at, each in enumerate(some_bytes)}
+
+    def bytes_5(self, *values):
+        return self.each(5, *(bytes([value]) for value in values))
+
+    def chain(self, *bytes_5, **filling):
+        """Monitors with these bytes 5. No byte of a copy is that of its cell."""
+        return edited(filled(len(bytes_5), **filling), self.bytes_5(*bytes_5))
+
+    @staticmethod
+    def live(table):
+        """The cells of each monitor."""
+        return [bytes(table[at + CELLS:at + CELLS + 32]) for at in range(0, len(table), RECORD)]
+
+    def stored(self, table, *codes_of_each):
+        for position, codes in enumerate(codes_of_each, 1):
+            self.assert_answer(osk_store(table, position, codes), 0, 0)
+
+    def sent(self, table, frame):
+        """A frame whole to the table and clocked to one like it: the same answers, reply and bytes left. The answer, and the reply."""
+        twin, state, reply = bytearray(table), started(), bytearray([CANARY]) * 300
+        answer, answered = osk_frame(table, frame, reply), clocked(state, twin, frame)
+        self.assertEqual(osk_clock_release(state, twin), answer)
+        self.assertEqual(twin, table)
+        self.assertEqual(reply[answer.second:], bytes([CANARY]) * (300 - answer.second))
+        if answer.number == OSK_ACCEPTED:
+            self.assertEqual(answered, b"\xff" * 4 + reply[:answer.second])
+        return answer, reply[:answer.second]
+
+    def takes(self, table, frame, changes):
+        """Every monitor takes the frame, counts it (63 is followed by 1) and is locked; beside that it makes these changes and no other."""
+        counted = (bytes([counter % 63 + 1, 0]) for counter in table[COUNTER::RECORD])
+        expected = edited(table, {**self.each(COUNTER, *counted), **changes})
+        self.assert_answer(self.sent(table, frame)[0], len(table) // RECORD, 0)
+        self.assertEqual(table, expected)
+
+    def keeps(self, table, frame, number):
+        """Refused with the number, and every byte stays."""
+        before = bytes(table)
+        self.assert_refused(self.sent(table, frame)[0], number)
+        self.assertEqual(table, before)
+
+    def shows(self, table, command, *registers):
+        """A read has these six bytes of each monitor, nearest first, and its counter."""
+        expected = b"".join(wire.payload(six, counter) for six, counter in zip(registers, table[COUNTER::RECORD]))
+        answer, reply = self.sent(table, wire.read(command, len(registers)))
+        self.assert_answer(answer, len(table) // RECORD, 8 * len(registers))
+        self.assertEqual(reply, expected)
+
+    def shows_cells(self, table, *shown):
+        """All six cell reads are of these 32 bytes of each monitor, nearest first."""
+        for command in CELL_READS:
+            self.shows(table, command, *(group(each, command) for each in shown))
+
+    def test_each_monitor_by_its_own_snap_st(self):
+        """SNAP sets it, and copies the cells where it was clear: where it was set the copy stays. UNSNAP clears it and leaves both."""
+        bytes_5 = itertools.product((0xDF, 0xFF), (0x00, 0x20), (0x4B, 0x6B))
+        for before, counter, unlocked in itertools.product(bytes_5, (0, 5, 62, 63), (0, 1)):
+            with self.subTest(before=bytes(before).hex(), counter=counter, unlocked=unlocked):
+                table = self.chain(*before, counter=counter, unlocked=unlocked)
+                copied = {RECORD * at + COPY: each for at, each in enumerate(self.live(table)) if not before[at] & SNAP_ST}
+                self.takes(bytearray(table), self.SNAP, {**self.bytes_5(*(byte | SNAP_ST for byte in before)), **copied})
+                self.takes(bytearray(table), self.UNSNAP, self.bytes_5(*(byte & ~SNAP_ST for byte in before)))
+
+    def test_longest_chain(self):
+        table = self.chain(*[0x0F] * 32)
+        live = self.live(table)
+        self.takes(table, self.SNAP, {**self.bytes_5(*[0x2F] * 32), **self.each(COPY, *live)})
+        self.takes(table, wire.command_bytes(wire.CLRCELL), self.each(CELLS, *[b"\x00\x80" * 16] * 32))
+        self.shows_cells(table, *live)
+        self.takes(table, self.UNSNAP, self.bytes_5(*[0x0F] * 32))
+        self.shows_cells(table, *[b"\x00\x80" * 16] * 32)
+
+    def test_a_long_read_is_of_one_moment(self):
+        """One of six things comes before each of the six reads, each before each in some turn. All show the cells as SNAP found them."""
+        moment = [100 * cell - 800 for cell in range(16)], [-32767, 32767, 0, 1, -1, 255, 256, -256] * 2
+        later = [5000 + cell for cell in range(16)], [-5000 - cell for cell in range(16)]
+        damaged = self.UNSNAP[:3] + bytes([self.UNSNAP[3] ^ 4])
+        meanwhile = [
+            lambda: self.stored(table, *later),
+            lambda: self.assert_answer(osk_load(table, 2, later[0]), 0, 0),
+            lambda: self.takes(table, wire.command_bytes(wire.CLRCELL), self.each(CELLS, *[b"\x00\x80" * 16] * 2)),
+            lambda: self.takes(table, self.SNAP, {}),
+            lambda: self.keeps(table, damaged, OSK_COMMAND_WRONG),
+            lambda: self.shows(table, wire.RDSTATD, table[STATUS_D:][:6], table[RECORD + STATUS_D:][:6]),
+        ]
+        for turn in range(6):
+            table = self.chain(0xDF, 0x00)
+            self.stored(table, *moment)
+            self.takes(table, self.SNAP, {**self.bytes_5(0xFF, 0x20), **self.each(COPY, *map(cells, moment))})
+            for command, act in zip(CELL_READS, meanwhile[turn:] + meanwhile[:turn]):
+                act()
+                self.shows(table, command, *(group(cells(codes), command) for codes in moment))
+            self.stored(table, *later)
+            self.shows_cells(table, *map(cells, moment))
+            self.takes(table, self.UNSNAP, self.bytes_5(0xDF, 0x00))
+            self.shows_cells(table, *map(cells, later))
+            self.takes(table, self.SNAP, {**self.bytes_5(0xFF, 0x20), **self.each(COPY, *map(cells, later))})
+
+    def test_lent_with_snap_st_set(self):
+        """The reads show the copy that was lent, any, and SNAP leaves it; after UNSNAP they show the cells, and SNAP takes them."""
+        for copy in bytes(32), b"\xff" * 32, b"\x00\x80" * 16, bytes(range(32)), bytes(range(224, 256)):
+            table = edited(self.chain(0x20, 0xDF, 0xFF), self.each(COPY, copy, copy, copy[::-1]))
+            near, middle, far = self.live(table)
+            self.shows_cells(table, copy, middle, copy[::-1])
+            self.takes(table, self.SNAP, {RECORD + 5: b"\xff", RECORD + COPY: middle})
+            self.shows_cells(table, copy, middle, copy[::-1])
+            self.takes(table, self.UNSNAP, self.bytes_5(0x00, 0xDF, 0xDF))
+            self.shows_cells(table, near, middle, far)
+            self.takes(table, self.SNAP, {**self.bytes_5(0x20, 0xFF, 0xFF), **self.each(COPY, near, middle, far)})
+
+    def test_stores_and_compares_go_by_the_live_cells(self):
+        """Only they are stored, and only they are flagged; status D shows that at once."""
+        past, between = [-17, 1] * 8, [0] * 16
+        for copy, codes, flags in (past, between, "000000000000"), (between, past, "999999990000"):
+            table = edited(self.chain(0x20), {6: bytes.fromhex("FF0F00"), STATUS_D: bytes(6), COPY: cells(copy)})  # VUV -1, VOV 0
+            for function in osk_load, stored_and_compared:
+                lent = bytearray(table)
+                self.assert_answer(function(lent, 1, codes), 0, 0)
+                self.assertEqual(lent, edited(table, {CELLS: cells(codes), STATUS_D: bytes.fromhex(flags)}))
+                self.shows_cells(lent, cells(copy))
+                self.shows(lent, wire.RDSTATD, bytes.fromhex(flags))
+
+    def test_refused_frames_change_nothing(self):
+        for byte_5, right in itertools.product((0xDF, 0xFF), (self.SNAP, self.UNSNAP)):
+            table = self.chain(byte_5, byte_5, unlocked=1)
+            for length in range(4):
+                self.keeps(table, right[:length], OSK_FRAME_SHORT)
+            for bit in range(32):
+                self.keeps(table, (int.from_bytes(right, "big") ^ 1 << bit).to_bytes(4, "big"), OSK_COMMAND_WRONG)
+            for more in b"\x00", wire.payload(bytes(6)), wire.payload(bytes(6)) * 2:
+                self.keeps(table, right + more, OSK_LENGTH_WRONG)
+
+    def test_clocked_snap_copies_at_its_release(self):
+        table, state, codes = self.chain(0x0F), started(), list(range(1, 17))
+        self.assertEqual(clocked(state, table, self.SNAP), b"\xff" * 4)
+        self.stored(table, codes)
+        expected = edited(table, {5: b"\x2f", COUNTER: b"\x06", COPY: cells(codes)})
+        self.assert_answer(osk_clock_release(state, table), 1, 0)
+        self.assertEqual(table, expected)
+
+    def test_clocked_read_goes_by_snap_st_at_byte_four(self):
+        """The windows are loaded then: whether it is set before or after does not show."""
+        on, off = self.chain(0x20), self.chain(0x00)
+        for at_four, before_and_after, shown in (on, off, on[COPY:]), (off, on, *self.live(off)):
+            for command in CELL_READS:
+                frame, state, answered = wire.read(command, 1), started(), b""
+                for table, part in (before_and_after, frame[:3]), (at_four, frame[3:4]), (before_and_after, frame[4:]):
+                    answered += clocked(state, table, part)
+                self.assertEqual(answered, b"\xff" * 4 + wire.payload(group(shown, command), 5))
+                self.assert_answer(osk_clock_release(state, before_and_after), 1, 8)
 
 
 class Discharge(Case):
@@ -560,13 +752,15 @@ class Host(Case):
     def test_frames(self):
         self.builds(wire.WRCFGA, 1, bytes(6), bytes.fromhex("00013D6E 00000000000003E3"))
         self.builds(wire.WRPWMA, 1, bytes(6), bytes.fromhex("00200000 00000000000003E3"))
+        self.builds(wire.SNAP, 1, b"", bytes.fromhex("002DD2A2"))
+        self.builds(wire.UNSNAP, 1, b"", bytes.fromhex("002F4FF4"))
         near, far = bytes.fromhex("715246000000"), bytes.fromhex("F4813E123456")
         for command in wire.WRCFGA, wire.WRCFGB, wire.WRRR, wire.CLRFLAG, wire.CLOVUV, wire.WRPWMA, wire.WRPWMB:
             self.builds(command, 2, near + far, wire.command_bytes(command) + wire.payload(far) + wire.payload(near))
         for command in (wire.RDCFGA, wire.RDCFGB, wire.RDCVA, wire.RDCVB, wire.RDCVC, wire.RDCVD, wire.RDCVE, wire.RDCVF, wire.RDSTATC,
                         wire.RDSTATD, wire.RDSID, wire.RDRR, wire.RDPWMA, wire.RDPWMB):
             self.builds(command, 32, b"", wire.command_bytes(command) + b"\xff" * 256)
-        for command in wire.MUTE, wire.UNMUTE, wire.RSTCC, wire.ULRR, wire.CLRCELL:
+        for command in wire.MUTE, wire.UNMUTE, wire.RSTCC, wire.ULRR, wire.CLRCELL, wire.SNAP, wire.UNSNAP:
             self.builds(command, 32, b"", wire.command_bytes(command))
 
     def test_refusals_in_their_order(self):

@@ -14,8 +14,8 @@ use borrow.Author.Tests.{lt-ltb, le-ltb, lt-leb, eq-eqb, ne-eqb}
 use Rattle.pec.specs.Words.{wordAt}
 use Rattle.refusals.specs.declared.Refusal.{Refusal}
 use Rattle.refusals.specs.declared.Refusal.the-variants.{TableNotSound, FrameShort, CodeNotListed, LengthWrong}
-use Rattle.refusals.specs.Order.{Row, _gives_, decide}
-use Rattle.refusals.proofs.Deciding.{holds-here, holds-not, Passed, passed-agree}
+use Rattle.refusals.specs.Order.{Row, _gives_, decide, Passed}
+use Rattle.refusals.proofs.Deciding.{holds-here, holds-not, passed-agree}
 use Rattle.records.specs.declared.commands.Command.{Command}
 use Rattle.records.specs.declared.commands.Command.the-variants.{Reads, Writes, Bares, Unlisted}
 use Rattle.records.specs.Commands.{commands, commandOf, isListed, mostMonitors, frameLength}

@@ -15,8 +15,8 @@ use Rattle.laws.specs.Counts.{count}
 use Rattle.laws.specs.Rows.{rows, joined, along}
 use Rattle.wire.specs.Order.{replyData}
 use Rattle.refusals.specs.declared.Refusal.{Refusal}
-use Rattle.refusals.specs.Order.{decide}
-use Rattle.refusals.proofs.Deciding.{decide-append, Passed, passes, has-passed}
+use Rattle.refusals.specs.Order.{decide, Passed}
+use Rattle.refusals.proofs.Deciding.{decide-append, passes, has-passed}
 use Rattle.records.specs.declared.commands.Command.{Command}
 use Rattle.records.specs.declared.commands.Command.the-variants.{Reads, Unlisted}
 use Rattle.records.specs.declared.record.Part.{Part}

@@ -12,8 +12,8 @@ use borrow.Author.Tests.{not-false, eqb-true, eq-eqb, leb-true, ltb-false, le-lt
 use Rattle.laws.proofs.Tests.{both-second}
 use Rattle.refusals.specs.declared.Refusal.{Refusal}
 use Rattle.refusals.specs.declared.Refusal.the-variants.{CodeNotListed, NoRoom, PositionWrong, CountWrong}
-use Rattle.refusals.specs.Order.{decide}
-use Rattle.refusals.proofs.Deciding.{Passed, decide-map, passes, has-passed}
+use Rattle.refusals.specs.Order.{decide, Passed}
+use Rattle.refusals.proofs.Deciding.{decide-map, passes, has-passed}
 use Rattle.records.specs.declared.commands.Command.{Command}
 use Rattle.records.specs.Commands.{commands, commandOf, isListed, mostMonitors, frameLength}
 use Rattle.records.proofs.Answers.{both-first}

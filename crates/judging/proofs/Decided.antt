@@ -5,8 +5,7 @@ use mathlib.Core.Path.{_≡_, refl, sym}
 use mathlib.Core.Bool.{Bool, true, false, cond}
 use mathlib.Core.List.{List, [], _∷_}
 use Rattle.refusals.specs.declared.Refusal.{Refusal}
-use Rattle.refusals.specs.Order.{Row, decide}
-use Rattle.refusals.proofs.Deciding.{Passed}
+use Rattle.refusals.specs.Order.{Row, decide, Passed}
 
 -- what holds of each refusal's outcome, and of the accepted one where no refusal holds, holds of what comes
 pub by-passing : {A : Type 0} (P : A → Type 0) (rows : List Row) (refused : Refusal → A) (accepted : A)

@@ -11,8 +11,8 @@ use borrow.Author.Tests.{eq-eqb, ne-eqb, lt-ltb, le-ltb, le-leb, lt-leb, eqb-tru
 use Rattle.pec.specs.Words.{commandRight}
 use Rattle.refusals.specs.declared.Refusal.the-variants.{TableNotSound, FrameShort, CommandWrong, CodeNotListed, LengthWrong}
 use Rattle.refusals.specs.declared.Refusal.{Refusal}
-use Rattle.refusals.specs.Order.{_gives_, decide}
-use Rattle.refusals.proofs.Deciding.{holds-here, holds-not, none-left, Passed, passes, has-passed}
+use Rattle.refusals.specs.Order.{_gives_, decide, Passed}
+use Rattle.refusals.proofs.Deciding.{holds-here, holds-not, none-left, passes, has-passed}
 use Rattle.records.specs.declared.commands.Command.{Command}
 use Rattle.records.specs.Record.{recordSize}
 use Rattle.records.specs.Commands.{isListed, mostMonitors, frameLength}

@@ -13,8 +13,8 @@ use Rattle.laws.proofs.Counts.{and-false}
 use Rattle.laws.proofs.Rows.{row-fits}
 use Rattle.refusals.specs.declared.Refusal.{Refusal}
 use Rattle.refusals.specs.declared.Refusal.the-variants.{TableNotSound, PositionWrong}
-use Rattle.refusals.specs.Order.{decide}
-use Rattle.refusals.proofs.Deciding.{holds-here, holds-not, none-left, decide-map, Passed, has-passed}
+use Rattle.refusals.specs.Order.{decide, Passed}
+use Rattle.refusals.proofs.Deciding.{holds-here, holds-not, none-left, decide-map, has-passed}
 use Rattle.records.specs.Record.{recordSize}
 use Rattle.records.specs.Commands.{mostMonitors}
 use Rattle.judging.specs.declared.places.Placed.{Placed}

@@ -7,8 +7,7 @@ use mathlib.Core.List.{List}
 use Prim.Native.Nat.{ℕ, _-_, _<_}
 use lib.IntN.{ℤ}
 use lib.ListN.{length}
-use Rattle.refusals.specs.Order.{Row, decide}
-use Rattle.refusals.proofs.Deciding.{Passed}
+use Rattle.refusals.specs.Order.{Row, decide, Passed}
 use Rattle.records.specs.Record.{recordSound}
 use Rattle.judging.specs.Table.{monitors, sound, changedAt}
 use Rattle.judging.proofs.Keeps.{Keeps, stays}

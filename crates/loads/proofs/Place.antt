@@ -6,7 +6,8 @@ use Prim.Native.Nat.{ℕ, _+_, _-_, _*_, _≤_, _<_}
 use lib.IntN.{ℤ}
 use lib.ListN.{length}
 use borrow.Author.Tests.{eqb-true, not-false}
-use Rattle.refusals.proofs.Deciding.{Passed, has-passed}
+use Rattle.refusals.specs.Order.{Passed}
+use Rattle.refusals.proofs.Deciding.{has-passed}
 use Rattle.records.specs.Record.{recordSize, cellCount}
 use Rattle.records.specs.Commands.{mostMonitors}
 use Rattle.judging.specs.Places.{placeRefusals}

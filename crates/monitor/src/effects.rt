@@ -12,6 +12,7 @@ use records::Command;
 use records::PAYLOAD_SIZE;
 use records::RECORD_SIZE;
 use records::SNAPSHOT;
+use records::SNAPSHOT_SIZE;
 use records::STATUS_BITS;
 use records::UNLOCKED;
 use records::Write;
@@ -62,7 +63,7 @@ fn copy_cells(rec: &mut [u8])
     ensures { λ _. ⌜ now (rec .exit) ≡ copied (now (rec .entry)) ⌝ }
 {
     let mut i = 0;
-    while i < CELLS_SIZE {
+    while i < SNAPSHOT_SIZE {
         rec[SNAPSHOT + i] = rec[CELLS + i];
         i += 1;
     }
@@ -74,7 +75,8 @@ fn snap(rec: &mut [u8])
     requires { ⌜ length (now rec) ≡ recordSize ⌝ }
     ensures { λ _. ⌜ now (rec .exit) ≡ done Bare.Snap (now (rec .entry)) ⌝ }
 {
-    if is_snapped(rec) {
+    let on = is_snapped(rec);
+    if on {
         return;
     }
     copy_cells(rec);

@@ -13,7 +13,7 @@ use Rattle.reads.specs.Shown.{shownPart}
 unfoldable pub sixBytes : Part → List ℕ → List ℕ
 sixBytes part r = tabulate (λ i. getD (bytesOf part r) i 0xFF) 0 6
 
--- the same of a part of the cells, where these bytes are the cells
+-- six bytes of a part of the cells, out of 32 that stand for the cells
 unfoldable pub sixIn : Part → List ℕ → List ℕ
 sixIn part bytes = tabulate (λ i. getD (take (part .size) (drop (part .at - cells .at) bytes)) i 0xFF) 0 6
 

@@ -1,5 +1,5 @@
--- Document 02, L6: which part of a record a read shows. While a snapshot is on the cell reads show the copy of the cells; every other read, status
--- C and D included, shows what it did.
+-- Document 02, L6: which part of a record a read shows. It is the part that the read names, but for the cell reads while a snapshot is on: these show
+-- the copy. Status C and D stay live.
 -- Assumes nothing.
 use mathlib.Core.Bool.{Bool, cond, _&&_}
 use mathlib.Core.List.{List, [], _∷_}

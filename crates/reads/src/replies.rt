@@ -48,7 +48,7 @@ fn six_of(bytes: &[u8]) -> [u8; 6]
     [bytes[0], bytes[1], bytes[2], bytes[3], bytes[4], bytes[5]]
 }
 
-// Six bytes of a part. Every part but cell 16 has six and lies within the record: one test is then enough for all.
+// Six bytes of a part. Every part but cell 16 and its copy has six and lies within the record: one test is then enough for all.
 fn part_bytes(part: Part, rec: &[u8]) -> [u8; 6]
     ensures { λ r. ⌜ r ≡ sixBytes part (now (rec .entry)) ⌝ }
 {

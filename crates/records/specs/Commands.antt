@@ -11,7 +11,7 @@ use Rattle.records.specs.declared.commands.Command.the-variants.{Reads, 
 use Rattle.records.specs.declared.record.Part.{Part}
 use Rattle.records.specs.Record.{configurationA, configurationB, threeCells, cell16, statusC, statusD, serialId, retention, pwmA, pwmB}
 
--- the part of the record that each read shows; one of the cells, while a snapshot is on, in their copy (`reads`)
+-- the part of the record that each read names: it shows that part, or of the cells, while a snapshot is on, the same part of their copy (`reads`)
 abbrev pub rdcfga : Part
 rdcfga = configurationA
 
@@ -62,7 +62,7 @@ pub record Row : Type 0 where
 abbrev row : ℕ → Command → Row
 row code command = record { code = code; command = command }
 
--- the reads by what they show, the writes and the bare commands by their names
+-- the reads by the part that they name, the writes and the bare commands by their own names
 unfoldable pub commands : List Row
 commands =
     row 0x0002 (Reads rdcfga)

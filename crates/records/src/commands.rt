@@ -40,7 +40,7 @@ pub enum Bare {
 }
 
 pub enum Command {
-    // A read shows a part of the record.
+    // A read names a part of the record.
     Reads(Part),
     Writes(Write),
     Bares(Bare),

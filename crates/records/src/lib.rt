@@ -25,6 +25,7 @@ pub use record::Part;
 pub use record::RECORD_SIZE;
 pub use record::RETENTION;
 pub use record::SNAPSHOT;
+pub use record::SNAPSHOT_SIZE;
 pub use record::STATUS_BITS;
 pub use record::STATUS_C;
 pub use record::STATUS_D;

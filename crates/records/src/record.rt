@@ -46,6 +46,8 @@ pub const PWM_B: usize = 76;
 // The copy of the cells that SNAP takes.
 pub const SNAPSHOT: usize = 82;
 
+pub const SNAPSHOT_SIZE: usize = CELLS_SIZE;
+
 // Where a part of the record begins, and how many bytes it has. In bytes, so that a command is three of them: the compiler copies a
 // larger one in pieces that wait for each other.
 pub struct Part {
@@ -53,7 +55,8 @@ pub struct Part {
     pub size: u8,
 }
 
-// What each read shows. The cells' registers A to E have three cells each, and F has cell 16.
+// The part that each read names: it shows that part, or of the cells, while a snapshot is on, the same part of their copy. The cells' registers A
+// to E have three cells each, and F has cell 16.
 pub(crate) const RDCFGA: Part = Part {
     at: CONFIGURATION_A as u8,
     size: 6,

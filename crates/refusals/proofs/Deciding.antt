@@ -5,7 +5,7 @@ use mathlib.Core.Path.{_≡_, refl, sym, ap, _∙_}
 use mathlib.Core.Bool.{Bool, true, false, cond}
 use mathlib.Core.List.{List, [], _∷_, _++_}
 use Rattle.refusals.specs.declared.Refusal.{Refusal}
-use Rattle.refusals.specs.Order.{Row, decide}
+use Rattle.refusals.specs.Order.{Row, decide, Passed}
 
 module _ {A : Type 0} (row : Row) (rows : List Row) (refused : Refusal → A) (accepted : A) where
   pub holds-here : row .holds ≡ true → decide (row ∷ rows) refused accepted ≡ refused (row .refusal)
@@ -41,10 +41,6 @@ decide-append [] more refused accepted = refl
 decide-append (row ∷ rows) more refused accepted = ap (cond (row .holds) (refused (row .refusal))) (decide-append rows more refused accepted)
 
 -- ---- a list of which no condition holds
-
-abbrev pub Passed : List Row → Type 0
-Passed [] = Unit {0}
-Passed (row ∷ rows) = (row .holds ≡ false) × Passed rows
 
 -- it accepts
 pub passes : {A : Type 0} (rows : List Row) (refused : Refusal → A) (accepted : A) → Passed rows → decide rows refused accepted ≡ accepted

@@ -13,8 +13,8 @@ use lib.Seq.{take-all}
 use borrow.Author.Tests.{eqb-true, le-leb, ltb-false, not-false}
 use Rattle.refusals.specs.declared.Refusal.{Refusal}
 use Rattle.refusals.specs.declared.Refusal.the-variants.{TableNotSound}
-use Rattle.refusals.specs.Order.{_gives_, decide}
-use Rattle.refusals.proofs.Deciding.{holds-here, Passed, has-passed}
+use Rattle.refusals.specs.Order.{_gives_, decide, Passed}
+use Rattle.refusals.proofs.Deciding.{holds-here, has-passed}
 use Rattle.records.specs.declared.commands.Command.{Command}
 use Rattle.records.specs.Record.{recordSize}
 use Rattle.records.specs.Commands.{mostMonitors}

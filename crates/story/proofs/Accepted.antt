@@ -13,8 +13,8 @@ use Rattle.laws.specs.Counts.{count}
 use Rattle.laws.specs.Rows.{rowAt}
 use Rattle.pec.specs.Words.{commandRight, payloadRight}
 use Rattle.refusals.specs.declared.Refusal.{Refusal}
-use Rattle.refusals.specs.Order.{Row, decide}
-use Rattle.refusals.proofs.Deciding.{Passed, passes}
+use Rattle.refusals.specs.Order.{Row, decide, Passed}
+use Rattle.refusals.proofs.Deciding.{passes}
 use Rattle.records.specs.declared.commands.Bare.{Bare}
 use Rattle.records.specs.declared.commands.Command.{Command}
 use Rattle.records.specs.declared.commands.Command.the-variants.{Reads, Writes, Bares}

@@ -14,8 +14,8 @@ use lib.Seq.{take-at}
 use borrow.Author.Tests.{le-ltb, eqb-true, eqb-false}
 use Rattle.laws.specs.Rows.{rowAt}
 use Rattle.refusals.specs.declared.Refusal.the-variants.{TableNotSound}
-use Rattle.refusals.specs.Order.{_gives_}
-use Rattle.refusals.proofs.Deciding.{Passed, passes}
+use Rattle.refusals.specs.Order.{_gives_, Passed}
+use Rattle.refusals.proofs.Deciding.{passes}
 use Rattle.records.specs.declared.commands.Bare.{Bare}
 use Rattle.records.specs.declared.commands.Command.{Command}
 use Rattle.records.specs.declared.commands.Command.the-variants.{Reads, Bares}
@@ -155,6 +155,6 @@ unfolding byRules
 seen-there table [] event after = refl
 seen-there table (one ∷ before) event after = seen-there (ruled table one .table) before event after
 
-pub without-front : (c : Bare) (front rest : List Event) → Without c (front ++ rest) → Without c front
-without-front c [] rest h = tt
-without-front c (event ∷ front) rest h = (h .0, without-front c front rest (h .1))
+pub without-both : (c : Bare) (front rest : List Event) → Without c front → Without c rest → Without c (front ++ rest)
+without-both c [] rest h k = k
+without-both c (event ∷ front) rest h k = (h .0, without-both c front rest (h .1) k)

@@ -1,6 +1,6 @@
 -- A record grows behind what it was, and the commands that were there before know nothing of it: each does to the front what it does without
--- the rest, leaves the rest, and replies from the front. So with the PWM groups, and with the copy of the cells. And who leaves them: every command
--- but their own writes the PWM groups, every command but SNAP the copy.
+-- the rest, and leaves the rest. So with the PWM groups, and with the copy of the cells. A read of the front replies from it, but for one of the
+-- cells while a snapshot is on. And what stays: the PWM groups at every command but WRPWMA and WRPWMB, the copy at every command but SNAP.
 -- Assumes nothing.
 use mathlib.Core.Path.{_≡_, refl, sym, ap, ap₂, _∙_, subst⁻¹}
 use mathlib.Core.Bool.{Bool, false, cond, _&&_}

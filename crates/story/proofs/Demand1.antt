@@ -14,10 +14,9 @@ use lib.ListN.{length}
 use borrow.Author.Tests.{le-ltb}
 use Rattle.refusals.specs.declared.Refusal.{Refusal}
 use Rattle.refusals.specs.Numbers.{numberOf}
-use Rattle.refusals.specs.Order.{Row}
+use Rattle.refusals.specs.Order.{Row, Passed}
 use Rattle.bytes.proofs as bytes
 use Rattle.refusals.proofs as refusals
-use Rattle.refusals.proofs.Deciding.{Passed}
 use Rattle.pec.proofs as pec
 use Rattle.check_words.proofs as check_words
 use Rattle.remainders.proofs as remainders

@@ -1,7 +1,6 @@
 -- Demand 2. What the chain does with a frame is what the data sheet says as document 01 condenses it, with the requests of document 02 that
--- have landed (L1, L2, L3, L6), monitor by monitor. What our
--- host writes hands each monitor its own six bytes: nearest first in our list, farthest first on the wire. Monitors are counted
--- from 0 here: monitor 1 of the paper is k = 0. Each field is proved where it is cited from.
+-- have landed (L1, L2, L3, L6), monitor by monitor. What our host writes hands each monitor its own six bytes: nearest first in our list,
+-- farthest first on the wire. Monitors are counted from 0 here: monitor 1 of the paper is k = 0. Each field is proved where it is cited from.
 -- Assumes nothing.
 use mathlib.Core.Path.{_≡_, refl}
 use mathlib.Core.Bool.{true, false, cond, not, _&&_}
@@ -22,8 +21,7 @@ use Rattle.pec.specs.Words.{seal, commandRight, payloadRight}
 use Rattle.wire.specs.Order.{replyData}
 use Rattle.refusals.specs.declared.Refusal.{Refusal}
 use Rattle.refusals.specs.declared.Refusal.the-variants.{TableNotSound, FrameShort, CommandWrong, CodeNotListed, LengthWrong, NoRoom, PositionWrong, CountWrong, CodeCleared}
-use Rattle.refusals.specs.Order.{_gives_}
-use Rattle.refusals.proofs.Deciding.{Passed}
+use Rattle.refusals.specs.Order.{_gives_, Passed}
 use Rattle.records.specs.declared.commands.Bare.{Bare}
 use Rattle.records.specs.declared.commands.Bare.the-variants.{Mute, Unmute, Ulrr, Clrcell, Snap, Unsnap}
 use Rattle.records.specs.declared.commands.Command.{Command}
@@ -56,7 +54,7 @@ use Rattle.loads.proofs.Keeps.{store-keeps, compare-keeps, load-keeps}
 use Rattle.loads.proofs.Bytes.{store-as-long, store-only-cells, compare-as-long, compare-only-flags, compare-only-sets}
 use Rattle.loads.proofs.Judging.{as-stored}
 use Rattle.loads.proofs.Halves.{compare-after-store, store-and-compare, second-judged, second-counts, second-compared, compare-again}
-use Rattle.monitor.specs.Spares.{Spares}
+use Rattle.monitor.specs.Spares.{Apart, Spares}
 use Rattle.monitor.proofs.Spares.{keeps-spares}
 use Rattle.priorities.specs.declared.outputs.Events.{Events}
 use Rattle.priorities.specs.declared.outputs.Output.{Output}
@@ -82,7 +80,7 @@ use Rattle.story.specs.ReadsBack.{ReadsBack, as-written, fixed-behind-tw
 use Rattle.story.proofs.ReadBack.{b-read-back, pwm-a-read-back, pwm-b-read-back}
 use Rattle.story.proofs.Retention.{wrrr-unlocked, wrrr-locked, ulrr-unlocks, retained, not-retained}
 use Rattle.story.proofs.AsBefore.{base-as-before, copy-as-before, reply-as-before, pwm-stays, a-stays, b-stays, copy-stays}
-use Rattle.story.proofs.Snapshot.{snap-takes, snap-again, snap-st, snap-copies, store-snap-st, store-copy, compare-snap-st, compare-copy, shows-the-cells, shows-as-it-lies}
+use Rattle.story.proofs.Snapshot.{snap-takes, snap-again, snap-again-shows, snap-st, snap-copies, store-snap-st, store-copy, compare-snap-st, compare-copy, shows-the-cells, shows-as-it-lies}
 use Rattle.story.proofs.Muting.{mute-answers, unmute-answers}
 use Rattle.story.proofs.BothEnds.{the-replies, handed-from-a, handed-from-b}
 use Rattle.story.proofs.Cleared.{clrcell-clears}
@@ -139,7 +137,7 @@ pub record Demand2 : Type 0 where
       → Passed (frameRefusals (tableAfter table write room) read (length buffer)) → commandIn read ≡ Reads rdrr
       → (k : ℕ) → k < monitors table → (byteOf unlocked (rowAt recordSize k table) ≡ 1 → ⊥)
       → take dataSize (rowAt payloadSize k (replyAfter (tableAfter table write room) read buffer)) ≡ partOf retention (rowAt recordSize k table)
-  -- a command changes no part of a record but the retention byte, the counter and the part that is its own
+  -- a command changes no part of a record but the retention byte, the counter and the parts that are its own
   spares : (p : Part) (c : Command) (eight r : List ℕ) → Spares c p → partOf p (keeps c eight r) ≡ partOf p r
   -- the record has grown behind its byte 69, twice: by the PWM groups, and by the copy of the cells. Every command that was there before does to the
   -- front what it does without the rest, and leaves the rest. A read of a part of the front replies from it, one of the cells where no snapshot is on
@@ -156,6 +154,9 @@ pub record Demand2 : Type 0 where
   pwm-b-stays : (eight r : List ℕ) → partOf pwmB (keeps (Writes Wrpwma) eight r) ≡ partOf pwmB r
   -- ---- a snapshot
 
+  -- the copy of the cells is as long as they are, and the record's last part
+  copy-long : snapshot .size ≡ cells .size
+  copy-last : snapshot .at + snapshot .size ≡ recordSize
   -- SNAP where SNAP_ST, bit 5 of its byte, is clear: the copy becomes what the cells are, and SNAP_ST is set; where it is set, nothing but the
   -- count. UNSNAP clears it. No more of the record changes: not the live cells, and at UNSNAP not the copy
   snap-st-at : (r : List ℕ) → snapped r ≡ bitAt 5 (getD r (statusBits .at) 0)
@@ -167,6 +168,9 @@ pub record Demand2 : Type 0 where
   snap-st : (eight r : List ℕ) → length r ≡ recordSize → (c : Command) → snapped (keeps c eight r) ≡ snappedAfter c (snapped r)
   snap-copies : (eight r : List ℕ) → length r ≡ recordSize → partOf snapshot (keeps (Bares Snap) eight r) ≡ shownCells r
   copy-stays : (c : Command) (eight r : List ℕ) → (c ≡ Bares Snap → ⊥) → partOf snapshot (keeps c eight r) ≡ partOf snapshot r
+  -- no read shows another register for a SNAP where SNAP_ST was set
+  snap-again-shows : (eight r : List ℕ) → length r ≡ recordSize → snapped r ≡ true → (p : Part) → Apart p unlocked → Apart p counter
+      → register p (keeps (Bares Snap) eight r) ≡ register p r
   -- a store and a compare leave both
   store-snap : (codes : List ℤ) (r : List ℕ) → (snapped (store codes r) ≡ snapped r) × (partOf snapshot (store codes r) ≡ partOf snapshot r)
   compare-snap : (r : List ℕ) → (snapped (compare r) ≡ snapped r) × (partOf snapshot (compare r) ≡ partOf snapshot r)
@@ -188,7 +192,7 @@ pub record Demand2 : Type 0 where
       → replyAfter table frame buffer ≡ buffer
   bare-no-reply : (table frame buffer : List ℕ) → Passed (frameRefusals table frame (length buffer)) → (c : Bare) → commandIn frame ≡ Bares c
       → replyAfter table frame buffer ≡ buffer
-  -- `monitor::reply_of`: a reply holds the register and the counter as it stands, with a check over both that is right
+  -- `reads::reply_of`: a reply holds the register and the counter as it stands, with a check over both that is right
   reply-holds : (part : Part) (r : List ℕ) → reply part r ≡ register part r ++ seal (register part r) (byteOf counter r)
   reply-is-right : (part : Part) (r : List ℕ) → payloadRight (reply part r) ≡ true
   -- ---- readings: `loads::store`, `loads::compare` and `loads::load`
@@ -402,6 +406,8 @@ demand-2 =
       pwm-stays = pwm-stays;
       pwm-a-stays = a-stays;
       pwm-b-stays = b-stays;
+      copy-long = refl;
+      copy-last = refl;
       snap-st-at = λ r. refl;
       snap-takes = snap-takes;
       snap-again = snap-again;
@@ -409,6 +415,7 @@ demand-2 =
       snap-st = snap-st;
       snap-copies = snap-copies;
       copy-stays = copy-stays;
+      snap-again-shows = snap-again-shows;
       store-snap = λ codes r. (store-snap-st codes r, store-copy codes r);
       compare-snap = λ r. (compare-snap-st r, compare-copy r);
       cell-reads = refl;

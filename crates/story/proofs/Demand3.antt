@@ -1,24 +1,29 @@
 -- Demand 3. For 1 to 32 monitors, a sound table and any list of frames with readings stored and compared between them, the whole-frame
 -- engine and the clocked engine end in the same table and give the same answers and reply bytes, both judged by the rules of demand 2.
+-- So by either engine what is said of whole runs: MUTE and UNMUTE, and that a long read in a snapshot is of one moment.
 -- What the three runs are stands in specs/Runs.antt. By going along the events: one event by either engine is one by the rules
 -- (Runs.antt), and the number of monitors stays, so that the reply buffer keeps its room.
 -- Assumes nothing.
 use mathlib.Core.Path.{_≡_, refl, sym, ap, ap₂, _∙_, subst, subst⁻¹}
 use mathlib.Core.Bool.{Bool, true, false, cond}
 use mathlib.Core.List.{List, [], _∷_, _++_, map}
+use mathlib.Core.Logic.{inl, inr}
 use Prim.Native.Nat.{ℕ, _-_, _*_, _≤_, _<_}
 use native.Mathlib.Omega.{arith}
+use lib.Dec.{lit≤}
 use lib.IntN.{ℤ}
 use lib.ListN.{length, drop, replicate}
 use Rattle.laws.specs.Rows.{rows, rowAt, joined}
 use Rattle.wire.specs.Order.{replyData}
 use Rattle.refusals.specs.declared.Refusal.{Refusal}
 use Rattle.refusals.specs.declared.Refusal.the-variants.{TableNotSound}
-use Rattle.refusals.proofs.Deciding.{Passed}
+use Rattle.refusals.specs.Order.{Passed}
+use Rattle.records.specs.declared.commands.Bare.{Bare}
 use Rattle.records.specs.declared.commands.Bare.the-variants.{Mute, Unmute, Snap, Unsnap}
 use Rattle.records.specs.declared.commands.Command.the-variants.{Reads, Bares}
 use Rattle.records.specs.declared.record.Part.{Part}
-use Rattle.records.specs.Record.{cellCount, recordSize}
+use Rattle.records.specs.Record.{cellCount, cells, snapshot, recordSize, snapped, bytesOf as partOf}
+use Rattle.monitor.specs.Spares.{Spares}
 use Rattle.records.specs.Commands.{rdcva, rdcvb, rdcvc, rdcvd, rdcve, rdcvf, mostMonitors, payloadSize}
 use Rattle.reads.specs.Shown.{ofCells, shownCells}
 use Rattle.reads.specs.Reply.{sixBytes, sixIn, reply}
@@ -49,9 +54,9 @@ use Rattle.clocking.specs.Bytes.{clockOf, stateAfter}
 use Rattle.clocking.proofs.View.{view}
 use Rattle.clocked.proofs.Whole.{released-read}
 use Rattle.story.specs.Runs.{Event, Frame, Store, Compare, Seen, StoreAnswered, CompareAnswered, Left, saw, Step, ruleRefusals, byRules, byFrames, stateAfterAll, cameBack, byBytes, Engine, WholeFrames, ClockedBytes, Ready, by}
-use Rattle.story.specs.Snapshots.{Without, shownBehind, ReadIn}
+use Rattle.story.specs.Snapshots.{Without, replyAt, shownAt, shownBehind, ReadIn}
 use Rattle.story.proofs.Along.{rules-keep, bare-passes, ruled-frame}
-use Rattle.story.proofs.OneMoment.{frozen-read, one-moment, without-second, live-read}
+use Rattle.story.proofs.OneMoment.{lent-read, frozen-read, one-moment, behind-front, no-unsnap, live-read, cells-left}
 use Rattle.story.proofs.ByteFour.{only-byte-four, at-byte-four, noted-stays, another-n}
 use Rattle.story.proofs.Muting.{mute-answers, unmute-answers}
 use Rattle.story.proofs.Runs.{frame-step, length-after, store-step, compare-step, full, clock-whole, back-whole, clocked-step}
@@ -89,11 +94,12 @@ pub record Demand3 : Type 0 where
       → let after = by engine table (Frame first ∷ Frame second ∷ []) .table in
       (discharged after position events phase (length out) ≡ discharged table position events phase (length out))
       × (outputsAfter after position events phase out ≡ outputsAfter table position events phase out)
-  -- through either engine, after a SNAP and whatever events other than UNSNAP follow: the six cell reads, wherever they stand among them, together
-  -- show of every monitor the cells as they stood at the SNAP, and where its SNAP_ST was set the copy that was there; FF in register F's last four
+  -- through either engine, after a SNAP: the six cell reads, wherever they stand among the events that follow it, with no UNSNAP before them and whatever
+  -- else, together show of every monitor the cells as they stood at the SNAP, and where its SNAP_ST was set the copy that was there; FF in register F's
+  -- last four
   one-moment : (engine : Engine) (table snap : List ℕ) → Ready engine table → Passed (ruleRefusals table snap) → commandIn snap ≡ Bares Snap
-      → (events : List Event) → Without Unsnap events → (a : ReadIn events table rdcva) (b : ReadIn events table rdcvb) (c : ReadIn events table rdcvc)
-      (d : ReadIn events table rdcvd) (e : ReadIn events table rdcve) (f : ReadIn events table rdcvf) → (k : ℕ) → k < monitors table
+      → (events : List Event) (a : ReadIn Unsnap events table rdcva) (b : ReadIn Unsnap events table rdcvb) (c : ReadIn Unsnap events table rdcvc)
+      (d : ReadIn Unsnap events table rdcvd) (e : ReadIn Unsnap events table rdcve) (f : ReadIn Unsnap events table rdcvf) → (k : ℕ) → k < monitors table
       → let seen = by engine table (Frame snap ∷ events) .seen in
       joined
       (shownBehind (a .before) k seen
@@ -106,19 +112,29 @@ pub record Demand3 : Type 0 where
       ≡ shownCells (rowAt recordSize k table) ++ replicate 4 0xFF
   -- and each of them, however often it stands there, its own part
   frozen-read : (engine : Engine) (table snap : List ℕ) → Ready engine table → Passed (ruleRefusals table snap) → commandIn snap ≡ Bares Snap
-      → (events : List Event) → Without Unsnap events → (p : Part) → ofCells p ≡ true → (read : ReadIn events table p) → (k : ℕ) → k < monitors table
+      → (events : List Event) (p : Part) → ofCells p ≡ true → (read : ReadIn Unsnap events table p) → (k : ℕ) → k < monitors table
       → shownBehind (read .before) k (by engine table (Frame snap ∷ events) .seen) ≡ sixIn p (shownCells (rowAt recordSize k table))
-  -- a second SNAP in between changes no cell read
+  -- so of a snapshot that was lent, without a SNAP
+  lent-read : (engine : Engine) (table : List ℕ) → Ready engine table → sound table ≡ true → (k : ℕ) → k < monitors table → snapped (rowAt recordSize k table) ≡ true
+      → (events : List Event) (p : Part) → ofCells p ≡ true → (read : ReadIn Unsnap events table p)
+      → shownAt k (replyAt (length (read .before)) (by engine table events .seen)) ≡ sixIn p (partOf snapshot (rowAt recordSize k table))
+  -- a second SNAP in between changes no cell read: the same one, with it and without. (Of another read it may: it locks the retention, so that a WRRR
+  -- behind it stores nothing, and it counts)
   second-snap : (engine : Engine) (table snap : List ℕ) → Ready engine table → Passed (ruleRefusals table snap) → commandIn snap ≡ Bares Snap
-      → (front rest : List Event) (second : List ℕ) → Without Unsnap (front ++ rest) → commandIn second ≡ Bares Snap → (p : Part) → ofCells p ≡ true
-      → (among : ReadIn (front ++ Frame second ∷ rest) table p) (alone : ReadIn (front ++ rest) table p) → (k : ℕ) → k < monitors table
-      → shownBehind (among .before) k (by engine table (Frame snap ∷ front ++ Frame second ∷ rest) .seen)
-      ≡ shownBehind (alone .before) k (by engine table (Frame snap ∷ front ++ rest) .seen)
-  -- after an UNSNAP, and until a SNAP, a read shows its part of the record as it then is: of the cells the live ones
+      → (front rest : List Event) (second : List ℕ) → Without Unsnap front → commandIn second ≡ Bares Snap → (p : Part) → ofCells p ≡ true
+      → (read : ReadIn Unsnap rest table p) → (k : ℕ) → k < monitors table
+      → shownBehind (front ++ Frame second ∷ read .before) k (by engine table (Frame snap ∷ front ++ Frame second ∷ rest) .seen)
+      ≡ shownBehind (front ++ read .before) k (by engine table (Frame snap ∷ front ++ rest) .seen)
+  -- after an UNSNAP, and with no SNAP before it, a read shows its part of the record as it then is: of the cells the live ones
   live-read : (engine : Engine) (table unsnap : List ℕ) → Ready engine table → Passed (ruleRefusals table unsnap) → commandIn unsnap ≡ Bares Unsnap
-      → (events : List Event) → Without Snap events → (p : Part) (read : ReadIn events table p) → (k : ℕ) → k < monitors table
+      → (events : List Event) (p : Part) (read : ReadIn Snap events table p) → (k : ℕ) → k < monitors table
       → shownBehind (read .before) k (by engine table (Frame unsnap ∷ events) .seen)
       ≡ sixBytes p (rowAt recordSize k (by engine table (Frame unsnap ∷ read .before) .table))
+  -- neither command changes the live cells
+  snap-leaves : (engine : Engine) (table snap : List ℕ) → Ready engine table → Passed (ruleRefusals table snap) → commandIn snap ≡ Bares Snap → (k : ℕ) → k < monitors table
+      → partOf cells (rowAt recordSize k (by engine table (Frame snap ∷ []) .table)) ≡ partOf cells (rowAt recordSize k table)
+  unsnap-leaves : (engine : Engine) (table unsnap : List ℕ) → Ready engine table → Passed (ruleRefusals table unsnap) → commandIn unsnap ≡ Bares Unsnap → (k : ℕ) → k < monitors table
+      → partOf cells (rowAt recordSize k (by engine table (Frame unsnap ∷ []) .table)) ≡ partOf cells (rowAt recordSize k table)
   -- at every byte, not only at a release, the bytes of the state stand for the windows as the rules move them
   every-byte : (table : List ℕ) (byte : ℕ) (state : List ℕ) → length state ≡ stateSize
       → clockOf (stateAfter table byte state) ≡ clocked table byte (clockOf state)
@@ -269,10 +285,16 @@ module _ (engine : Engine) (table first : List ℕ) (ready : Ready engine table)
   behind-by : (k : ℕ) (events before : List Event) → shownBehind before k (by engine table (Frame first ∷ events) .seen) ≡ shownBehind before k (byRules table (Frame first ∷ events) .seen)
   behind-by k events before = ap (shownBehind before k) (seen-by (Frame first ∷ events))
 
-  frozen-by : Passed (ruleRefusals table first) → commandIn first ≡ Bares Snap → (events : List Event) → Without Unsnap events → (p : Part) → ofCells p ≡ true
-      → (read : ReadIn events table p) → (k : ℕ) → k < monitors table
+  frozen-by : Passed (ruleRefusals table first) → commandIn first ≡ Bares Snap → (events : List Event) (p : Part) → ofCells p ≡ true
+      → (read : ReadIn Unsnap events table p) → (k : ℕ) → k < monitors table
       → shownBehind (read .before) k (by engine table (Frame first ∷ events) .seen) ≡ sixIn p (shownCells (rowAt recordSize k table))
-  frozen-by passed its events quiet p of-them read k h = behind-by k events (read .before) ∙ frozen-read table first passed its k h events quiet p of-them read
+  frozen-by passed its events p of-them read k h = behind-by k events (read .before) ∙ frozen-read table first passed its k h events p of-them read
+
+  left-by : (c : Bare) → Spares (Bares c) cells → Passed (ruleRefusals table first) → commandIn first ≡ Bares c → (k : ℕ) → k < monitors table
+      → partOf cells (rowAt recordSize k (by engine table (Frame first ∷ []) .table)) ≡ partOf cells (rowAt recordSize k table)
+  left-by c spares passed its k h =
+      ap (λ (left : Left). partOf cells (rowAt recordSize k (left .table))) (either-by-rules engine table (Frame first ∷ []) ready)
+      ∙ cells-left c spares table first passed its k h
 
 pub demand-3 : Demand3
 unfolding chainedBy
@@ -286,7 +308,7 @@ demand-3 =
       load-refused = refused-by-rules;
       mute = mute-by;
       unmute = λ engine table first second ready. unmute-by engine table first ready second;
-      one-moment = λ engine table snap ready passed its events quiet a b c d e f k h.
+      one-moment = λ engine table snap ready passed its events a b c d e f k h.
           subst⁻¹
           (λ (seen : List Seen).
           joined
@@ -298,15 +320,21 @@ demand-3 =
           ∷ shownBehind (f .before) k seen
           ∷ [])
           ≡ shownCells (rowAt recordSize k table) ++ replicate 4 0xFF)
-          (seen-by engine table snap ready (Frame snap ∷ events)) (one-moment table snap passed its k h events quiet a b c d e f);
+          (seen-by engine table snap ready (Frame snap ∷ events)) (one-moment table snap passed its k h events a b c d e f);
       frozen-read = frozen-by;
-      second-snap = λ engine table snap ready passed its front rest second quiet its-too p of-them among alone k h.
-          frozen-by engine table snap ready passed its (front ++ Frame second ∷ rest) (without-second second its-too front rest quiet) p of-them among k h
-          ∙ sym (frozen-by engine table snap ready passed its (front ++ rest) quiet p of-them alone k h);
-      live-read = λ engine table unsnap ready passed its events quiet p read k h.
+      lent-read = λ engine table ready s k h on events p of-them read.
+          ap (λ (left : Left). shownAt k (replyAt (length (read .before)) (left .seen))) (either-by-rules engine table events ready)
+          ∙ lent-read table s k h on events p of-them read;
+      second-snap = λ engine table snap ready passed its front rest second quiet its-too p of-them read k h.
+          frozen-by engine table snap ready passed its (front ++ Frame second ∷ rest) p of-them
+          (behind-front front quiet (behind-front (Frame second ∷ []) (no-unsnap second its-too) read)) k h
+          ∙ sym (frozen-by engine table snap ready passed its (front ++ rest) p of-them (behind-front front quiet read) k h);
+      live-read = λ engine table unsnap ready passed its events p read k h.
           behind-by engine table unsnap ready k events (read .before)
-          ∙ live-read table unsnap passed its events quiet k h p read
+          ∙ live-read table unsnap passed its events k h p read
           ∙ ap (λ (left : Left). sixBytes p (rowAt recordSize k (left .table))) (sym (either-by-rules engine table (Frame unsnap ∷ read .before) ready));
+      snap-leaves = λ engine table snap ready. left-by engine table snap ready Snap (inr (lit≤ tt), (inr (lit≤ tt), (inl (lit≤ tt), (inr (lit≤ tt), tt))));
+      unsnap-leaves = λ engine table unsnap ready. left-by engine table unsnap ready Unsnap (inr (lit≤ tt), (inr (lit≤ tt), (inl (lit≤ tt), tt)));
       every-byte = view;
       only-byte-four = only-byte-four;
       at-byte-four = at-byte-four;

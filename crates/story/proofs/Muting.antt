@@ -17,8 +17,8 @@ use Rattle.laws.specs.Rows.{rowAt}
 use Rattle.laws.specs.Tables.{tabulate}
 use Rattle.laws.proofs.BitAt.{bit-or, bit-and}
 use Rattle.refusals.specs.declared.Refusal.the-variants.{TableNotSound, PositionWrong}
-use Rattle.refusals.specs.Order.{Row, _gives_, decide}
-use Rattle.refusals.proofs.Deciding.{Passed, passed-agree}
+use Rattle.refusals.specs.Order.{Row, _gives_, decide, Passed}
+use Rattle.refusals.proofs.Deciding.{passed-agree}
 use Rattle.records.specs.declared.commands.Bare.the-variants.{Mute, Unmute}
 use Rattle.records.specs.declared.commands.Command.the-variants.{Bares}
 use Rattle.records.specs.Record.{cellCount, statusBits, dccBits, pwmA, pwmB, recordSize, bytesOf, byteOf, onBytes}

@@ -12,8 +12,8 @@ use Prim.Native.Nat.{ℕ, _-_, _≤_}
 use Rattle.refusals.specs.declared.Refusal.{Refusal}
 use Rattle.refusals.specs.declared.Refusal.the-variants.{TableNotSound, FrameShort, CommandWrong, CodeNotListed, LengthWrong, NoRoom, PositionWrong, CountWrong, CodeCleared, NeitherRight}
 use Rattle.refusals.specs.Numbers.{numberOf}
-use Rattle.refusals.specs.Order.{Row, decide}
-use Rattle.refusals.proofs.Deciding.{holds-here, holds-not, decide-map, Passed, passes, has-passed}
+use Rattle.refusals.specs.Order.{Row, decide, Passed}
+use Rattle.refusals.proofs.Deciding.{holds-here, holds-not, decide-map, passes, has-passed}
 use Rattle.pec.specs.Words.{payloadRight}
 use Rattle.chain.specs.declared.frames.Answer.the-variants.{Refused as Refuses}
 use Rattle.chain.specs.Frame.{frameRefusals, answer}

@@ -1,14 +1,15 @@
--- A long read is of one moment, by the rules. After a SNAP, and without an UNSNAP, each monitor's SNAP_ST stays set and its copy what it was, whatever
--- frames come and whatever is stored and compared: so a cell read, wherever it stands, shows its part of the cells as they were shown at the SNAP, and
--- the six together all of them. After an UNSNAP, and without a SNAP, SNAP_ST stays clear, and a read shows its part as it then is.
+-- A long read is of one moment, by the rules. While no UNSNAP comes, a SNAP_ST that is set stays set and the copy stays what it was, whatever frames
+-- come and whatever is stored and compared: so a cell read, wherever it stands, shows its part of the copy, after a SNAP its part of the cells as they
+-- were shown at the SNAP, and the six together all of them. After an UNSNAP, and while no SNAP comes, SNAP_ST stays clear, and a read shows its part
+-- as it then is.
 -- Assumes nothing.
 use mathlib.Core.Path.{_≡_, refl, sym, ap, _∙_, subst⁻¹}
 use mathlib.Core.Bool.{Bool, true, false, cond, false≢true}
-use mathlib.Core.List.{List, [], _∷_, _++_}
+use mathlib.Core.List.{List, [], _∷_, _++_, append-assoc}
 use Prim.Native.Nat.{ℕ, _<_}
 use lib.ListN.{length, replicate}
 use Rattle.laws.specs.Rows.{rowAt, joined}
-use Rattle.refusals.proofs.Deciding.{Passed}
+use Rattle.refusals.specs.Order.{Passed}
 use Rattle.records.specs.declared.commands.Bare.{Bare}
 use Rattle.records.specs.declared.commands.Bare.the-variants.{Mute, Unmute, Rstcc, Ulrr, Clrcell, Snap, Unsnap}
 use Rattle.records.specs.declared.commands.Command.{Command}
@@ -17,17 +18,19 @@ use Rattle.records.specs.declared.record.Part.{Part}
 use Rattle.records.specs.Record.{cells, snapshot, recordSize, snapped, bytesOf}
 use Rattle.records.specs.Commands.{rdcva, rdcvb, rdcvc, rdcvd, rdcve, rdcvf}
 use Rattle.monitor.specs.Effects.{keeps}
+use Rattle.monitor.specs.Spares.{Spares}
+use Rattle.monitor.proofs.Spares.{keeps-spares}
 use Rattle.reads.specs.Shown.{ofCells, shownCells}
 use Rattle.reads.specs.Reply.{sixBytes, sixIn, register}
 use Rattle.reads.proofs.Parts.{shows-live}
 use Rattle.judging.specs.Table.{monitors, sound}
 use Rattle.judging.specs.Refusals.{commandIn}
-use Rattle.judging.proofs.Keeps.{Keeps}
+use Rattle.judging.proofs.Keeps.{Keeps, stays}
 use Rattle.story.specs.Runs.{Event, Frame, ruleRefusals, byRules}
 use Rattle.story.specs.Snapshots.{snappedBy, snappedAfter, Without, replyAt, shownAt, shownBehind, ReadIn}
 use Rattle.chain.specs.Frame.{frameRefusals}
 use Rattle.story.proofs.Accepted.{frame-sound, kept-table, eightAt, record-at, kept-at}
-use Rattle.story.proofs.Along.{judged-alike, rules-keep, bare-passes, ruled-frame, read-shows, along-run, seen-there, without-front}
+use Rattle.story.proofs.Along.{judged-alike, rules-keep, bare-passes, ruled-frame, read-shows, along-run, seen-there, without-both}
 use Rattle.story.proofs.Runs.{full}
 use Rattle.story.proofs.Snapshot.{snap-st, snap-copies, copy-kept, store-snap-st, store-copy, compare-snap-st, compare-copy, shows-its-part, together, length-shown}
 
@@ -86,7 +89,32 @@ off-along =
     (λ c other eight r whole. record { off = stays-off eight r whole c other }) (λ codes r. record { off = λ e. store-snap-st codes r ∙ e })
     (λ r. record { off = λ e. compare-snap-st r ∙ e })
 
--- ---- after an accepted bare command, the events up to a read, and the read
+-- ---- the events up to a read, and the read
+
+module _ (table : List ℕ) (s : sound table ≡ true) (k : ℕ) (h : k < monitors table) where
+  reads-there : (c : Bare) (events : List Event) (first : List ℕ) (kept : Keeps first table) (p : Part) (read : ReadIn c events first p) → sound first ≡ true
+      → shownAt k (replyAt (length (read .before)) (byRules table events .seen)) ≡ register p (rowAt recordSize k (byRules table (read .before) .table))
+  reads-there c events first kept-first p read s-first =
+      let found = byRules table (read .before) .table in
+      let kept = rules-keep table (read .before) s in
+      let alike = judged-alike first found (read .frame) (kept .sound-after ∙ sym s-first) (kept .monitors-after ∙ kept-first .monitors-after) in
+      ap (λ (list : List Event). shownAt k (replyAt (length (read .before)) (byRules table list .seen))) (sym (read .there))
+      ∙ ap (shownAt k) (seen-there table (read .before) (Frame (read .frame)) (read .after))
+      ∙ read-shows found (read .frame) p (subst⁻¹ Passed alike (read .accepted)) (read .its) k (subst⁻¹ (λ (n : ℕ). k < n) (kept .monitors-after) h)
+
+  -- a snapshot that is on: its copy, whatever comes but an UNSNAP
+  pub lent-read : snapped (rowAt recordSize k table) ≡ true → (events : List Event) (p : Part) → ofCells p ≡ true → (read : ReadIn Unsnap events table p)
+      → shownAt k (replyAt (length (read .before)) (byRules table events .seen)) ≡ sixIn p (bytesOf snapshot (rowAt recordSize k table))
+  unfolding shownCells
+  lent-read on events p of-them read =
+      let now = rowAt recordSize k (byRules table (read .before) .table) in
+      let still = held-along table (read .before) (read .quiet) s k h .held on in
+      reads-there Unsnap events table (stays table s) p read s
+      ∙ shows-its-part p now of-them
+      ∙ ap (λ (b : Bool). sixIn p (cond b (bytesOf snapshot now) (bytesOf cells now))) (still .0)
+      ∙ ap (sixIn p) (still .1)
+
+-- ---- after an accepted bare command
 
 module _ (c : Bare) (table first : List ℕ) (passed : Passed (ruleRefusals table first)) (its : commandIn first ≡ Bares c) (k : ℕ) (h : k < monitors table) where
   none : Passed (frameRefusals table first (length (full table)))
@@ -118,17 +146,11 @@ module _ (c : Bare) (table first : List ℕ) (passed : Passed (ruleRefusals tabl
   abbrev found : List Event → List ℕ
   found before = byRules then before .table
 
-  shown-there : (events : List Event) (p : Part) (read : ReadIn events table p)
+  shown-there : (q : Bare) (events : List Event) (p : Part) (read : ReadIn q events table p)
       → shownBehind (read .before) k (byRules table (Frame first ∷ events) .seen) ≡ register p (rowAt recordSize k (found (read .before)))
   unfolding byRules
-  shown-there events p read =
-      let table' = found (read .before) in
-      let kept = rules-keep then (read .before) (kept-then .sound-after) in
-      let many : monitors table' ≡ monitors table = kept .monitors-after ∙ kept-then .monitors-after in
-      let alike = judged-alike table table' (read .frame) (kept .sound-after ∙ sym (frame-sound table first (length (full table)) none)) many in
-      ap (λ (list : List Event). shownAt k (replyAt (length (read .before)) (byRules then list .seen))) (sym (read .there))
-      ∙ ap (shownAt k) (seen-there then (read .before) (Frame (read .frame)) (read .after))
-      ∙ read-shows table' (read .frame) p (subst⁻¹ Passed alike (read .accepted)) (read .its) k (subst⁻¹ (λ (n : ℕ). k < n) many h)
+  shown-there q events p read =
+      reads-there then (kept-then .sound-after) k there-then q events table kept-then p read (frame-sound table first (length (full table)) none)
 
 -- ---- SNAP
 
@@ -155,17 +177,16 @@ module _ (table snap : List ℕ) (passed : Passed (ruleRefusals table snap)) (it
     unfolding shownCells
     still-shown = ap (λ (on : Bool). cond on (bytesOf snapshot now) (bytesOf cells now)) (still-held .0) ∙ still-held .1
 
-  module _ (events : List Event) (quiet : Without Unsnap events) where
-    pub frozen-read : (p : Part) → ofCells p ≡ true → (read : ReadIn events table p)
+  module _ (events : List Event) where
+    pub frozen-read : (p : Part) → ofCells p ≡ true → (read : ReadIn Unsnap events table p)
         → shownBehind (read .before) k (byRules table (Frame snap ∷ events) .seen) ≡ sixIn p frozen
     frozen-read p of-them read =
-        let quiet-before = without-front Unsnap (read .before) (Frame (read .frame) ∷ read .after) (subst⁻¹ (Without Unsnap) (read .there) quiet) in
-        shown-there Snap table snap passed its k h events p read
-        ∙ shows-its-part p (now (read .before) quiet-before) of-them
-        ∙ ap (sixIn p) (still-shown (read .before) quiet-before)
+        shown-there Snap table snap passed its k h Unsnap events p read
+        ∙ shows-its-part p (now (read .before) (read .quiet)) of-them
+        ∙ ap (sixIn p) (still-shown (read .before) (read .quiet))
 
-    pub one-moment : (a : ReadIn events table rdcva) (b : ReadIn events table rdcvb) (c : ReadIn events table rdcvc) (d : ReadIn events table rdcvd)
-        (e : ReadIn events table rdcve) (f : ReadIn events table rdcvf)
+    pub one-moment : (a : ReadIn Unsnap events table rdcva) (b : ReadIn Unsnap events table rdcvb) (c : ReadIn Unsnap events table rdcvc)
+        (d : ReadIn Unsnap events table rdcvd) (e : ReadIn Unsnap events table rdcve) (f : ReadIn Unsnap events table rdcvf)
         → let seen = byRules table (Frame snap ∷ events) .seen in
         joined
         (shownBehind (a .before) k seen
@@ -189,23 +210,41 @@ module _ (table snap : List ℕ) (passed : Passed (ruleRefusals table snap)) (it
         ∷ []))
         ∙ together frozen (length-shown (rowAt recordSize k table) (row-whole Snap table snap passed its k h))
 
--- a SNAP among other events is no UNSNAP
-pub without-second : (second : List ℕ) → commandIn second ≡ Bares Snap → (front rest : List Event) → Without Unsnap (front ++ rest) → Without Unsnap (front ++ Frame second ∷ rest)
-without-second second its [] rest h = (λ unsnap. false≢true (sym (ap (λ (c : Command). snappedAfter c true) (sym its ∙ unsnap .1 .1))), h)
-without-second second its (event ∷ front) rest h = (h .0, without-second second its front rest (h .1))
+-- a read behind other events, which are without that command too
+abbrev pub behind-front : {c : Bare} {events : List Event} {table : List ℕ} {p : Part} (front : List Event) → Without c front → ReadIn c events table p → ReadIn c (front ++ events) table p
+behind-front {c} front none read =
+    record {
+      before = front ++ read .before;
+      frame = read .frame;
+      after = read .after;
+      there = append-assoc front (read .before) (Frame (read .frame) ∷ read .after) ∙ ap (λ (list : List Event). front ++ list) (read .there);
+      quiet = without-both c front (read .before) none (read .quiet);
+      accepted = read .accepted;
+      its = read .its;
+    }
+
+-- a SNAP is no UNSNAP
+pub no-unsnap : (second : List ℕ) → commandIn second ≡ Bares Snap → Without Unsnap (Frame second ∷ [])
+no-unsnap second its = (λ unsnap. false≢true (sym (ap (λ (c : Command). snappedAfter c true) (sym its ∙ unsnap .1 .1))), tt)
 
 -- ---- UNSNAP
 
-module _ (table unsnap : List ℕ) (passed : Passed (ruleRefusals table unsnap)) (its : commandIn unsnap ≡ Bares Unsnap) (events : List Event) (quiet : Without Snap events)
-    (k : ℕ) (h : k < monitors table) where
-  pub live-read : (p : Part) (read : ReadIn events table p)
+module _ (table unsnap : List ℕ) (passed : Passed (ruleRefusals table unsnap)) (its : commandIn unsnap ≡ Bares Unsnap) (events : List Event) (k : ℕ) (h : k < monitors table) where
+  pub live-read : (p : Part) (read : ReadIn Snap events table p)
       → shownBehind (read .before) k (byRules table (Frame unsnap ∷ events) .seen)
       ≡ sixBytes p (rowAt recordSize k (byRules table (Frame unsnap ∷ read .before) .table))
   unfolding register byRules
   live-read p read =
-      let quiet-before = without-front Snap (read .before) (Frame (read .frame) ∷ read .after) (subst⁻¹ (Without Snap) (read .there) quiet) in
       let at-first = row-then Unsnap table unsnap passed its k h in
       let off = ap snapped at-first ∙ snap-st (eight Unsnap table unsnap passed its k h) (rowAt recordSize k table) (row-whole Unsnap table unsnap passed its k h) (Bares Unsnap) in
-      let still = off-along (then Unsnap table unsnap passed its k h) (read .before) quiet-before (kept-then Unsnap table unsnap passed its k h .sound-after) k (there-then Unsnap table unsnap passed its k h) .off off in
+      let still = off-along (then Unsnap table unsnap passed its k h) (read .before) (read .quiet) (kept-then Unsnap table unsnap passed its k h .sound-after) k (there-then Unsnap table unsnap passed its k h) .off off in
       let now = rowAt recordSize k (found Unsnap table unsnap passed its k h (read .before)) in
-      shown-there Unsnap table unsnap passed its k h events p read ∙ ap (λ (q : Part). sixBytes q now) (shows-live p now still)
+      shown-there Unsnap table unsnap passed its k h Snap events p read ∙ ap (λ (q : Part). sixBytes q now) (shows-live p now still)
+
+-- ---- neither changes the live cells
+
+module _ (c : Bare) (spares : Spares (Bares c) cells) (table frame : List ℕ) (passed : Passed (ruleRefusals table frame)) (its : commandIn frame ≡ Bares c) (k : ℕ) (h : k < monitors table) where
+  pub cells-left : bytesOf cells (rowAt recordSize k (byRules table (Frame frame ∷ []) .table)) ≡ bytesOf cells (rowAt recordSize k table)
+  cells-left =
+      ap (bytesOf cells) (row-then c table frame passed its k h)
+      ∙ keeps-spares cells (Bares c) (eight c table frame passed its k h) (rowAt recordSize k table) spares

@@ -17,7 +17,7 @@ use Rattle.laws.specs.Rows.{rowAt}
 use Rattle.laws.proofs.Lists.{getD-any}
 use Rattle.laws.proofs.Rows.{length-row-at, row-element}
 use Rattle.laws.proofs.Tables.{at-each}
-use Rattle.refusals.proofs.Deciding.{Passed}
+use Rattle.refusals.specs.Order.{Passed}
 use Rattle.records.specs.declared.commands.Bare.the-variants.{Ulrr}
 use Rattle.records.specs.declared.commands.Command.the-variants.{Reads, Writes, Bares}
 use Rattle.records.specs.declared.commands.Write.the-variants.{Wrrr}

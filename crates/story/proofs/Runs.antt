@@ -17,9 +17,9 @@ use Rattle.laws.specs.Rows.{rows}
 use Rattle.laws.proofs.Rows.{length-rows, length-joined, every-image}
 use Rattle.wire.specs.Order.{replyData}
 use Rattle.refusals.specs.declared.Refusal.{Refusal}
-use Rattle.refusals.specs.Order.{Row, decide}
+use Rattle.refusals.specs.Order.{Row, decide, Passed}
 use Rattle.pec.specs.Words.{payloadRight}
-use Rattle.refusals.proofs.Deciding.{Passed, decide-append, passes, passed-agree}
+use Rattle.refusals.proofs.Deciding.{decide-append, passes, passed-agree}
 use Rattle.records.specs.declared.commands.Command.{Command}
 use Rattle.records.specs.declared.commands.Command.the-variants.{Reads, Writes, Bares, Unlisted}
 use Rattle.records.specs.declared.record.Part.{Part}

@@ -1,7 +1,7 @@
 -- A snapshot at one monitor. What becomes of SNAP_ST and of the copy, whatever command comes, and at a store and a compare; and what the six cell
 -- reads show together: the copy while SNAP_ST is set, the live cells where it is not.
 -- Assumes nothing.
-use mathlib.Core.Path.{_≡_, refl, ap, ap₂, _∙_, subst, subst⁻¹}
+use mathlib.Core.Path.{_≡_, refl, sym, ap, ap₂, _∙_, subst, subst⁻¹}
 use mathlib.Core.Bool.{Bool, true, false, cond, _&&_, _||_}
 use mathlib.Core.List.{List, [], _∷_, _++_, map}
 use mathlib.Core.Logic.{inl, inr}
@@ -23,7 +23,7 @@ use Rattle.records.specs.declared.commands.Command.the-variants.{Reads, Writes,
 use Rattle.records.specs.declared.commands.Write.{Write}
 use Rattle.records.specs.declared.commands.Write.the-variants.{Wrcfga, Wrcfgb, Wrrr, Clrflag, Clovuv, Wrpwma, Wrpwmb}
 use Rattle.records.specs.declared.record.Part.{Part}
-use Rattle.records.specs.Record.{cells, flags, snapshot, statusBits, configurationA, unlocked, recordSize, snapped, bytesOf, byteOf, onBytes}
+use Rattle.records.specs.Record.{cells, flags, snapshot, statusBits, configurationA, counter, unlocked, recordSize, snapped, bytesOf, byteOf, onBytes}
 use Rattle.records.specs.Commands.{rdcva, rdcvb, rdcvc, rdcvd, rdcve, rdcvf}
 use Rattle.records.proofs.Anew.{length-anew, anew-inside}
 use Rattle.records.proofs.Parts.{part-of-part, made-of, length-part, outside-anew}
@@ -255,3 +255,22 @@ shows-the-cells r whole =
 pub shows-as-it-lies : (p : Part) (r : List ℕ) → ofCells p ≡ false → register p r ≡ sixBytes p r
 unfolding register
 shows-as-it-lies p r other = ap (λ (q : Part). sixBytes q r) (shows-other p r other)
+
+-- ---- a SNAP where SNAP_ST was set: every register is shown as it was
+
+module _ (eight r : List ℕ) (whole : length r ≡ recordSize) where
+  same-cells : shownCells (counted (locked r)) ≡ shownCells r
+  unfolding shownCells
+  same-cells j =
+      cond (by-counted eight r whole j) (counted-spares snapshot r (inl (lit≤ tt)) (inl (lit≤ tt)) j) (counted-spares cells r (inr (lit≤ tt)) (inr (lit≤ tt)) j)
+
+  pub snap-again-shows : snapped r ≡ true → (p : Part) → Apart p unlocked → Apart p counter → register p (keeps (Bares Snap) eight r) ≡ register p r
+  unfolding sixBytes
+  snap-again-shows on p h k = ap (register p) (snap-again eight r whole on) ∙ where-cells (ofCells p) refl
+    where
+      where-cells : (its : Bool) → ofCells p ≡ its → register p (counted (locked r)) ≡ register p r
+      where-cells true e = shows-its-part p (counted (locked r)) e ∙ ap (sixIn p) same-cells ∙ sym (shows-its-part p r e)
+      where-cells false e =
+          shows-as-it-lies p (counted (locked r)) e
+          ∙ ap (λ (bytes : List ℕ). tabulate (λ i. getD bytes i 0xFF) 0 6) (counted-spares p r h k)
+          ∙ sym (shows-as-it-lies p r e)

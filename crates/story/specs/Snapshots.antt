@@ -1,4 +1,4 @@
--- Document 02, L6: what becomes of SNAP_ST; and through frames, a SNAP, whatever comes after it, and what the cell reads show that stand among it.
+-- Document 02, L6: what becomes of SNAP_ST; and through frames, what a read shows that stands somewhere in a list of events.
 -- Assumes nothing.
 use mathlib.Core.Path.{_≡_}
 use mathlib.Core.Bool.{Bool, true, false}
@@ -7,7 +7,7 @@ use Prim.Native.Nat.{ℕ, zero, suc}
 use lib.ListN.{length, take}
 use Rattle.laws.specs.Rows.{rowAt}
 use Rattle.pec.specs.Words.{commandRight}
-use Rattle.refusals.proofs.Deciding.{Passed}
+use Rattle.refusals.specs.Order.{Passed}
 use Rattle.records.specs.declared.commands.Bare.{Bare}
 use Rattle.records.specs.declared.commands.Bare.the-variants.{Mute, Unmute, Rstcc, Ulrr, Clrcell, Snap, Unsnap}
 use Rattle.records.specs.declared.commands.Command.{Command}
@@ -49,12 +49,13 @@ Without c (event ∷ events) = (Is c event → ⊥) × Without c events
 
 -- ---- what a monitor shows
 
--- the reply that was seen at a place, counted from 0; none of a store or a compare
+-- the reply that was seen of an event; none of a store or a compare
 abbrev pub replyOf : Seen → List ℕ
 replyOf (Answered said bytes) = bytes
 replyOf (StoreAnswered said) = []
 replyOf (CompareAnswered said) = []
 
+-- and at a place of what was seen, counted from 0
 abbrev pub replyAt : ℕ → List Seen → List ℕ
 replyAt i [] = []
 replyAt zero (one ∷ later) = replyOf one
@@ -68,11 +69,13 @@ shownAt k reply = take dataSize (rowAt payloadSize k reply)
 abbrev pub shownBehind : List Event → ℕ → List Seen → List ℕ
 shownBehind before k seen = shownAt k (replyAt (suc (length before)) seen)
 
--- a read of a part that stands in a list of events and is accepted
-pub record ReadIn (events : List Event) (table : List ℕ) (p : Part) : Type 0 where
+-- a read of a part that stands in a list of events, without a bare command before it. It is accepted, by the table that the events begin with: what
+-- is accepted of a frame goes by the table's soundness and its monitors alone, and both stay
+pub record ReadIn (c : Bare) (events : List Event) (table : List ℕ) (p : Part) : Type 0 where
   pub before : List Event
   pub frame : List ℕ
   pub after : List Event
   pub there : before ++ Frame frame ∷ after ≡ events
+  pub quiet : Without c before
   pub accepted : Passed (ruleRefusals table frame)
   pub its : commandIn frame ≡ Reads p

@@ -41,6 +41,8 @@ const CODES: [u16; COMMAND_COUNT + 16] = [
     0x002e,
     0x0038,
     0x0711,
+    0x002d,
+    0x002f,
     0x0000,
     0x0003,
     0x0005,
@@ -49,7 +51,7 @@ const CODES: [u16; COMMAND_COUNT + 16] = [
     0x0025,
     0x0027,
     0x002a,
-    0x002d,
+    0x0030,
     0x0031,
     0x003b,
     0x0710,
@@ -80,7 +82,7 @@ fn flip(bytes: &mut [u8], from: usize, bit: usize)
 
 // A code and its check.
 fn head_of(place: usize) -> [u8; 4]
-    requires { ⌜ place < 42 ⌝ }
+    requires { ⌜ place < 44 ⌝ }
 {
     let codes = CODES;
     let code = codes[place];
@@ -95,8 +97,8 @@ fn head_of(place: usize) -> [u8; 4]
 
 // The place of a command's code, or of one that is not listed.
 fn place_of(command: usize, unlisted: usize) -> usize
-    requires { ⌜ command < 26 ⌝ }
-    ensures { λ r. ⌜ r < 42 ⌝ }
+    requires { ⌜ command < 28 ⌝ }
+    ensures { λ r. ⌜ r < 44 ⌝ }
 {
     if unlisted < 16 {
         return COMMAND_COUNT + unlisted;
@@ -124,7 +126,7 @@ fn head_bit(luck: usize) -> Drawn {
 
 // The first four bytes of a frame. What luck is left is answered.
 pub(crate) fn start(frame: &mut [u8], command: usize, luck: usize) -> usize
-    requires { ⌜ command < 26 ⌝ }
+    requires { ⌜ command < 28 ⌝ }
 {
     let unlisted = now_and_then(luck, 12, 16);
     let bit = head_bit(unlisted.luck);
@@ -208,7 +210,7 @@ fn length_of(command: usize, n: usize, luck: usize) -> Drawn
 }
 
 fn command_drawn(luck: usize) -> Drawn
-    ensures { λ r. ⌜ r .number < 26 ⌝ }
+    ensures { λ r. ⌜ r .number < 28 ⌝ }
 {
     let drawn = draw(luck, COMMAND_COUNT + MORE_WRRR);
     if drawn.number < COMMAND_COUNT {
