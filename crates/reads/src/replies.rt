@@ -5,10 +5,12 @@ ghost use lib.ListN.{length, getD};
 ghost use Rattle.laws.specs.Tables.{tabulate};
 ghost use Rattle.records.specs.Record.{bytesOf};
 ghost use Rattle.reads.specs.Reply.{sixBytes, register, reply};
-use crate::shown::shown_part;
+use crate::shown::copy_of;
+use crate::shown::of_cells;
 use records::COUNTER;
 use records::Part;
 use records::byte_at;
+use records::is_snapped;
 
 // Byte i of a part, and FF past the end of the part or of the slice.
 fn shown_byte(rec: &[u8], part: Part, i: usize) -> u8
@@ -64,11 +66,17 @@ fn part_bytes(part: Part, rec: &[u8]) -> [u8; 6]
     shown_bytes(part, rec)
 }
 
-// The six bytes of a register: of the part that is shown.
+// The six bytes of a register: of the part itself, or of the cells, while a snapshot is on, of the same part of their copy. Two calls, and not one of
+// a part that is picked before: its bytes would have to wait for SNAP_ST.
 fn register_of(part: Part, rec: &[u8]) -> [u8; 6]
     ensures { λ r. ⌜ r ≡ register part (now (rec .entry)) ⌝ }
 {
-    part_bytes(shown_part(part, rec), rec)
+    if of_cells(part) {
+        if is_snapped(rec) {
+            return part_bytes(copy_of(part), rec);
+        }
+    }
+    part_bytes(part, rec)
 }
 
 // The eight bytes that one monitor replies: the register, the counter as it stands, the check over both.

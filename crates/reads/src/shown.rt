@@ -1,14 +1,14 @@
-// Which part of a record a read shows.
+// The parts that cell reads show.
 ghost use mathlib.Core.Path.{_≡_};
-ghost use Rattle.reads.specs.Shown.{ofCells, shownPart};
+ghost use mathlib.Core.Bool.{true};
+ghost use Rattle.reads.specs.Shown.{ofCells, copyOf};
 use records::CELLS;
 use records::CELLS_SIZE;
 use records::Part;
 use records::SNAPSHOT;
-use records::is_snapped;
 
 // Is it a part of the cells?
-fn of_cells(part: Part) -> bool
+pub(crate) fn of_cells(part: Part) -> bool
     ensures { λ r. ⌜ r ≡ ofCells part ⌝ }
 {
     let at = part.at as usize;
@@ -20,17 +20,13 @@ fn of_cells(part: Part) -> bool
     }
 }
 
-// The part that is shown: of the cells, while a snapshot is on, the copy's.
-pub(crate) fn shown_part(part: Part, rec: &[u8]) -> Part
-    ensures { λ r. ⌜ r ≡ shownPart part (now (rec .entry)) ⌝ }
+// The same part of the copy.
+pub(crate) fn copy_of(part: Part) -> Part
+    requires { ⌜ ofCells part ≡ true ⌝ }
+    ensures { λ r. ⌜ r ≡ copyOf part ⌝ }
 {
-    if of_cells(part) {
-        if is_snapped(rec) {
-            return Part {
-                at: SNAPSHOT as u8 + (part.at - CELLS as u8),
-                size: part.size,
-            };
-        }
+    Part {
+        at: SNAPSHOT as u8 + (part.at - CELLS as u8),
+        size: part.size,
     }
-    part
 }
