@@ -19,7 +19,6 @@ use Rattle.laws.specs.Tables.{tabulate}
 use Rattle.refusals.specs.declared.Refusal.{Refusal}
 use Rattle.refusals.specs.declared.Refusal.the-variants.{TableNotSound, FrameShort, CommandWrong, CodeNotListed, LengthWrong, NoRoom, PositionWrong, CountWrong, CodeCleared, NeitherRight}
 use Rattle.refusals.specs.Numbers.{numberOf}
-use Rattle.refusals.specs.Order.{Row, Passed}
 use Rattle.wire.proofs.Order.{length-writePayloads}
 use Rattle.records.specs.declared.commands.Command.{Command}
 use Rattle.records.specs.declared.commands.Command.the-variants.{Reads, Writes, Bares, Unlisted}
