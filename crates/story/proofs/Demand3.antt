@@ -13,7 +13,7 @@ use native.Mathlib.Omega.{arith}
 use lib.Dec.{lit≤}
 use lib.IntN.{ℤ}
 use lib.ListN.{length, drop, replicate}
-use Rattle.laws.specs.Rows.{rows, rowAt, joined}
+use Rattle.laws.specs.Rows.{rows, rowAt}
 use Rattle.wire.specs.Order.{replyData}
 use Rattle.refusals.specs.declared.Refusal.{Refusal}
 use Rattle.refusals.specs.declared.Refusal.the-variants.{TableNotSound}
@@ -24,7 +24,7 @@ use Rattle.records.specs.declared.commands.Command.the-variants.{Reads, Bares}
 use Rattle.records.specs.declared.record.Part.{Part}
 use Rattle.records.specs.Record.{cellCount, cells, snapshot, recordSize, snapped, bytesOf as partOf}
 use Rattle.monitor.specs.Spares.{Spares}
-use Rattle.records.specs.Commands.{rdcva, rdcvb, rdcvc, rdcvd, rdcve, rdcvf, mostMonitors, payloadSize}
+use Rattle.records.specs.Commands.{mostMonitors, payloadSize}
 use Rattle.reads.specs.Shown.{ofCells, shownCells}
 use Rattle.reads.specs.Reply.{sixBytes, sixIn, reply}
 use Rattle.chain.specs.declared.frames.Answer.the-variants.{Refused, Accepted}
@@ -53,8 +53,8 @@ use Rattle.clock_state.specs.State.{stateSize, idle}
 use Rattle.clocking.specs.Bytes.{clockOf, stateAfter}
 use Rattle.clocking.proofs.View.{view}
 use Rattle.clocked.proofs.Whole.{released-read}
-use Rattle.story.specs.Runs.{Event, Frame, Store, Compare, Seen, StoreAnswered, CompareAnswered, Left, saw, Step, ruleRefusals, byRules, byFrames, stateAfterAll, cameBack, byBytes, Engine, WholeFrames, ClockedBytes, Ready, by}
-use Rattle.story.specs.Snapshots.{Without, replyAt, shownAt, shownBehind, ReadIn}
+use Rattle.story.specs.Runs.{Event, Frame, Store, Compare, StoreAnswered, CompareAnswered, Left, saw, Step, ruleRefusals, byRules, byFrames, stateAfterAll, cameBack, byBytes, Engine, WholeFrames, ClockedBytes, Ready, by}
+use Rattle.story.specs.Snapshots.{Without, replyAt, shownAt, shownBehind, ReadIn, LongRead, longShown}
 use Rattle.story.proofs.Along.{rules-keep, bare-passes, ruled-frame}
 use Rattle.story.proofs.OneMoment.{lent-read, frozen-read, one-moment, behind-front, no-unsnap, live-read, cells-left}
 use Rattle.story.proofs.ByteFour.{only-byte-four, at-byte-four, noted-stays, another-n}
@@ -98,18 +98,8 @@ pub record Demand3 : Type 0 where
   -- else, together show of every monitor the cells as they stood at the SNAP, and where its SNAP_ST was set the copy that was there; FF in register F's
   -- last four
   one-moment : (engine : Engine) (table snap : List ℕ) → Ready engine table → Passed (ruleRefusals table snap) → commandIn snap ≡ Bares Snap
-      → (events : List Event) (a : ReadIn Unsnap events table rdcva) (b : ReadIn Unsnap events table rdcvb) (c : ReadIn Unsnap events table rdcvc)
-      (d : ReadIn Unsnap events table rdcvd) (e : ReadIn Unsnap events table rdcve) (f : ReadIn Unsnap events table rdcvf) → (k : ℕ) → k < monitors table
-      → let seen = by engine table (Frame snap ∷ events) .seen in
-      joined
-      (shownBehind (a .before) k seen
-      ∷ shownBehind (b .before) k seen
-      ∷ shownBehind (c .before) k seen
-      ∷ shownBehind (d .before) k seen
-      ∷ shownBehind (e .before) k seen
-      ∷ shownBehind (f .before) k seen
-      ∷ [])
-      ≡ shownCells (rowAt recordSize k table) ++ replicate 4 0xFF
+      → (events : List Event) (reads : LongRead events table) (k : ℕ) → k < monitors table
+      → longShown reads k (by engine table (Frame snap ∷ events) .seen) ≡ shownCells (rowAt recordSize k table) ++ replicate 4 0xFF
   -- and each of them, however often it stands there, its own part
   frozen-read : (engine : Engine) (table snap : List ℕ) → Ready engine table → Passed (ruleRefusals table snap) → commandIn snap ≡ Bares Snap
       → (events : List Event) (p : Part) → ofCells p ≡ true → (read : ReadIn Unsnap events table p) → (k : ℕ) → k < monitors table
@@ -308,19 +298,8 @@ demand-3 =
       load-refused = refused-by-rules;
       mute = mute-by;
       unmute = λ engine table first second ready. unmute-by engine table first ready second;
-      one-moment = λ engine table snap ready passed its events a b c d e f k h.
-          subst⁻¹
-          (λ (seen : List Seen).
-          joined
-          (shownBehind (a .before) k seen
-          ∷ shownBehind (b .before) k seen
-          ∷ shownBehind (c .before) k seen
-          ∷ shownBehind (d .before) k seen
-          ∷ shownBehind (e .before) k seen
-          ∷ shownBehind (f .before) k seen
-          ∷ [])
-          ≡ shownCells (rowAt recordSize k table) ++ replicate 4 0xFF)
-          (seen-by engine table snap ready (Frame snap ∷ events)) (one-moment table snap passed its k h events a b c d e f);
+      one-moment = λ engine table snap ready passed its events reads k h.
+          ap (longShown reads k) (seen-by engine table snap ready (Frame snap ∷ events)) ∙ one-moment table snap passed its k h events reads;
       frozen-read = frozen-by;
       lent-read = λ engine table ready s k h on events p of-them read.
           ap (λ (left : Left). shownAt k (replyAt (length (read .before)) (left .seen))) (either-by-rules engine table events ready)

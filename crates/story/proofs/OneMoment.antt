@@ -27,7 +27,7 @@ use Rattle.judging.specs.Table.{monitors, sound}
 use Rattle.judging.specs.Refusals.{commandIn}
 use Rattle.judging.proofs.Keeps.{Keeps, stays}
 use Rattle.story.specs.Runs.{Event, Frame, ruleRefusals, byRules}
-use Rattle.story.specs.Snapshots.{snappedBy, snappedAfter, Without, replyAt, shownAt, shownBehind, ReadIn}
+use Rattle.story.specs.Snapshots.{snappedBy, snappedAfter, Without, replyAt, shownAt, shownBehind, ReadIn, LongRead, longShown}
 use Rattle.chain.specs.Frame.{frameRefusals}
 use Rattle.story.proofs.Accepted.{frame-sound, kept-table, eightAt, record-at, kept-at}
 use Rattle.story.proofs.Along.{judged-alike, rules-keep, bare-passes, ruled-frame, read-shows, along-run, seen-there, without-both}
@@ -185,28 +185,17 @@ module _ (table snap : List ℕ) (passed : Passed (ruleRefusals table snap)) (it
         ∙ shows-its-part p (now (read .before) (read .quiet)) of-them
         ∙ ap (sixIn p) (still-shown (read .before) (read .quiet))
 
-    pub one-moment : (a : ReadIn Unsnap events table rdcva) (b : ReadIn Unsnap events table rdcvb) (c : ReadIn Unsnap events table rdcvc)
-        (d : ReadIn Unsnap events table rdcvd) (e : ReadIn Unsnap events table rdcve) (f : ReadIn Unsnap events table rdcvf)
-        → let seen = byRules table (Frame snap ∷ events) .seen in
-        joined
-        (shownBehind (a .before) k seen
-        ∷ shownBehind (b .before) k seen
-        ∷ shownBehind (c .before) k seen
-        ∷ shownBehind (d .before) k seen
-        ∷ shownBehind (e .before) k seen
-        ∷ shownBehind (f .before) k seen
-        ∷ [])
-        ≡ frozen ++ replicate 4 0xFF
+    pub one-moment : (reads : LongRead events table) → longShown reads k (byRules table (Frame snap ∷ events) .seen) ≡ frozen ++ replicate 4 0xFF
     unfolding joined
-    one-moment a b c d e f =
+    one-moment reads =
         (λ j.
         joined
-        (frozen-read rdcva refl a j
-        ∷ frozen-read rdcvb refl b j
-        ∷ frozen-read rdcvc refl c j
-        ∷ frozen-read rdcvd refl d j
-        ∷ frozen-read rdcve refl e j
-        ∷ frozen-read rdcvf refl f j
+        (frozen-read rdcva refl (reads .a) j
+        ∷ frozen-read rdcvb refl (reads .b) j
+        ∷ frozen-read rdcvc refl (reads .c) j
+        ∷ frozen-read rdcvd refl (reads .d) j
+        ∷ frozen-read rdcve refl (reads .e) j
+        ∷ frozen-read rdcvf refl (reads .f) j
         ∷ []))
         ∙ together frozen (length-shown (rowAt recordSize k table) (row-whole Snap table snap passed its k h))
 

@@ -5,7 +5,7 @@ use mathlib.Core.Bool.{Bool, true, false}
 use mathlib.Core.List.{List, [], _∷_, _++_}
 use Prim.Native.Nat.{ℕ, zero, suc}
 use lib.ListN.{length, take}
-use Rattle.laws.specs.Rows.{rowAt}
+use Rattle.laws.specs.Rows.{rowAt, joined}
 use Rattle.pec.specs.Words.{commandRight}
 use Rattle.refusals.specs.Order.{Passed}
 use Rattle.records.specs.declared.commands.Bare.{Bare}
@@ -13,7 +13,7 @@ use Rattle.records.specs.declared.commands.Bare.the-variants.{Mute, Unmute, Rst
 use Rattle.records.specs.declared.commands.Command.{Command}
 use Rattle.records.specs.declared.commands.Command.the-variants.{Reads, Writes, Bares, Unlisted}
 use Rattle.records.specs.declared.record.Part.{Part}
-use Rattle.records.specs.Commands.{payloadSize}
+use Rattle.records.specs.Commands.{rdcva, rdcvb, rdcvc, rdcvd, rdcve, rdcvf, payloadSize}
 use Rattle.judging.specs.Refusals.{commandIn}
 use Rattle.host.specs.Frames.{dataSize}
 use Rattle.story.specs.Runs.{Event, Frame, Store, Compare, Seen, Answered, StoreAnswered, CompareAnswered, ruleRefusals}
@@ -79,3 +79,24 @@ pub record ReadIn (c : Bare) (events : List Event) (table : List ℕ) (p : Part)
   pub quiet : Without c before
   pub accepted : Passed (ruleRefusals table frame)
   pub its : commandIn frame ≡ Reads p
+
+-- a long read: the six cell reads, each somewhere in a list of events, with no UNSNAP before it
+pub record LongRead (events : List Event) (table : List ℕ) : Type 0 where
+  pub a : ReadIn Unsnap events table rdcva
+  pub b : ReadIn Unsnap events table rdcvb
+  pub c : ReadIn Unsnap events table rdcvc
+  pub d : ReadIn Unsnap events table rdcvd
+  pub e : ReadIn Unsnap events table rdcve
+  pub f : ReadIn Unsnap events table rdcvf
+
+-- and what the monitor at k shows in it, from cell 1 on
+abbrev pub longShown : {events : List Event} {table : List ℕ} → LongRead events table → ℕ → List Seen → List ℕ
+longShown reads k seen =
+    joined
+    (shownBehind (reads .a .before) k seen
+    ∷ shownBehind (reads .b .before) k seen
+    ∷ shownBehind (reads .c .before) k seen
+    ∷ shownBehind (reads .d .before) k seen
+    ∷ shownBehind (reads .e .before) k seen
+    ∷ shownBehind (reads .f .before) k seen
+    ∷ [])

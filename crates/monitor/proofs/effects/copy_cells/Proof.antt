@@ -36,37 +36,10 @@ Inv-loop rec₀ i₀ rec i = Making (cell rec₀) (snapshot .at) (snapshot .size
 abbrev μ-loop : tie.MeasureT-loop
 μ-loop rec₀ i₀ rec i = 32 - i
 
-loop-holds : tie.Need-loop-holds Inv-loop μ-loop
-loop-holds c = making-start _ _ _ _
-
-add-rec : tie.Need-add-rec Inv-loop μ-loop
-add-rec c = omega arith
-
-slice-read-rec : tie.Need-slice-read-rec Inv-loop μ-loop
-slice-read-rec c = omega arith
-
-add-rec-2 : tie.Need-add-rec-2 Inv-loop μ-loop
-add-rec-2 c = omega arith
-
-slice-write-rec : tie.Need-slice-write-rec Inv-loop μ-loop
-slice-write-rec c = omega arith
-
-add-i : tie.Need-add-i Inv-loop μ-loop
-add-i c = omega arith
-
-loop-less : tie.Need-loop-less Inv-loop μ-loop
-loop-less c = omega arith
-
 loop-again : tie.Need-loop-again Inv-loop μ-loop
 loop-again c =
     let l = c .before .before .loop in
     making-more _ _ _ _ (l .inv) (c .before .loop-test .taken) (still _ _ (l .i) (l .inv) (c .before .loop-test .taken))
-
-slice-read-rec-2 : tie.Need-slice-read-rec-2 Inv-loop μ-loop
-slice-read-rec-2 c = omega arith
-
-slice-write-rec-2 : tie.Need-slice-write-rec-2 Inv-loop μ-loop
-slice-write-rec-2 c = omega arith
 
 same-length : tie.Need-same-length Inv-loop μ-loop
 same-length c = length-set (c .before .before .loop .rec) (statusBits .at) _ ∙ c .before .before .loop .inv .size
@@ -83,18 +56,5 @@ returns c = set-anew _ ∙ ap (onBytes statusBits (λ i old. bitOr old 0x20)) (a
 pub copy-cells-spec : {M : Type 1} → statement M
 copy-cells-spec =
     tie.close
-    (tie.spec
-    Inv-loop
-    μ-loop
-    loop-holds
-    add-rec
-    slice-read-rec
-    add-rec-2
-    slice-write-rec
-    add-i
-    loop-less
-    loop-again
-    slice-read-rec-2
-    slice-write-rec-2
-    same-length
-    returns)
+    (tie.spec Inv-loop μ-loop (λ c. making-start _ _ _ _) (λ c. omega arith) (λ c. omega arith) (λ c. omega arith) (λ c. omega arith) (λ c. omega arith)
+    (λ c. omega arith) loop-again (λ c. omega arith) (λ c. omega arith) same-length returns)

@@ -8,49 +8,13 @@ use borrow.Author.Needs.{needs}
 use Rattle.reads.proofs.replies.part_bytes.Statement.{statement}
 use Rattle.reads.proofs.replies.part_bytes.Tie as tie
 
-cast-at : tie.Need-cast-at
-cast-at c = search needs
-
-cast-size : tie.Need-cast-size
-cast-size c = search needs
-
-sub-if3 : tie.Need-sub-if3
-sub-if3 c = search needs
-
-sub-six-of : tie.Need-sub-six-of
-sub-six-of c = search needs
-
-part-six-of-start : tie.Need-part-six-of-start
-part-six-of-start c = search needs
-
-part-six-of-end : tie.Need-part-six-of-end
-part-six-of-end c = search needs
-
-six-of-requires : tie.Need-six-of-requires
-six-of-requires c κs = search needs
-
 returns : tie.Need-returns
 returns c =
     let a = c .before .before .before .before .before .before .before .before .args in
     c .six-of .ensures ∙ shows-whole (a .part) (a .rec .now) (omega arith) (omega arith)
 
-shown-bytes-requires : tie.Need-shown-bytes-requires
-shown-bytes-requires c κs = search needs
-
-returns-2 : tie.Need-returns-2
-returns-2 c = search needs
-
 pub part-bytes-spec : {M : Type 1} → statement M
 part-bytes-spec =
     tie.close
-    (tie.spec
-    cast-at
-    cast-size
-    sub-if3
-    sub-six-of
-    part-six-of-start
-    part-six-of-end
-    six-of-requires
-    returns
-    shown-bytes-requires
-    returns-2)
+    (tie.spec (λ c. search needs) (λ c. search needs) (λ c. search needs) (λ c. search needs) (λ c. search needs) (λ c. search needs) (λ c κs. search needs)
+    returns (λ c κs. search needs) (λ c. search needs))
