@@ -1,6 +1,6 @@
 //! Section 2: whole frames, a load, and the question of discharge.
 
-use crate::inputs::{Frames, Random, COUNTER, INPUTS, RECORD, SIZES};
+use crate::inputs::{snapped, Frames, Random, COUNTER, INPUTS, RECORD, SIZES};
 use crate::sides::Side;
 use crate::table::{row, table, Goal};
 use crate::work::{self, timed};
@@ -19,6 +19,7 @@ pub fn whole(sides: &[Side], names: &[&str], random: &mut Random) {
         };
         add("write (WRCFGB)", &lent, &frames.writes);
         add("read (RDCVA)", &lent, &frames.reads);
+        add("read in a snapshot", &snapped(&lent), &frames.reads);
         add("16 commands in turn", &lent, &frames.mixed);
         add("SNAP and UNSNAP in turn", &lent, &frames.snaps);
         add("refused, 1: last record", &unsound, &frames.writes);

@@ -54,7 +54,7 @@ impl Random {
         table
     }
 
-    /// One without a snapshot, as tables are timed: cell reads show the live cells of every monitor.
+    /// One without a snapshot, as most tables are timed: cell reads show the live cells of every monitor.
     pub fn live_table(&mut self, n: usize) -> Vec<u8> {
         let mut table = self.sound_table(n);
         for record in table.chunks_mut(RECORD) {
@@ -62,6 +62,16 @@ impl Random {
         }
         table
     }
+
+}
+
+/// The same table with a snapshot on in every monitor: cell reads show the copies.
+pub fn snapped(table: &[u8]) -> Vec<u8> {
+    let mut table = table.to_vec();
+    for record in table.chunks_mut(RECORD) {
+        record[5] |= SNAP_ST;
+    }
+    table
 }
 
 /// How many value bytes the host needs for a command.

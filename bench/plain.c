@@ -278,7 +278,7 @@ static void take_bare(uint8_t *table, size_t n, uint16_t code)
 }
 
 /* While SNAP_ST is set the cells are shown by their copy. Two places to seal from, since one that is picked by byte 5 makes each payload
- * wait for that byte, which takes a tenth longer. */
+ * wait for that byte. */
 static inline void read_out(const uint8_t *table, size_t n, uint16_t code, uint8_t at, uint8_t *reply)
 {
     bool cells = at >= CELLS && at < CELLS + CELL_BYTES;

@@ -46,10 +46,12 @@ enum {
 };
 
 /* ---- the chain: a table of N records, nearest monitor first, each laid out as document 01 has it, with more behind its byte 69: the groups
- * PWM A and PWM B of six bytes each, and then the copy of the cells, 32 bytes. WRPWMB stores two bytes of its six and makes the other four FF;
- * until then they are as they were lent. SNAP copies the cells and sets SNAP_ST (byte 5, bit 5), and where that is set it changes neither;
- * UNSNAP clears it. While it is set RDCVA to RDCVF show the copy, also one that was lent so; every other read, stores, compares and CLRCELL go
- * by the live record. Zero bytes are a sound table */
+ * PWM A and PWM B of six bytes each, and then the copy of the cells, 32 bytes. Zero bytes are a sound table.
+ * WRPWMB stores two bytes of its six and makes the other four FF; until then they are as they were lent.
+ * SNAP (002D) copies the cells and sets SNAP_ST (byte 5, bit 5), so that a read in several frames shows one moment; where it is set already
+ * SNAP changes neither. UNSNAP (002F) clears it. While SNAP_ST is set, also in a record that was lent so, RDCVA to RDCVF show the copy, and
+ * everything else goes by the live record: every other read, stores, compares, loads, CLRCELL. The sheet freezes bytes of status C and D too;
+ * this chain does not */
 
 /* The bytes of one monitor's record. */
 #define OSK_RECORD_SIZE 114

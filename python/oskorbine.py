@@ -310,9 +310,10 @@ def osk_frame(table: Writable, frame: Readable, reply: Writable) -> Answer:
     `reply`, and bytes past it stay.
 
     A snapshot is for a long read of one moment: the cells are read by six frames, and codes stored between two of them are of another.
-    SNAP (002D) copies each monitor's cells to the last 32 bytes of its record and sets SNAP_ST (byte 5, bit 5). While that is set RDCVA to
-    RDCVF show the copy, also one that was lent so, and a further SNAP leaves it; every other read, stores, compares and CLRCELL go by the
-    live record. UNSNAP (002F) clears SNAP_ST, and the reads show the live cells again.
+    SNAP (002D) copies each monitor's cells to the last 32 bytes of its record and sets SNAP_ST (byte 5, bit 5). While that is set, also in a
+    record that was lent so, RDCVA to RDCVF show the copy, and a further SNAP leaves it; everything else goes by the live record: every other
+    read, stores, compares, loads and CLRCELL. UNSNAP (002F) clears SNAP_ST, and the reads show the live cells again. The sheet freezes bytes of
+    status C and D too; this chain does not.
 
     First: how many monitors took the frame: N for a read, a bare command or a WRRR, and for any other write as many as found the data PEC
     of their own eight bytes right. A WRRR is executed whatever its data PEC: every monitor takes and counts it, stores its own six bytes
@@ -344,7 +345,7 @@ def osk_compare(table: Writable, position: int) -> Answer:
 
 def osk_load(table: Writable, position: int, codes: Codes) -> Answer:
     """Loads 16 codes of 150 microvolts into the monitor at a position, 1 to N: osk_store and, where that is accepted, osk_compare in one
-    call.
+    call. In a snapshot too: the flags show at once, the codes after UNSNAP.
 
     No values. Refusals: 1, 7, 8, 9.
     """

@@ -58,7 +58,7 @@ fn wanted(c: Case, before: Bytes) -> Bytes {
     if c.sizes / 100_000 % 10 == 3 {
         bytes::put(
             &mut registers,
-            TWO - 32,
+            114 + 82,
             b"\x99\x9a\x9b\x9c\x9d\x9e\x9f\xa0\xa1\xa2\xa3\xa4\xa5\xa6\xa7\xa8\
             \xa9\xaa\xab\xac\xad\xae\xaf\xb0\xb1\xb2\xb3\xb4\xb5\xb6\xb7\xb8",
         );

@@ -315,7 +315,7 @@ const ROWS: [u64; 702] = [
     0,
     0x2122_2324_2526_2728,
     0x8d8e_8f90_91b2_9394,
-    // SNAP, after SNAP and CLRCELL: nothing but the count
+    // SNAP, after SNAP and CLRCELL: it counts, and nothing is copied
     0x002d_d2a2_0800_0c00,
     19_02_004_020_0_02_0_00_08_6,
     0,

@@ -153,7 +153,7 @@ pub(crate) fn words(k: u64, a: u64, b: u64, c: u64, d: u64) {
     |: cells #, lowest @, highest @, total @\
     |discharge outputs\n\
     |: on #;\
-    |snapshots, of which monitor 1 is lent one\n\
+    |snapshots; monitor 1 is lent with one on\n\
     |code -10000\
     |: microvolts 0\
     |code 0\

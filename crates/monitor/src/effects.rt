@@ -1,8 +1,9 @@
 // What one monitor keeps of an accepted command and its own eight bytes.
 ghost use mathlib.Core.Path.{_≡_};
 ghost use mathlib.Core.Bool.{cond, _&&_};
-ghost use lib.ListN.{length};
-ghost use Rattle.records.specs.Record.{recordSize, isRecord};
+ghost use lib.Bits.{bitAnd};
+ghost use lib.ListN.{length, getD, set};
+ghost use Rattle.records.specs.Record.{statusBits, recordSize, isRecord};
 ghost use Rattle.monitor.specs.Effects.{locked, nextCount, counted, copied, done, goodFor, takes, keeps};
 use records::Bare;
 use records::CELLS;
@@ -82,6 +83,14 @@ fn snap(rec: &mut [u8])
     copy_cells(rec);
 }
 
+// A snapshot ends: the copy stays, and is no longer shown.
+fn unsnap(rec: &mut [u8])
+    requires { ⌜ length (now rec) ≡ recordSize ⌝ }
+    ensures { λ _. ⌜ now (rec .exit) ≡ set (now (rec .entry)) (statusBits .at) (bitAnd (getD (now (rec .entry)) (statusBits .at) 0) 0xDF) ⌝ }
+{
+    rec[STATUS_BITS] = rec[STATUS_BITS] & 0xdf;
+}
+
 // A bare command at one monitor: counted and done.
 fn act_bare(what: Bare, rec: &mut [u8])
     requires { ⌜ length (now rec) ≡ recordSize ⌝ }
@@ -95,7 +104,7 @@ fn act_bare(what: Bare, rec: &mut [u8])
         Bare::Ulrr => rec[UNLOCKED] = 1,
         Bare::Clrcell => clear_cells(rec),
         Bare::Snap => snap(rec),
-        Bare::Unsnap => rec[STATUS_BITS] = rec[STATUS_BITS] & 0xdf,
+        Bare::Unsnap => unsnap(rec),
     }
 }
 

@@ -152,35 +152,6 @@ pub record Demand2 : Type 0 where
       → (partOf pwmA (keeps c eight r) ≡ partOf pwmA r) × (partOf pwmB (keeps c eight r) ≡ partOf pwmB r)
   pwm-a-stays : (eight r : List ℕ) → partOf pwmA (keeps (Writes Wrpwmb) eight r) ≡ partOf pwmA r
   pwm-b-stays : (eight r : List ℕ) → partOf pwmB (keeps (Writes Wrpwma) eight r) ≡ partOf pwmB r
-  -- ---- a snapshot
-
-  -- the copy of the cells is as long as they are, and the record's last part
-  copy-long : snapshot .size ≡ cells .size
-  copy-last : snapshot .at + snapshot .size ≡ recordSize
-  -- SNAP where SNAP_ST, bit 5 of its byte, is clear: the copy becomes what the cells are, and SNAP_ST is set; where it is set, nothing but the
-  -- count. UNSNAP clears it. No more of the record changes: not the live cells, and at UNSNAP not the copy
-  snap-st-at : (r : List ℕ) → snapped r ≡ bitAt 5 (getD r (statusBits .at) 0)
-  snap-takes : (eight r : List ℕ) → length r ≡ recordSize → snapped r ≡ false
-      → keeps (Bares Snap) eight r ≡ onBytes statusBits (λ i old. bitOr old 0x20) (onBytes snapshot (λ i old. getD (partOf cells r) i 0) (counted (locked r)))
-  snap-again : (eight r : List ℕ) → length r ≡ recordSize → snapped r ≡ true → keeps (Bares Snap) eight r ≡ counted (locked r)
-  unsnap : (eight r : List ℕ) → keeps (Bares Unsnap) eight r ≡ onBytes statusBits (λ i old. bitAnd old 0xDF) (counted (locked r))
-  -- so SNAP_ST after each command; the copy after SNAP, which is what the cell reads showed before it, and after every other command
-  snap-st : (eight r : List ℕ) → length r ≡ recordSize → (c : Command) → snapped (keeps c eight r) ≡ snappedAfter c (snapped r)
-  snap-copies : (eight r : List ℕ) → length r ≡ recordSize → partOf snapshot (keeps (Bares Snap) eight r) ≡ shownCells r
-  copy-stays : (c : Command) (eight r : List ℕ) → (c ≡ Bares Snap → ⊥) → partOf snapshot (keeps c eight r) ≡ partOf snapshot r
-  -- no read shows another register for a SNAP where SNAP_ST was set
-  snap-again-shows : (eight r : List ℕ) → length r ≡ recordSize → snapped r ≡ true → (p : Part) → Apart p unlocked → Apart p counter
-      → register p (keeps (Bares Snap) eight r) ≡ register p r
-  -- a store and a compare leave both
-  store-snap : (codes : List ℤ) (r : List ℕ) → (snapped (store codes r) ≡ snapped r) × (partOf snapshot (store codes r) ≡ partOf snapshot r)
-  compare-snap : (r : List ℕ) → (snapped (compare r) ≡ snapped r) × (partOf snapshot (compare r) ≡ partOf snapshot r)
-  -- the six cell reads together show the copy where SNAP_ST is set, however it came to be so, and the live cells where it is not; and FF in the last
-  -- four bytes of register F. Every other read, status C and D included, shows its part as it lies
-  cell-reads : cellReads ≡ rdcva ∷ rdcvb ∷ rdcvc ∷ rdcvd ∷ rdcve ∷ rdcvf ∷ []
-  shown-cells : (r : List ℕ) → shownCells r ≡ cond (snapped r) (partOf snapshot r) (partOf cells r)
-  cells-shown : (r : List ℕ) → length r ≡ recordSize → joined (map (λ p. register p r) cellReads) ≡ shownCells r ++ replicate 4 0xFF
-  other-shown : (p : Part) (r : List ℕ) → ofCells p ≡ false → register p r ≡ sixBytes p r
-  the-others : map ofCells (rdcfga ∷ rdcfgb ∷ rdstatc ∷ rdstatd ∷ rdsid ∷ rdrr ∷ rdpwma ∷ rdpwmb ∷ []) ≡ replicate 8 false
   -- a sound table stays sound, with its N monitors
   stays-sound : (table frame : List ℕ) (room : ℕ) → sound table ≡ true → Keeps table (tableAfter table frame room)
   -- every monitor replies in its own place, nearest first, and the bytes past the reply stay
@@ -195,6 +166,35 @@ pub record Demand2 : Type 0 where
   -- `reads::reply_of`: a reply holds the register and the counter as it stands, with a check over both that is right
   reply-holds : (part : Part) (r : List ℕ) → reply part r ≡ register part r ++ seal (register part r) (byteOf counter r)
   reply-is-right : (part : Part) (r : List ℕ) → payloadRight (reply part r) ≡ true
+  -- ---- a snapshot
+
+  -- the copy of the cells is as long as they are, and the record's last part
+  copy-long : snapshot .size ≡ cells .size
+  copy-last : snapshot .at + snapshot .size ≡ recordSize
+  -- SNAP where SNAP_ST, bit 5 of its byte, is clear: the copy becomes what the cells are, and SNAP_ST is set; where it is set, no more than every bare
+  -- command does, which locks and counts. UNSNAP clears it. No more of the record changes: not the live cells, and at UNSNAP not the copy
+  snap-st-at : (r : List ℕ) → snapped r ≡ bitAt 5 (getD r (statusBits .at) 0)
+  snap-takes : (eight r : List ℕ) → snapped r ≡ false
+      → keeps (Bares Snap) eight r ≡ onBytes statusBits (λ i old. bitOr old 0x20) (onBytes snapshot (λ i old. getD (partOf cells r) i 0) (counted (locked r)))
+  snap-again : (eight r : List ℕ) → snapped r ≡ true → keeps (Bares Snap) eight r ≡ counted (locked r)
+  unsnap : (eight r : List ℕ) → keeps (Bares Unsnap) eight r ≡ onBytes statusBits (λ i old. bitAnd old 0xDF) (counted (locked r))
+  -- so SNAP_ST after each command; the copy after SNAP, which is what the cell reads showed before it, and after every other command
+  snap-st : (eight r : List ℕ) → length r ≡ recordSize → (c : Command) → snapped (keeps c eight r) ≡ snappedAfter c (snapped r)
+  snap-copies : (eight r : List ℕ) → length r ≡ recordSize → partOf snapshot (keeps (Bares Snap) eight r) ≡ shownCells r
+  copy-stays : (c : Command) (eight r : List ℕ) → (c ≡ Bares Snap → ⊥) → partOf snapshot (keeps c eight r) ≡ partOf snapshot r
+  -- no read shows another register for a SNAP where SNAP_ST was set
+  snap-again-shows : (eight r : List ℕ) → snapped r ≡ true → (p : Part) → Apart p unlocked → Apart p counter
+      → register p (keeps (Bares Snap) eight r) ≡ register p r
+  -- a store and a compare leave both
+  store-snap : (codes : List ℤ) (r : List ℕ) → (snapped (store codes r) ≡ snapped r) × (partOf snapshot (store codes r) ≡ partOf snapshot r)
+  compare-snap : (r : List ℕ) → (snapped (compare r) ≡ snapped r) × (partOf snapshot (compare r) ≡ partOf snapshot r)
+  -- the six cell reads together show the copy where SNAP_ST is set, however it came to be so, and the live cells where it is not; and FF in the last
+  -- four bytes of register F. Every other read, status C and D included, shows its part as it lies
+  cell-reads : cellReads ≡ rdcva ∷ rdcvb ∷ rdcvc ∷ rdcvd ∷ rdcve ∷ rdcvf ∷ []
+  shown-cells : (r : List ℕ) → shownCells r ≡ cond (snapped r) (partOf snapshot r) (partOf cells r)
+  cells-shown : (r : List ℕ) → length r ≡ recordSize → joined (map (λ p. register p r) cellReads) ≡ shownCells r ++ replicate 4 0xFF
+  other-shown : (p : Part) (r : List ℕ) → ofCells p ≡ false → register p r ≡ sixBytes p r
+  the-others : map ofCells (rdcfga ∷ rdcfgb ∷ rdstatc ∷ rdstatd ∷ rdsid ∷ rdrr ∷ rdpwma ∷ rdpwmb ∷ []) ≡ replicate 8 false
   -- ---- readings: `loads::store`, `loads::compare` and `loads::load`
 
   -- the exact refusals, in their order; a load's are its store's

@@ -105,7 +105,7 @@ pub record Demand3 : Type 0 where
       → (events : List Event) (p : Part) → ofCells p ≡ true → (read : ReadIn Unsnap events table p) → (k : ℕ) → k < monitors table
       → shownBehind (read .before) k (by engine table (Frame snap ∷ events) .seen) ≡ sixIn p (shownCells (rowAt recordSize k table))
   -- so of a snapshot that was lent, without a SNAP
-  lent-read : (engine : Engine) (table : List ℕ) → Ready engine table → sound table ≡ true → (k : ℕ) → k < monitors table → snapped (rowAt recordSize k table) ≡ true
+  lent-read : (engine : Engine) (table : List ℕ) → Ready engine table → (k : ℕ) → k < monitors table → snapped (rowAt recordSize k table) ≡ true
       → (events : List Event) (p : Part) → ofCells p ≡ true → (read : ReadIn Unsnap events table p)
       → shownAt k (replyAt (length (read .before)) (by engine table events .seen)) ≡ sixIn p (partOf snapshot (rowAt recordSize k table))
   -- a second SNAP in between changes no cell read: the same one, with it and without. (Of another read it may: it locks the retention, so that a WRRR
@@ -115,7 +115,8 @@ pub record Demand3 : Type 0 where
       → (read : ReadIn Unsnap rest table p) → (k : ℕ) → k < monitors table
       → shownBehind (front ++ Frame second ∷ read .before) k (by engine table (Frame snap ∷ front ++ Frame second ∷ rest) .seen)
       ≡ shownBehind (front ++ read .before) k (by engine table (Frame snap ∷ front ++ rest) .seen)
-  -- after an UNSNAP, and with no SNAP before it, a read shows its part of the record as it then is: of the cells the live ones
+  -- after an UNSNAP, and with no SNAP between it and the read, a read shows its part of the record as it then is: of the cells the live ones. (A run that
+  -- goes on with an UNSNAP is one that begins with it, from the table that the events before it leave)
   live-read : (engine : Engine) (table unsnap : List ℕ) → Ready engine table → Passed (ruleRefusals table unsnap) → commandIn unsnap ≡ Bares Unsnap
       → (events : List Event) (p : Part) (read : ReadIn Snap events table p) → (k : ℕ) → k < monitors table
       → shownBehind (read .before) k (by engine table (Frame unsnap ∷ events) .seen)
@@ -301,9 +302,9 @@ demand-3 =
       one-moment = λ engine table snap ready passed its events reads k h.
           ap (longShown reads k) (seen-by engine table snap ready (Frame snap ∷ events)) ∙ one-moment table snap passed its k h events reads;
       frozen-read = frozen-by;
-      lent-read = λ engine table ready s k h on events p of-them read.
+      lent-read = λ engine table ready k h on events p of-them read.
           ap (λ (left : Left). shownAt k (replyAt (length (read .before)) (left .seen))) (either-by-rules engine table events ready)
-          ∙ lent-read table s k h on events p of-them read;
+          ∙ lent-read table k h on events p of-them read;
       second-snap = λ engine table snap ready passed its front rest second quiet its-too p of-them read k h.
           frozen-by engine table snap ready passed its (front ++ Frame second ∷ rest) p of-them
           (behind-front front quiet (behind-front (Frame second ∷ []) (no-unsnap second its-too) read)) k h

@@ -8,6 +8,7 @@ use mathlib.Core.Bool.{Bool, true, false, cond, false≢true}
 use mathlib.Core.List.{List, [], _∷_, _++_, append-assoc}
 use Prim.Native.Nat.{ℕ, _<_}
 use lib.ListN.{length, replicate}
+use borrow.Author.Tests.{not-false}
 use Rattle.laws.specs.Rows.{rowAt, joined}
 use Rattle.refusals.specs.Order.{Passed}
 use Rattle.records.specs.declared.commands.Bare.{Bare}
@@ -103,16 +104,23 @@ module _ (table : List ℕ) (s : sound table ≡ true) (k : ℕ) (h : k < monito
       ∙ read-shows found (read .frame) p (subst⁻¹ Passed alike (read .accepted)) (read .its) k (subst⁻¹ (λ (n : ℕ). k < n) (kept .monitors-after) h)
 
   -- a snapshot that is on: its copy, whatever comes but an UNSNAP
-  pub lent-read : snapped (rowAt recordSize k table) ≡ true → (events : List Event) (p : Part) → ofCells p ≡ true → (read : ReadIn Unsnap events table p)
+  lent-by : snapped (rowAt recordSize k table) ≡ true → (events : List Event) (p : Part) → ofCells p ≡ true → (read : ReadIn Unsnap events table p)
       → shownAt k (replyAt (length (read .before)) (byRules table events .seen)) ≡ sixIn p (bytesOf snapshot (rowAt recordSize k table))
   unfolding shownCells
-  lent-read on events p of-them read =
+  lent-by on events p of-them read =
       let now = rowAt recordSize k (byRules table (read .before) .table) in
       let still = held-along table (read .before) (read .quiet) s k h .held on in
       reads-there Unsnap events table (stays table s) p read s
       ∙ shows-its-part p now of-them
       ∙ ap (λ (b : Bool). sixIn p (cond b (bytesOf snapshot now) (bytesOf cells now))) (still .0)
       ∙ ap (sixIn p) (still .1)
+
+-- that the table is sound the read's own refusals tell
+pub lent-read : (table : List ℕ) (k : ℕ) → k < monitors table → snapped (rowAt recordSize k table) ≡ true → (events : List Event) (p : Part) → ofCells p ≡ true
+    → (read : ReadIn Unsnap events table p)
+    → shownAt k (replyAt (length (read .before)) (byRules table events .seen)) ≡ sixIn p (bytesOf snapshot (rowAt recordSize k table))
+unfolding ruleRefusals
+lent-read table k h on events p of-them read = lent-by table (not-false (sound table) (read .accepted .0)) k h on events p of-them read
 
 -- ---- after an accepted bare command
 

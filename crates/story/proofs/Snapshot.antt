@@ -120,7 +120,7 @@ by-done Snap r whole = where-on (snapped r) refl
     where-on false e = copied-on r whole
 by-done Unsnap r whole = status-anew (λ i old. bitAnd old 0xDF) r whole ∙ bit-and 5 (byteOf statusBits r) 0xDF refl
 
-module _ (eight r : List ℕ) (whole : length r ≡ recordSize) where
+module _ (r : List ℕ) where
   by-locked : snapped (locked r) ≡ snapped r
   unfolding locked onBytes
   by-locked = snapped-elsewhere _ _ _ r (inr (lit≤ tt))
@@ -129,50 +129,49 @@ module _ (eight r : List ℕ) (whole : length r ≡ recordSize) where
   unfolding counted onBytes
   by-counted = snapped-elsewhere _ _ _ (locked r) (inr (lit≤ tt)) ∙ by-locked
 
+-- ---- SNAP, by whether SNAP_ST was set
+
+module _ (eight r : List ℕ) where
+  by-snap : {on : Bool} → snapped r ≡ on → keeps (Bares Snap) eight r ≡ cond on (counted (locked r)) (copied (counted (locked r)))
+  unfolding keeps done
+  by-snap e = ap (λ (on : Bool). cond on (counted (locked r)) (copied (counted (locked r)))) (by-counted r ∙ e)
+
+  pub snap-again : snapped r ≡ true → keeps (Bares Snap) eight r ≡ counted (locked r)
+  snap-again e = by-snap e
+
+  pub snap-takes : snapped r ≡ false
+      → keeps (Bares Snap) eight r ≡ onBytes statusBits (λ i old. bitOr old 0x20) (onBytes snapshot (λ i old. getD (bytesOf cells r) i 0) (counted (locked r)))
+  unfolding copied
+  snap-takes e =
+      by-snap e
+      ∙ ap (λ (bytes : List ℕ). onBytes statusBits (λ i old. bitOr old 0x20) (onBytes snapshot (λ i old. getD bytes i 0) (counted (locked r))))
+      (counted-spares cells r (inr (lit≤ tt)) (inr (lit≤ tt)))
+
+module _ (eight r : List ℕ) (whole : length r ≡ recordSize) where
   base-whole : length (counted (locked r)) ≡ recordSize
   base-whole = length-counted (locked r) ∙ length-locked r ∙ whole
 
   pub snap-st : (c : Command) → snapped (keeps c eight r) ≡ snappedAfter c (snapped r)
   unfolding keeps written
-  snap-st (Reads p) = by-locked
+  snap-st (Reads p) = by-locked r
   snap-st (Writes c) =
       either (goodFor c eight) _ (locked r)
       (either (opens (rulesOf c) (byteOf unlocked r)) (byRules (rulesOf c) eight (counted (locked r))) (counted (locked r))
-      (by-rules c eight (counted (locked r)) base-whole ∙ by-counted) by-counted)
-      by-locked
-  snap-st (Bares c) = by-done c (counted (locked r)) base-whole ∙ ap (snappedBy c) by-counted
+      (by-rules c eight (counted (locked r)) base-whole ∙ by-counted r) (by-counted r))
+      (by-locked r)
+  snap-st (Bares c) = by-done c (counted (locked r)) base-whole ∙ ap (snappedBy c) (by-counted r)
   snap-st Unlisted = refl
-
-  -- ---- SNAP
-
-  abbrev base : List ℕ
-  base = counted (locked r)
-
-  by-snap : {on : Bool} → snapped r ≡ on → keeps (Bares Snap) eight r ≡ cond on base (copied base)
-  unfolding keeps done
-  by-snap e = ap (λ (on : Bool). cond on base (copied base)) (by-counted ∙ e)
-
-  pub snap-again : snapped r ≡ true → keeps (Bares Snap) eight r ≡ base
-  snap-again e = by-snap e
-
-  pub snap-takes : snapped r ≡ false
-      → keeps (Bares Snap) eight r ≡ onBytes statusBits (λ i old. bitOr old 0x20) (onBytes snapshot (λ i old. getD (bytesOf cells r) i 0) base)
-  unfolding copied
-  snap-takes e =
-      by-snap e
-      ∙ ap (λ (bytes : List ℕ). onBytes statusBits (λ i old. bitOr old 0x20) (onBytes snapshot (λ i old. getD bytes i 0) base))
-      (counted-spares cells r (inr (lit≤ tt)) (inr (lit≤ tt)))
 
   -- ---- the copy
 
   -- SNAP leaves in it what the cell reads showed
   pub snap-copies : bytesOf snapshot (keeps (Bares Snap) eight r) ≡ shownCells r
   unfolding shownCells
-  snap-copies = ap (bytesOf snapshot) (by-snap refl) ∙ where-on (snapped r)
+  snap-copies = ap (bytesOf snapshot) (by-snap eight r refl) ∙ where-on (snapped r)
     where
-      where-on : (on : Bool) → bytesOf snapshot (cond on base (copied base)) ≡ cond on (bytesOf snapshot r) (bytesOf cells r)
+      where-on : (on : Bool) → bytesOf snapshot (cond on (counted (locked r)) (copied (counted (locked r)))) ≡ cond on (bytesOf snapshot r) (bytesOf cells r)
       where-on true = counted-spares snapshot r (inl (lit≤ tt)) (inl (lit≤ tt))
-      where-on false = copied-copy base base-whole ∙ counted-spares cells r (inr (lit≤ tt)) (inr (lit≤ tt))
+      where-on false = copied-copy (counted (locked r)) base-whole ∙ counted-spares cells r (inr (lit≤ tt)) (inr (lit≤ tt))
 
   -- while a snapshot is on no command changes it
   pub copy-kept : snapped r ≡ true → (c : Command) → bytesOf snapshot (keeps c eight r) ≡ bytesOf snapshot r
@@ -258,15 +257,15 @@ shows-as-it-lies p r other = ap (λ (q : Part). sixBytes q r) (shows-other p r o
 
 -- ---- a SNAP where SNAP_ST was set: every register is shown as it was
 
-module _ (eight r : List ℕ) (whole : length r ≡ recordSize) where
+module _ (eight r : List ℕ) where
   same-cells : shownCells (counted (locked r)) ≡ shownCells r
   unfolding shownCells
   same-cells j =
-      cond (by-counted eight r whole j) (counted-spares snapshot r (inl (lit≤ tt)) (inl (lit≤ tt)) j) (counted-spares cells r (inr (lit≤ tt)) (inr (lit≤ tt)) j)
+      cond (by-counted r j) (counted-spares snapshot r (inl (lit≤ tt)) (inl (lit≤ tt)) j) (counted-spares cells r (inr (lit≤ tt)) (inr (lit≤ tt)) j)
 
   pub snap-again-shows : snapped r ≡ true → (p : Part) → Apart p unlocked → Apart p counter → register p (keeps (Bares Snap) eight r) ≡ register p r
   unfolding sixBytes
-  snap-again-shows on p h k = ap (register p) (snap-again eight r whole on) ∙ where-cells (ofCells p) refl
+  snap-again-shows on p h k = ap (register p) (snap-again eight r on) ∙ where-cells (ofCells p) refl
     where
       where-cells : (its : Bool) → ofCells p ≡ its → register p (counted (locked r)) ≡ register p r
       where-cells true e = shows-its-part p (counted (locked r)) e ∙ ap (sixIn p) same-cells ∙ sym (shows-its-part p r e)

@@ -35,7 +35,7 @@ snappedAfter (Writes c) on = on
 snappedAfter (Bares c) on = snappedBy c on
 snappedAfter Unlisted on = on
 
--- ---- lists of events without a bare command
+-- ---- lists of events without some one bare command
 
 -- an event that is one: its four bytes, with their check right
 abbrev pub Is : Bare → Event → Type 0
@@ -69,7 +69,7 @@ shownAt k reply = take dataSize (rowAt payloadSize k reply)
 abbrev pub shownBehind : List Event → ℕ → List Seen → List ℕ
 shownBehind before k seen = shownAt k (replyAt (suc (length before)) seen)
 
--- a read of a part that stands in a list of events, without a bare command before it. It is accepted, by the table that the events begin with: what
+-- a read of a part that stands in a list of events, with no c before it. It is accepted, by the table that the events begin with: what
 -- is accepted of a frame goes by the table's soundness and its monitors alone, and both stay
 pub record ReadIn (c : Bare) (events : List Event) (table : List ℕ) (p : Part) : Type 0 where
   pub before : List Event

@@ -1,11 +1,21 @@
 -- `monitor::effects::act_bare` meets its contract: counted, and then done, command by command.
 -- Assumes nothing.
-use mathlib.Core.Path.{sym, ap₂, _∙_}
-use Rattle.records.specs.Record.{anew, onBytes}
+use mathlib.Core.Path.{_≡_, refl, sym, ap₂, _∙_}
+use mathlib.Core.List.{List}
+use Prim.Native.Nat.{ℕ}
+use lib.Bits.{bitAnd}
+use lib.ListN.{getD, set}
+use Rattle.records.specs.declared.commands.Bare.the-variants.{Unsnap}
+use Rattle.records.specs.Record.{statusBits, anew, onBytes}
 use Rattle.monitor.specs.Effects.{done}
 use borrow.Author.Needs.{needs}
 use Rattle.monitor.proofs.effects.act_bare.Statement.{statement}
 use Rattle.monitor.proofs.effects.act_bare.Tie as tie
+
+-- UNSNAP's one byte
+unsnapped : (r : List ℕ) → set r (statusBits .at) (bitAnd (getD r (statusBits .at) 0) 0xDF) ≡ done Unsnap r
+unfolding done onBytes anew
+unsnapped r = refl
 
 begin-requires : tie.Need-begin-requires
 begin-requires c κs = search needs
@@ -55,11 +65,8 @@ snap-requires c κs = search needs
 enum-told-7 : tie.Need-enum-told-7
 enum-told-7 c = search needs
 
-slice-read-rec-3 : tie.Need-slice-read-rec-3
-slice-read-rec-3 c = search needs
-
-slice-write-rec-5 : tie.Need-slice-write-rec-5
-slice-write-rec-5 c = search needs
+unsnap-requires : tie.Need-unsnap-requires
+unsnap-requires c κs = search needs
 
 same-length : tie.Need-same-length
 same-length c = search needs
@@ -107,8 +114,10 @@ same-length-7 : tie.Need-same-length-7
 same-length-7 c = search needs
 
 returns-7 : tie.Need-returns-7
-unfolding done onBytes anew
-returns-7 c = ap₂ done (sym (c .before .enum-told7 .given .1)) (c .before .before .before .before .before .begin .ensures)
+returns-7 c =
+    c .before .before .unsnap .ensures
+    ∙ unsnapped _
+    ∙ ap₂ done (sym (c .before .before .before .before .enum-told7 .given .1)) (c .before .before .before .before .before .before .before .before .begin .ensures)
 
 pub act-bare-spec : {M : Type 1} → statement M
 act-bare-spec =
@@ -130,8 +139,7 @@ act-bare-spec =
     enum-told-6
     snap-requires
     enum-told-7
-    slice-read-rec-3
-    slice-write-rec-5
+    unsnap-requires
     same-length
     returns
     same-length-2
