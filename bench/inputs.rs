@@ -62,7 +62,6 @@ impl Random {
         }
         table
     }
-
 }
 
 /// The same table with a snapshot on in every monitor: cell reads show the copies.
