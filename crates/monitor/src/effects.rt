@@ -58,6 +58,14 @@ fn clear_cells(rec: &mut [u8])
     }
 }
 
+// The live cells, and no copy of them.
+fn clrcell(rec: &mut [u8])
+    requires { ⌜ length (now rec) ≡ recordSize ⌝ }
+    ensures { λ _. ⌜ now (rec .exit) ≡ done Bare.Clrcell (now (rec .entry)) ⌝ }
+{
+    clear_cells(rec);
+}
+
 // The cells are copied, and SNAP_ST is set.
 fn copy_cells(rec: &mut [u8])
     requires { ⌜ length (now rec) ≡ recordSize ⌝ }
@@ -102,7 +110,7 @@ fn act_bare(what: Bare, rec: &mut [u8])
         Bare::Unmute => rec[STATUS_BITS] = rec[STATUS_BITS] & 0xef,
         Bare::Rstcc => rec[COUNTER] = 0,
         Bare::Ulrr => rec[UNLOCKED] = 1,
-        Bare::Clrcell => clear_cells(rec),
+        Bare::Clrcell => clrcell(rec),
         Bare::Snap => snap(rec),
         Bare::Unsnap => unsnap(rec),
     }

@@ -53,8 +53,8 @@ slice-write-rec-4 c = search needs
 enum-told-5 : tie.Need-enum-told-5
 enum-told-5 c = search needs
 
-clear-cells-requires : tie.Need-clear-cells-requires
-clear-cells-requires c κs = search needs
+clrcell-requires : tie.Need-clrcell-requires
+clrcell-requires c κs = search needs
 
 enum-told-6 : tie.Need-enum-told-6
 enum-told-6 c = search needs
@@ -101,7 +101,7 @@ same-length-5 c = search needs
 
 returns-5 : tie.Need-returns-5
 returns-5 c =
-    c .before .before .clear-cells .ensures ∙ ap₂ done (sym (c .before .before .before .before .enum-told5 .given .1)) (c .before .before .before .before .before .before .before .before .begin .ensures)
+    c .before .before .clrcell .ensures ∙ ap₂ done (sym (c .before .before .before .before .enum-told5 .given .1)) (c .before .before .before .before .before .before .before .before .begin .ensures)
 
 same-length-6 : tie.Need-same-length-6
 same-length-6 c = search needs
@@ -135,7 +135,7 @@ act-bare-spec =
     enum-told-4
     slice-write-rec-4
     enum-told-5
-    clear-cells-requires
+    clrcell-requires
     enum-told-6
     snap-requires
     enum-told-7
