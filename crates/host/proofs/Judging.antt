@@ -9,14 +9,13 @@ use native.Mathlib.Omega.{arith}
 use lib.Dec.{eqb, leb, ltb}
 use lib.ListN.{length, drop}
 use borrow.Author.Tests.{not-false, eqb-true, eq-eqb, leb-true, ltb-false, le-ltb, le-leb}
-use Rattle.laws.proofs.Tests.{both-second}
+use Rattle.laws.proofs.Tests.{both-first, both-second}
 use Rattle.refusals.specs.declared.Refusal.{Refusal}
 use Rattle.refusals.specs.declared.Refusal.the-variants.{CodeNotListed, NoRoom, PositionWrong, CountWrong}
 use Rattle.refusals.specs.Order.{decide, Passed}
 use Rattle.refusals.proofs.Deciding.{decide-map, passes, has-passed}
 use Rattle.records.specs.declared.commands.Command.{Command}
 use Rattle.records.specs.Commands.{commands, commandOf, isListed, mostMonitors, frameLength}
-use Rattle.records.proofs.Answers.{both-first}
 use Rattle.host.specs.declared.frames.Built.{Built}
 use Rattle.host.specs.declared.frames.Built.the-variants.{Unbuilt, Length}
 use Rattle.host.specs.Frames.{valueCount, frameFor, requestRefusals, judged, buildRefusals, built, bufferAfter}

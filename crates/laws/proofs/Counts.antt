@@ -11,6 +11,7 @@ use lib.Dec.{lit≤}
 use lib.ListN.{length, getD}
 use mir.Val.{boolByte}
 use Rattle.laws.specs.Counts.{all, count}
+use Rattle.laws.specs.Tables.{tabulate}
 use Rattle.laws.proofs.Rows.{Every}
 
 pub and-true : (b : Bool) → b && true ≡ b
@@ -24,6 +25,10 @@ and-false false = refl
 and-assoc : (a b c : Bool) → a && b && c ≡ a && (b && c)
 and-assoc true b c = refl
 and-assoc false b c = refl
+
+at-most-one : (b : Bool) → cond b 1 0 ≤ 1
+at-most-one true = lit≤ tt
+at-most-one false = lit≤ tt
 
 module _ {A : Type 0} (test : A → Bool) where
   pub all-snoc : (xs : List A) (x : A) → all test (xs ++ x ∷ []) ≡ all test xs && test x
@@ -59,6 +64,31 @@ pub count-every : {A : Type 0} (test : List A → Bool) (p : ℕ) → ((r : List
 unfolding count
 count-every test p h [] e = refl
 count-every test p h (r ∷ rs) e = ap₂ _+_ (ap (λ (b : Bool). cond b 1 0) (h r (e .0))) (count-every test p h rs (e .1)) ∙ one-add (length rs)
+
+-- no more than there are
+pub count-most : {A : Type 0} (test : A → Bool) (xs : List A) → count test xs ≤ length xs
+unfolding count
+count-most test [] = lit≤ tt
+count-most test (x ∷ xs) = omega (arith, at-most-one (test x), count-most test xs)
+
+-- by the places of the elements, of which the first is i
+pub count-places : {A : Type 0} (test : A → Bool) (at : ℕ → Bool) (d : A) (i : ℕ) (xs : List A) → ((k : ℕ) → k < length xs → test (getD xs k d) ≡ at (i + k))
+    → count test xs ≡ count at (tabulate (λ k. k) i (length xs))
+unfolding count tabulate
+count-places test at d i [] h = refl
+count-places test at d i (x ∷ xs) h =
+    ap₂ _+_ (ap (λ (b : Bool). cond b 1 0) (h 0 (omega arith) ∙ ap at (add-zero i)))
+    (count-places test at d (suc i) xs (λ k l. h (suc k) (omega arith) ∙ ap at (next i k)))
+  where
+    next : (i k : ℕ) → i + suc k ≡ suc i + k
+    next i k = omega arith
+
+-- one that fails is not counted
+pub count-fails : {A : Type 0} (test : A → Bool) (xs : List A) (k : ℕ) (d : A) → k < length xs → test (getD xs k d) ≡ false → count test xs < length xs
+unfolding count
+count-fails test [] k d h e = absurd (omega arith)
+count-fails test (x ∷ xs) zero d h e = omega (arith, ap {B = ℕ} (λ (b : Bool). cond b 1 0) e, count-most test xs)
+count-fails test (x ∷ xs) (suc k) d h e = omega (arith, at-most-one (test x), count-fails test xs k d (omega arith) e)
 
 -- ---- a flag
 

@@ -1,5 +1,6 @@
 pub mod Xor
 pub mod Bits
+pub mod BitStrings
 pub mod Numbers
 pub mod Tests
 pub mod Shifts
@@ -9,6 +10,7 @@ pub mod Rows
 pub mod Filling
 pub mod LentParts
 pub mod Counts
+pub mod Same
 pub mod Or
 pub mod BitAt
 pub mod Places

@@ -9,7 +9,7 @@ use native.Mathlib.Nat.{zero-add, suc-add, add-comm, add-assoc, mul-comm, mul-as
 use native.Mathlib.Omega.{arith}
 use lib.ListN.{length, getD}
 use lib.Pow.{pow-add, shr-shr, high}
-use Rattle.laws.specs.Bits.{odd, bitsOf, bitsOfBytes, numberFrom}
+use Rattle.laws.specs.Bits.{odd, bitsOf, bitsOfBytes, Bytes, numberFrom, numberOf}
 use Rattle.laws.proofs.Bits.{bits-low}
 
 -- the bits of a number, and then those of k more
@@ -33,6 +33,11 @@ bits-of-number k n (b ∷ bs) h =
     ∙ bits-of-number (k + 8) (n * 256 + b) bs (λ i. h (suc i))
     ∙ ap (λ (x : List Bool). x ++ bitsOfBytes bs) (bits-join k 8 n (h 0))
     ∙ append-assoc (bitsOf k n) (bitsOf 8 b) (bitsOfBytes bs)
+
+-- of a whole string, whose bits are k
+pub bits-of-string : (k : ℕ) (bs : List ℕ) → Bytes bs → k ≡ 8 * length bs → bitsOf k (numberOf bs) ≡ bitsOfBytes bs
+unfolding numberOf bitsOf
+bits-of-string k bs h e = ap (λ (n : ℕ). bitsOf n (numberOf bs)) (e ∙ sym (zero-add (8 * length bs))) ∙ bits-of-number 0 0 bs h
 
 pub number-append : (n : ℕ) (bs cs : List ℕ) → numberFrom n (bs ++ cs) ≡ numberFrom (numberFrom n bs) cs
 unfolding numberFrom

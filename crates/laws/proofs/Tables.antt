@@ -8,6 +8,11 @@ use native.Mathlib.Omega.{arith}
 use lib.ListN.{length, getD}
 use Rattle.laws.specs.Tables.{tabulate}
 
+pub length-tabulate : (f : ℕ → ℕ) (i n : ℕ) → length (tabulate f i n) ≡ n
+unfolding tabulate
+length-tabulate f i zero = refl
+length-tabulate f i (suc n) = ap suc (length-tabulate f (suc i) n)
+
 pub from : (f : ℕ → ℕ) (i n k : ℕ) → k < n → getD (tabulate f i n) k 0 ≡ f (i + k)
 unfolding tabulate
 from f i zero k h = absurd (omega arith)

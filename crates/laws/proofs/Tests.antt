@@ -1,4 +1,4 @@
--- Two tests that hold together are one; and of two tests that both pass, the second passes.
+-- Two tests that hold together are one; and of two tests that both pass, each passes.
 -- Assumes nothing.
 use mathlib.Core.Path.{_≡_, refl, sym, _∙_}
 use mathlib.Core.Bool.{Bool, true, false, _&&_}
@@ -14,7 +14,11 @@ module _ (a b c d : ℕ) (there : a ≡ b → c ≡ d) (back : c ≡ d → a ≡
   pub same-test : eqb a b ≡ eqb c d
   same-test = by (eqb c d) refl
 
--- of two tests that both pass, the second
+-- of two tests that both pass, each
+pub both-first : (a b : Bool) → a && b ≡ true → a ≡ true
+both-first true b h = refl
+both-first false b h = h
+
 pub both-second : (a b : Bool) → a && b ≡ true → b ≡ true
 both-second true b h = h
 both-second false true h = refl

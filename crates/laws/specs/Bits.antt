@@ -2,9 +2,10 @@
 -- Assumes nothing.
 use mathlib.Core.Bool.{Bool, xor}
 use mathlib.Core.List.{List, [], _∷_, _++_}
-use Prim.Native.Nat.{ℕ, zero, suc, _+_, _*_, _/_, _%_, _^_}
+use Prim.Native.Nat.{ℕ, zero, suc, _+_, _*_, _/_, _%_, _^_, _<_}
 use lib.Bits.{bitXor}
 use lib.Dec.{eqb}
+use lib.ListN.{getD}
 
 infixl 60 _⊕_
 -- exclusive or, place by place: what the code's `^` does
@@ -23,6 +24,10 @@ bitAt k n = odd (n / 2 ^ k)
 unfoldable pub bitsOf : ℕ → ℕ → List Bool
 bitsOf zero n = []
 bitsOf (suc k) n = odd (n / 2 ^ k) ∷ bitsOf k n
+
+-- each number of a list is a byte
+abbrev pub Bytes : List ℕ → Type 0
+Bytes bytes = (i : ℕ) → getD bytes i 0 < 256
 
 -- the bits of a byte string: eight for each byte, the first byte's first
 unfoldable pub bitsOfBytes : List ℕ → List Bool

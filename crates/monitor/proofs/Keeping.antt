@@ -9,6 +9,7 @@ use native.Mathlib.Omega.{arith}
 use lib.Dec.{eqb, leb}
 use lib.ListN.{length}
 use borrow.Author.Tests.{eqb-true, eq-eqb}
+use Rattle.laws.proofs.Tests.{both-first}
 use Rattle.pec.specs.Words.{payloadRight}
 use Rattle.records.specs.declared.commands.Write.{Write}
 use Rattle.records.specs.declared.commands.Command.{Command}
@@ -17,7 +18,7 @@ use Rattle.records.specs.Record.{unlocked, recordSize, byteOf, isRecord}
 use Rattle.records.specs.Commands.{payloadSize}
 use Rattle.writes.specs.Writes.{rulesOf, byRules, opens, written}
 use Rattle.monitor.specs.Effects.{locked, counted, goodFor, takes, keeps}
-use Rattle.records.proofs.Answers.{is-record, no-record, both-first}
+use Rattle.records.proofs.Answers.{is-record, no-record}
 use Rattle.writes.proofs.Written.{six-for-record}
 
 -- ---- one's own eight bytes

@@ -1,10 +1,10 @@
--- The two check words stay below 2^15 and 2^10; what is sent is right; a command whose last bit is 1 is not.
+-- The two polynomials end in 1, and the two check words stay below 2^15 and 2^10; what is sent is right; a command whose last bit is 1 is not.
 -- Assumes nothing.
 use mathlib.Core.Path.{_≡_, refl, sym, ap, ap₂, _∙_}
 use mathlib.Core.Bool.{Bool, true, false, _&&_}
 use mathlib.Core.List.{List, [], _∷_, _++_}
 use Prim.Native.Nat.{ℕ, _+_, _*_, _/_, _%_, _^_, _<_}
-use native.Mathlib.Nat.{div-add-mod', mod-lt, mod-eq-of-lt}
+use native.Mathlib.Nat.{div-add-mod'}
 use native.Mathlib.Omega.{arith}
 use lib.Arith.{digits-div, digits-mod}
 use lib.Dec.{eqb, lit<}
@@ -16,6 +16,14 @@ use Rattle.laws.proofs.Bits.{bits-mod}
 use Rattle.pec.specs.Words.{twoBytes, wordAt, polynomial15, polynomial10, pec15, commandCheck, commandRight, dataPec, seal, counterOf, payloadRight}
 use Rattle.pec.specs.Remainder.{remainder}
 use Rattle.pec.proofs.Remainder.{remainder-below}
+
+pub ends-15 : odd polynomial15 ≡ true
+unfolding odd
+ends-15 = refl
+
+pub ends-10 : odd polynomial10 ≡ true
+unfolding odd
+ends-10 = refl
 
 pub pec15-below : (bytes : List ℕ) → pec15 bytes < 2 ^ 15
 unfolding pec15

@@ -1,6 +1,9 @@
 pub mod Remainder
 pub mod ManyBits
 pub mod Undone
+pub mod Bursts
 pub mod ByShifts
 pub mod Messages
 pub mod CheckWords
+pub mod Right
+pub mod Spikes

@@ -9,17 +9,21 @@ use native.Mathlib.Numerals.{add-one}
 use native.Mathlib.Omega.{arith}
 use lib.Dec.{lit<}
 use lib.ListN.{length, length-drop, getD, take, drop, drop-of-length-le, take-append-drop}
-use lib.Seq.{drop-cons, length-take-le, take-all}
-use Rattle.laws.specs.Bits.{bitsOf, bitsOfBytes, numberFrom, numberOf}
-use Rattle.laws.proofs.Numbers.{bits-join, bits-of-number, number-append, number-from}
+use lib.Seq.{drop-cons, getD-drop, length-take-le, take-all}
+use Rattle.laws.specs.Bits.{bitsOf, Bytes, numberFrom, numberOf}
+use Rattle.laws.proofs.Numbers.{bits-join, bits-of-string, number-append, number-from}
 use Rattle.pec.specs.Remainder.{remainder}
 use Rattle.pec.specs.Words.{twoBytes, wordAt, polynomial10, polynomial15, pec15, dataPec}
 
-pub bytes-of-take : (bytes : List ℕ) → ((i : ℕ) → getD bytes i 0 < 256) → (j i : ℕ) → getD (take j bytes) i 0 < 256
+-- the elements of a part of a byte string are bytes
+pub bytes-of-take : (bytes : List ℕ) → Bytes bytes → (j : ℕ) → Bytes (take j bytes)
 bytes-of-take bytes h zero i = lit< tt
 bytes-of-take [] h (suc j) i = lit< tt
 bytes-of-take (b ∷ bs) h (suc j) zero = h 0
 bytes-of-take (b ∷ bs) h (suc j) (suc i) = bytes-of-take bs (λ k. h (suc k)) j i
+
+pub bytes-of-drop : (bytes : List ℕ) → Bytes bytes → (j : ℕ) → Bytes (drop j bytes)
+bytes-of-drop bytes h j i = rw getD-drop (h (j + i))
 
 -- a string in two parts, the first four bytes long, as they are lent
 module _ (bytes : List ℕ) (j : ℕ) (e : length bytes ≡ 4 + j) where
@@ -47,7 +51,7 @@ module _ (bytes : List ℕ) (j : ℕ) (e : length bytes ≡ 4 + j) where
       ∙ number-from (numberFrom 0 (take 4 bytes)) (drop 4 bytes)
       ∙ ap (λ (k : ℕ). numberFrom 0 (take 4 bytes) * 2 ^ (8 * k) + numberFrom 0 (drop 4 bytes)) (sym (ap length whole-rest) ∙ rest-size))
 
-pub word-below : (bytes : List ℕ) → ((i : ℕ) → getD bytes i 0 < 256) → (j : ℕ) → wordAt bytes j < 65536
+pub word-below : (bytes : List ℕ) → Bytes bytes → (j : ℕ) → wordAt bytes j < 65536
 unfolding wordAt
 word-below bytes h j = omega (arith, h j, h (j + 1))
 
@@ -69,21 +73,17 @@ last-two bytes j e =
     joined : (n x y : ℕ) → (n * 256 + x) * 256 + y ≡ n * 65536 + (x * 256 + y)
     joined n x y = omega arith
 
-pub command-message : (two : List ℕ) → ((i : ℕ) → getD two i 0 < 256) → length two ≡ 2
+pub command-message : (two : List ℕ) → Bytes two → length two ≡ 2
     → remainder 15 polynomial15 16 (bitsOf 16 (numberOf two)) ≡ pec15 two
-unfolding pec15 numberOf bitsOf
-command-message two h e =
-    let sixteen : 16 ≡ 0 + 8 * length two = omega arith in
-    ap (remainder 15 polynomial15 16) (ap (λ (k : ℕ). bitsOf k (numberOf two)) sixteen ∙ bits-of-number 0 0 two h)
+unfolding pec15
+command-message two h e = ap (remainder 15 polynomial15 16) (bits-of-string 16 two h (omega arith))
 
-pub data-message : (six : List ℕ) (counter : ℕ) → ((i : ℕ) → getD six i 0 < 256) → length six ≡ 6 → counter < 64
+pub data-message : (six : List ℕ) (counter : ℕ) → Bytes six → length six ≡ 6 → counter < 64
     → remainder 10 polynomial10 16 (bitsOf 54 (numberOf six * 64 + counter)) ≡ dataPec six counter
-unfolding dataPec numberOf bitsOf
+unfolding dataPec
 data-message six counter h e few =
-    let all : 48 ≡ 0 + 8 * length six = omega arith in
     ap (remainder 10 polynomial10 16)
-    (bits-join 48 6 (numberOf six) few
-    ∙ ap (λ (bs : List Bool). bs ++ bitsOf 6 counter) (ap (λ (k : ℕ). bitsOf k (numberOf six)) all ∙ bits-of-number 0 0 six h))
+    (bits-join 48 6 (numberOf six) few ∙ ap (λ (bs : List Bool). bs ++ bitsOf 6 counter) (bits-of-string 48 six h (omega arith)))
 
 -- a command's code and its two bytes are one message
 module _ (code : ℕ) where
@@ -95,7 +95,7 @@ module _ (code : ℕ) where
   unfolding twoBytes
   two = refl
 
-  bytes-of-two : code < 65536 → (i : ℕ) → getD (twoBytes code) i 0 < 256
+  bytes-of-two : code < 65536 → Bytes (twoBytes code)
   unfolding twoBytes
   bytes-of-two h zero = omega arith
   bytes-of-two h (suc zero) = omega arith

@@ -5,9 +5,8 @@ use mathlib.Core.Bool.{Bool, true, false, cond, _&&_, _||_}
 use Prim.Native.Nat.{ℕ, _≤_}
 use lib.Dec.{leb}
 use borrow.Author.Tests.{leb-true}
-use Rattle.laws.proofs.Tests.{both-second}
+use Rattle.laws.proofs.Tests.{both-first, both-second}
 use Rattle.records.specs.Commands.{mostMonitors}
-use Rattle.records.proofs.Answers.{both-first}
 
 -- of two tests of which one passes, the second where the first does not
 pub other-second : (a b : Bool) → a || b ≡ true → a ≡ false → b ≡ true

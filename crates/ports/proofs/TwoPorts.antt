@@ -12,10 +12,9 @@ use borrow.Author.Tests.{not-false, eqb-true, eq-eqb, le-leb}
 use Rattle.refusals.specs.declared.Refusal.the-variants.{LengthWrong, PositionWrong, NeitherRight}
 use Rattle.refusals.specs.Order.{decide}
 use Rattle.refusals.proofs.Deciding.{decide-map, passes, has-passed}
-use Rattle.laws.proofs.Tests.{both-second}
+use Rattle.laws.proofs.Tests.{both-first, both-second}
 use Rattle.pec.specs.Words.{payloadRight}
 use Rattle.records.specs.Commands.{mostMonitors, payloadSize}
-use Rattle.records.proofs.Answers.{both-first}
 use Rattle.ports.specs.declared.ports.Port.{Port}
 use Rattle.ports.specs.declared.ports.Port.the-variants.{Refused, A, B}
 use Rattle.ports.specs.Ports.{placeA, placeB, partA, partB, portRefusals, portOf}

@@ -6,10 +6,9 @@ use mathlib.Core.List.{List}
 use Prim.Native.Nat.{ℕ, _+_, _≤_}
 use lib.Dec.{leb}
 use borrow.Author.Tests.{leb-true}
-use Rattle.laws.proofs.Tests.{both-second}
+use Rattle.laws.proofs.Tests.{both-first, both-second}
 use Rattle.records.specs.declared.record.Part.{Part}
 use Rattle.records.specs.Record.{cells, snapped}
-use Rattle.records.proofs.Answers.{both-first}
 use Rattle.reads.specs.Shown.{ofCells, copyOf, shownPart}
 
 -- it begins at the cells or behind, and ends with them or before

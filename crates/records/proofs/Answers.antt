@@ -2,7 +2,7 @@
 -- the changed one where the test passes.
 -- Assumes nothing.
 use mathlib.Core.Path.{_≡_, refl, sym, ap, _∙_}
-use mathlib.Core.Bool.{Bool, true, false, cond, _&&_}
+use mathlib.Core.Bool.{Bool, true, false, cond}
 use mathlib.Core.List.{List}
 use Prim.Native.Nat.{ℕ}
 use lib.ListN.{length}
@@ -23,8 +23,3 @@ module _ (test : Bool) (changed before : List ℕ) {answer : Bool} {after : List
 
   pub was-changed : answer ≡ true → test ≡ true → after ≡ changed → (answer ≡ test) × (after ≡ cond test changed before)
   was-changed a h e = (a ∙ sym h, e ∙ sym (ap (λ (b : Bool). cond b changed before) h))
-
--- of two tests that both pass, the first
-pub both-first : (a b : Bool) → a && b ≡ true → a ≡ true
-both-first true b h = refl
-both-first false b h = h
