@@ -7,11 +7,14 @@ use mathlib.Core.List.{List, _++_}
 use Prim.Native.Nat.{ℕ, suc, _-_, _*_, _<_}
 use native.Mathlib.Omega.{arith}
 use lib.IntN.{ℤ}
-use lib.ListN.{length, take, drop}
+use lib.ListN.{length, take, drop, length-drop}
 use borrow.Author.Tests.{eqb-true, not-false}
 use Rattle.laws.specs.Counts.{count}
+use Rattle.laws.specs.Bits.{Bytes}
 use Rattle.laws.specs.Rows.{rowAt}
+use Rattle.laws.proofs.Rows.{length-row-at}
 use Rattle.pec.specs.Words.{commandRight, payloadRight}
+use Rattle.pec.proofs.Messages.{bytes-of-take, bytes-of-drop}
 use Rattle.refusals.specs.declared.Refusal.{Refusal}
 use Rattle.refusals.specs.Order.{Row, decide, Passed}
 use Rattle.refusals.proofs.Deciding.{passes}
@@ -118,6 +121,14 @@ module _ (table frame : List ℕ) (room : ℕ) (none : Passed (frameRefusals tab
   -- the monitor at k: its own eight bytes, its record, and what it keeps of a command
   abbrev pub eightAt : ℕ → List ℕ
   eightAt k = rowAt payloadSize (n - suc k) (drop 4 frame)
+
+  pub eight-long : {c : Write} → commandIn frame ≡ Writes c → (k : ℕ) → k < n → length (eightAt k) ≡ payloadSize
+  eight-long its k h = length-row-at payloadSize n (drop 4 frame) (n - suc k) (omega arith) (omega (arith, length-drop 4 frame, frame-whole its))
+
+  pub eight-bytes : Bytes frame → (k : ℕ) → Bytes (eightAt k)
+  unfolding rowAt
+  eight-bytes bytes k =
+      bytes-of-take (drop ((n - suc k) * payloadSize) (drop 4 frame)) (bytes-of-drop (drop 4 frame) (bytes-of-drop frame bytes 4) ((n - suc k) * payloadSize)) payloadSize
 
   pub record-at : (k : ℕ) → k < n → length (rowAt recordSize k table) ≡ recordSize
   record-at k h = lent-length k table (omega (arith, is-sound table frame-sound .whole))

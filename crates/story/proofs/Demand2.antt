@@ -1,5 +1,5 @@
 -- Demand 2. What the chain does with a frame is what the data sheet says as document 01 condenses it, with the requests of document 02 that
--- have landed (L1, L2, L3, L6), monitor by monitor. What our host writes hands each monitor its own six bytes: nearest first in our list,
+-- have landed (L1, L2, L3, L6, L7), monitor by monitor. What our host writes hands each monitor its own six bytes: nearest first in our list,
 -- farthest first on the wire. Monitors are counted from 0 here: monitor 1 of the paper is k = 0. Each field is proved where it is cited from.
 -- Assumes nothing.
 use mathlib.Core.Path.{_≡_, refl}
@@ -14,7 +14,7 @@ use lib.ListN.{length, take, drop, getD, replicate}
 use mir.Syntax.{w16}
 use mir.Val.{SFits}
 use Rattle.laws.specs.Counts.{all, count}
-use Rattle.laws.specs.Bits.{bitAt}
+use Rattle.laws.specs.Bits.{bitAt, bitsOfBytes, Bytes}
 use Rattle.laws.specs.Rows.{rows, rowAt, joined}
 use Rattle.laws.specs.Tables.{tabulate}
 use Rattle.pec.specs.Words.{seal, commandRight, payloadRight}
@@ -69,11 +69,12 @@ use Rattle.priorities.proofs.Shown.{row-shown, on-shown, own-output, count-show
 use Rattle.discharge.specs.declared.question.Discharged.the-variants.{On}
 use Rattle.discharge.specs.Question.{dischargeRefusals, discharged, outputsAfter}
 use Rattle.host.specs.declared.frames.Built.the-variants.{Length}
-use Rattle.host.specs.Frames.{dataSize, sealed, frameFor, buildRefusals, built, bufferAfter}
+use Rattle.host.specs.Frames.{headSize, dataSize, sealed, frameFor, buildRefusals, built, bufferAfter}
 use Rattle.ports.specs.Ports.{partA}
 use Rattle.ports.specs.Parts.{bytesOf}
 use Rattle.story.specs.Numbers.{First}
 use Rattle.story.specs.Snapshots.{snappedAfter}
+use Rattle.story.specs.Spikes.{StruckData, StruckCommand, ownEight, unhit, unhitOf}
 use Rattle.story.proofs.Accepted.{frame-refused, write-answer, wrrr-answer, read-answer, bare-answer, record-after, reply-own, reply-past, write-no-reply, bare-no-reply, store-done, store-own, store-others, compare-done, compare-own, compare-others, load-done, load-own, load-others, discharge-answer, host-writes}
 use Rattle.story.proofs.OurHost.{own-six, write-taken-by-all, bare-taken-by-all, each-keeps-its-own, reply-right, read-taken-by-all, each-reply-its-own, each-reply-right}
 use Rattle.story.specs.ReadsBack.{ReadsBack, as-written, fixed-behind-two}
@@ -84,6 +85,8 @@ use Rattle.story.proofs.Snapshot.{snap-takes, snap-again, snap-again-sh
 use Rattle.story.proofs.Muting.{mute-answers, unmute-answers}
 use Rattle.story.proofs.BothEnds.{the-replies, handed-from-a, handed-from-b}
 use Rattle.story.proofs.Cleared.{clrcell-clears}
+use Rattle.story.proofs.Spikes.{hit-by-bit, unhit-by-bits, struck-answer, struck-no-reply, struck-some, struck-hit, struck-unhit, struck-wrrr-answer, struck-wrrr-stores, struck-wrrr-locked, struck-refused}
+use Rattle.story.proofs.Sharp.{Sharp, sharp}
 use Rattle.story.proofs.EitherSide.{EitherSide, either-side}
 
 pub record Demand2 : Type 0 where
@@ -375,12 +378,54 @@ pub record Demand2 : Type 0 where
   handed-from-b : (part : Part) (n : ℕ) (table : List ℕ) (k : ℕ) → 1 ≤ k → k ≤ n → n ≤ mostMonitors → (a : List ℕ) → length a ≡ payloadSize * n
       → payloadRight (partA a n k) ≡ false
       → bytesOf a (replyData (reverse (map (reply part) (rows recordSize n table)))) n k ≡ reply part (rowAt recordSize (k - 1) table)
+  -- ---- a spike on the wire: what our host's frames do where bits came turned over. `Spike` says what a spike is, `StruckData` and `StruckCommand` which frames
+  -- it struck and where
+
+  -- a write other than WRRR, at least one bit of it turned over, all of these within ten places in a row and none in the first four bytes: it is accepted, and
+  -- as many monitors take it as were not hit: those whose own eight bytes came as they were sent
+  spike-answer : (table sent came buffer : List ℕ) → sound table ≡ true → (c : Write) → (c ≡ Wrrr → ⊥) → StruckData (Writes c) (monitors table) sent came
+      → (answer table came (length buffer) ≡ Accepted (unhitOf (monitors table) sent came) 0) × (replyAfter table came buffer ≡ buffer)
+  -- those are fewer than N
+  spike-not-all : (table sent came : List ℕ) → sound table ≡ true → (c : Write) → StruckData (Writes c) (monitors table) sent came
+      → unhitOf (monitors table) sent came < monitors table
+  -- by bits: a monitor is hit by any bit of its own eight bytes, and by nothing else. So a spike with bits on both sides of a border of two payloads hits both
+  hit-by-bit : (n : ℕ) (sent came : List ℕ) (k : ℕ) → k < n → (i : ℕ) → i < 8 * payloadSize
+      → (getD (bitsOfBytes came) (8 * headSize + 8 * payloadSize * (n - suc k) + i) false ≡ getD (bitsOfBytes sent) (8 * headSize + 8 * payloadSize * (n - suc k) + i) false → ⊥)
+      → unhit n sent came k ≡ false
+  unhit-by-bits : (n : ℕ) (sent came : List ℕ) (k : ℕ) → k < n → Bytes sent → Bytes came → length came ≡ length sent
+      → ((i : ℕ) → i < 8 * payloadSize
+      → getD (bitsOfBytes came) (8 * headSize + 8 * payloadSize * (n - suc k) + i) false ≡ getD (bitsOfBytes sent) (8 * headSize + 8 * payloadSize * (n - suc k) + i) false)
+      → unhit n sent came k ≡ true
+  -- a monitor that was hit keeps its record, counter included, but for its unlock byte, which becomes 0
+  spike-hit : (table sent came : List ℕ) (room : ℕ) → sound table ≡ true → (c : Write) → (c ≡ Wrrr → ⊥) → StruckData (Writes c) (monitors table) sent came
+      → (k : ℕ) → k < monitors table → unhit (monitors table) sent came k ≡ false
+      → rowAt recordSize k (tableAfter table came room) ≡ onBytes unlocked (λ i old. 0) (rowAt recordSize k table)
+  -- one that was not does as it does with the frame that was sent
+  spike-unhit : (table sent came : List ℕ) (room : ℕ) → sound table ≡ true → (c : Write) → StruckData (Writes c) (monitors table) sent came
+      → (k : ℕ) → k < monitors table → unhit (monitors table) sent came k ≡ true
+      → rowAt recordSize k (tableAfter table came room) ≡ rowAt recordSize k (tableAfter table sent room)
+  -- WRRR needs no check, so none protects it: all N take it and count, and one that was unlocked stores its own six bytes as they came
+  spike-wrrr : (table sent came buffer : List ℕ) → sound table ≡ true → StruckData (Writes Wrrr) (monitors table) sent came
+      → (answer table came (length buffer) ≡ Accepted (monitors table) 0) × (replyAfter table came buffer ≡ buffer)
+  spike-wrrr-unlocked : (table sent came : List ℕ) (room : ℕ) → sound table ≡ true → StruckData (Writes Wrrr) (monitors table) sent came
+      → (k : ℕ) → k < monitors table → byteOf unlocked (rowAt recordSize k table) ≡ 1
+      → rowAt recordSize k (tableAfter table came room)
+      ≡ onBytes retention (λ i old. getD (ownEight (monitors table) came k) i 0) (counted (locked (rowAt recordSize k table)))
+  spike-wrrr-locked : (table sent came : List ℕ) (room : ℕ) → sound table ≡ true → StruckData (Writes Wrrr) (monitors table) sent came
+      → (k : ℕ) → k < monitors table → (byteOf unlocked (rowAt recordSize k table) ≡ 1 → ⊥)
+      → rowAt recordSize k (tableAfter table came room) ≡ counted (locked (rowAt recordSize k table))
+  -- any frame, for any number of monitors, at least one bit of its first four bytes turned over, and all that were, there or behind them, within fifteen places
+  -- in a row: it is refused with 3, and nothing changes
+  spike-refused : (table sent came buffer : List ℕ) → sound table ≡ true → (c : Command) (n : ℕ) → StruckCommand c n sent came
+      → (answer table came (length buffer) ≡ Refused CommandWrong) × (tableAfter table came (length buffer) ≡ table) × (replyAfter table came buffer ≡ buffer)
+  -- and no further: examples of both, and eleven places behind a command and sixteen in one that get through
+  sharp : Sharp
   -- ---- document 01's fourteen worked examples
 
   examples : EitherSide
 
 pub demand-2 : Demand2
-unfolding frameRefusals storeRefusals compareRefusals loadRefusals dischargeRefusals muted snapped byteOf done shownCells outputs tabulate phases table27 outputOf keeps reply
+unfolding frameRefusals storeRefusals compareRefusals loadRefusals dischargeRefusals muted snapped byteOf locked done shownCells outputs tabulate phases table27 outputOf keeps reply
 demand-2 =
     record {
       refusals = λ table frame room. refl;
@@ -502,5 +547,16 @@ demand-2 =
       port-a = the-replies;
       handed-from-a = handed-from-a;
       handed-from-b = handed-from-b;
+      spike-answer = λ table sent came buffer s c other struck. (struck-answer table s c struck other (length buffer), struck-no-reply table s c struck buffer);
+      spike-not-all = λ table sent came s c struck. struck-some table s c struck;
+      hit-by-bit = λ n sent came k h. hit-by-bit n sent came k;
+      unhit-by-bits = λ n sent came k h. unhit-by-bits n sent came k;
+      spike-hit = λ table sent came room s c other struck k h. struck-hit table s c struck room k h other;
+      spike-unhit = λ table sent came room s c struck k h. struck-unhit table s c struck room k h;
+      spike-wrrr = λ table sent came buffer s struck. (struck-wrrr-answer table s struck (length buffer), struck-no-reply table s Wrrr struck buffer);
+      spike-wrrr-unlocked = λ table sent came room s struck k h. struck-wrrr-stores table s struck room k h;
+      spike-wrrr-locked = λ table sent came room s struck k h. struck-wrrr-locked table s struck room k h;
+      spike-refused = λ table sent came buffer s c n struck. struck-refused struck table buffer s;
+      sharp = sharp;
       examples = either-side;
     }

@@ -1,6 +1,6 @@
 -- Demand 3. For 1 to 32 monitors, a sound table and any list of frames with readings stored and compared between them, the whole-frame
 -- engine and the clocked engine end in the same table and give the same answers and reply bytes, both judged by the rules of demand 2.
--- So by either engine what is said of whole runs: MUTE and UNMUTE, and that a long read in a snapshot is of one moment.
+-- So by either engine what is said of whole runs: MUTE and UNMUTE, that a long read in a snapshot is of one moment, and what a spike can do.
 -- What the three runs are stands in specs/Runs.antt. By going along the events: one event by either engine is one by the rules
 -- (Runs.antt), and the number of monitors stays, so that the reply buffer keeps its room.
 -- Assumes nothing.
@@ -12,25 +12,31 @@ use Prim.Native.Nat.{ℕ, _-_, _*_, _≤_, _<_}
 use native.Mathlib.Omega.{arith}
 use lib.Dec.{lit≤}
 use lib.IntN.{ℤ}
-use lib.ListN.{length, drop, replicate}
+use lib.ListN.{length, take, drop, replicate}
 use Rattle.laws.specs.Rows.{rows, rowAt}
 use Rattle.wire.specs.Order.{replyData}
 use Rattle.refusals.specs.declared.Refusal.{Refusal}
-use Rattle.refusals.specs.declared.Refusal.the-variants.{TableNotSound}
+use Rattle.refusals.specs.declared.Refusal.the-variants.{TableNotSound, CommandWrong}
 use Rattle.refusals.specs.Order.{Passed}
 use Rattle.records.specs.declared.commands.Bare.{Bare}
 use Rattle.records.specs.declared.commands.Bare.the-variants.{Mute, Unmute, Snap, Unsnap}
-use Rattle.records.specs.declared.commands.Command.the-variants.{Reads, Bares}
+use Rattle.records.specs.declared.commands.Command.{Command}
+use Rattle.records.specs.declared.commands.Command.the-variants.{Reads, Writes, Bares}
+use Rattle.records.specs.declared.commands.Write.{Write}
+use Rattle.records.specs.declared.commands.Write.the-variants.{Wrrr}
 use Rattle.records.specs.declared.record.Part.{Part}
-use Rattle.records.specs.Record.{cellCount, cells, snapshot, recordSize, snapped, bytesOf as partOf}
+use Rattle.records.specs.Record.{cellCount, cells, snapshot, recordSize, unlocked, snapped, bytesOf as partOf, onBytes}
+use Rattle.monitor.specs.Effects.{locked, keeps}
 use Rattle.monitor.specs.Spares.{Spares}
 use Rattle.records.specs.Commands.{mostMonitors, payloadSize}
 use Rattle.reads.specs.Shown.{ofCells, shownCells}
 use Rattle.reads.specs.Reply.{sixBytes, sixIn, reply}
+use Rattle.chain.specs.declared.frames.Answer.{Answer}
 use Rattle.chain.specs.declared.frames.Answer.the-variants.{Refused, Accepted}
 use Rattle.judging.specs.Table.{monitors, sound}
 use Rattle.judging.specs.Refusals.{commandIn}
-use Rattle.chain.specs.Frame.{tableAfter, replyAfter}
+use Rattle.chain.specs.Frame.{answer, tableAfter, replyAfter}
+use Rattle.chain.proofs.Refused.{refused-table}
 use Rattle.chain.proofs.Room.{stop-unsound}
 use Rattle.judging.proofs.Keeps.{Keeps}
 use Rattle.chain.proofs.FrameKeeps.{monitors-after-frame}
@@ -53,13 +59,15 @@ use Rattle.clock_state.specs.State.{stateSize, idle}
 use Rattle.clocking.specs.Bytes.{clockOf, stateAfter}
 use Rattle.clocking.proofs.View.{view}
 use Rattle.clocked.proofs.Whole.{released-read}
-use Rattle.story.specs.Runs.{Event, Frame, Store, Compare, StoreAnswered, CompareAnswered, Left, saw, Step, ruleRefusals, byRules, byFrames, stateAfterAll, cameBack, byBytes, Engine, WholeFrames, ClockedBytes, Ready, by}
+use Rattle.story.specs.Runs.{Event, Frame, Store, Compare, Answered, StoreAnswered, CompareAnswered, Left, saw, replyBytes, Step, ruleRefusals, byRules, byFrames, stateAfterAll, cameBack, byBytes, Engine, WholeFrames, ClockedBytes, Ready, by}
+use Rattle.story.specs.Spikes.{StruckData, StruckCommand, ownEight, unhit, unhitOf}
 use Rattle.story.specs.Snapshots.{Without, replyAt, shownAt, shownBehind, ReadIn, LongRead, longShown}
 use Rattle.story.proofs.Along.{rules-keep, bare-passes, ruled-frame}
 use Rattle.story.proofs.OneMoment.{lent-read, frozen-read, one-moment, behind-front, no-unsnap, live-read, cells-left}
 use Rattle.story.proofs.ByteFour.{only-byte-four, at-byte-four, noted-stays, another-n}
 use Rattle.story.proofs.Muting.{mute-answers, unmute-answers}
-use Rattle.story.proofs.Runs.{frame-step, length-after, store-step, compare-step, full, clock-whole, back-whole, clocked-step}
+use Rattle.story.proofs.Spikes.{struck-answer, struck-some, struck-hit, struck-unhit, struck-kept, struck-wrrr-answer, struck-refused}
+use Rattle.story.proofs.Runs.{frame-step, length-after, store-step, compare-step, full, has-room, clock-whole, back-whole, clocked-step}
 
 -- ---- the demand. It asks for a sound table; the engines agree on any: one that is not sound is refused by both
 
@@ -126,6 +134,24 @@ pub record Demand3 : Type 0 where
       → partOf cells (rowAt recordSize k (by engine table (Frame snap ∷ []) .table)) ≡ partOf cells (rowAt recordSize k table)
   unsnap-leaves : (engine : Engine) (table unsnap : List ℕ) → Ready engine table → Passed (ruleRefusals table unsnap) → commandIn unsnap ≡ Bares Unsnap → (k : ℕ) → k < monitors table
       → partOf cells (rowAt recordSize k (by engine table (Frame unsnap ∷ []) .table)) ≡ partOf cells (rowAt recordSize k table)
+  -- a spike on the wire, through either engine (a run goes on from the table that the frame leaves). A write of our host other than WRRR, struck within ten places
+  -- in a row behind its first four bytes: as many take it as were not hit, which is not all; one that was not hit is left as by the frame that was sent, and one
+  -- that was hit as it was, but for its unlock byte, which becomes 0
+  spike-data : (engine : Engine) (table sent came : List ℕ) → Ready engine table → sound table ≡ true → (c : Write) → (c ≡ Wrrr → ⊥)
+      → StruckData (Writes c) (monitors table) sent came
+      → (by engine table (Frame came ∷ []) .seen ≡ Answered (Accepted (unhitOf (monitors table) sent came) 0) [] ∷ [])
+      × (unhitOf (monitors table) sent came < monitors table)
+      × ((k : ℕ) → k < monitors table
+      → rowAt recordSize k (by engine table (Frame came ∷ []) .table)
+      ≡ cond (unhit (monitors table) sent came k) (rowAt recordSize k (by engine table (Frame sent ∷ []) .table)) (onBytes unlocked (λ i old. 0) (rowAt recordSize k table)))
+  -- WRRR, so struck: all take it, and each keeps what the command makes of its own eight bytes as they came
+  spike-wrrr : (engine : Engine) (table sent came : List ℕ) → Ready engine table → sound table ≡ true → StruckData (Writes Wrrr) (monitors table) sent came
+      → (by engine table (Frame came ∷ []) .seen ≡ Answered (Accepted (monitors table) 0) [] ∷ [])
+      × ((k : ℕ) → k < monitors table
+      → rowAt recordSize k (by engine table (Frame came ∷ []) .table) ≡ keeps (Writes Wrrr) (ownEight (monitors table) came k) (rowAt recordSize k table))
+  -- any frame of our host, its first four bytes struck within fifteen places in a row: refused with 3, and the events after it find the table as it was
+  spike-command : (engine : Engine) (table sent came : List ℕ) (events : List Event) → Ready engine table → sound table ≡ true → (c : Command) (n : ℕ)
+      → StruckCommand c n sent came → by engine table (Frame came ∷ events) ≡ saw (Answered (Refused CommandWrong) []) (by engine table events)
   -- at every byte, not only at a release, the bytes of the state stand for the windows as the rules move them
   every-byte : (table : List ℕ) (byte : ℕ) (state : List ℕ) → length state ≡ stateSize
       → clockOf (stateAfter table byte state) ≡ clocked table byte (clockOf state)
@@ -287,8 +313,58 @@ module _ (engine : Engine) (table first : List ℕ) (ready : Ready engine table)
       ap (λ (left : Left). partOf cells (rowAt recordSize k (left .table))) (either-by-rules engine table (Frame first ∷ []) ready)
       ∙ cells-left c spares table first passed its k h
 
+-- ---- a spike on the wire, by either engine
+
+-- what a frame shows that has no reply
+seen-none : (table frame : List ℕ) {taken : ℕ} → answer table frame (length (full table)) ≡ Accepted taken 0
+    → byRules table (Frame frame ∷ []) .seen ≡ Answered (Accepted taken 0) [] ∷ []
+unfolding byRules
+seen-none table frame e =
+    ap (λ (step : Step). step .seen ∷ []) (sym (frame-step table frame (full table) (has-room table)))
+    ∙ ap (λ (a : Answer). Answered a (take (replyBytes a) (replyAfter table frame (full table))) ∷ []) e
+
+-- one that is refused shows that, and the events after it find the table as it was
+seen-refused : (table frame : List ℕ) (events : List Event) {r : Refusal} → answer table frame (length (full table)) ≡ Refused r
+    → byRules table (Frame frame ∷ events) ≡ saw (Answered (Refused r) []) (byRules table events)
+unfolding byRules
+seen-refused table frame events {r} e =
+    ap (λ (step : Step). saw (step .seen) (byRules (step .table) events)) (sym (frame-step table frame (full table) (has-room table)))
+    ∙ ap₂ (λ (a : Answer) (t : List ℕ). saw (Answered a (take (replyBytes a) (replyAfter table frame (full table)))) (byRules t events)) e
+    (refused-table table frame (length (full table)) r e)
+
+module _ (engine : Engine) (table : List ℕ) (ready : Ready engine table) (s : sound table ≡ true) {sent came : List ℕ} where
+  spike-by : (c : Write) → (c ≡ Wrrr → ⊥) → StruckData (Writes c) (monitors table) sent came
+      → (by engine table (Frame came ∷ []) .seen ≡ Answered (Accepted (unhitOf (monitors table) sent came) 0) [] ∷ [])
+      × (unhitOf (monitors table) sent came < monitors table)
+      × ((k : ℕ) → k < monitors table
+      → rowAt recordSize k (by engine table (Frame came ∷ []) .table)
+      ≡ cond (unhit (monitors table) sent came k) (rowAt recordSize k (by engine table (Frame sent ∷ []) .table)) (locked (rowAt recordSize k table)))
+  spike-by c other struck = (
+    ap (λ (left : Left). left .seen) (either-by-rules engine table (Frame came ∷ []) ready) ∙ seen-none table came (struck-answer table s c struck other (length (full table))),
+    struck-some table s c struck,
+    λ k h. ap (rowAt recordSize k) (one-frame engine table came ready) ∙ each k h (unhit (monitors table) sent came k) refl,
+  )
+    where
+      each : (k : ℕ) → k < monitors table → (b : Bool) → unhit (monitors table) sent came k ≡ b
+          → rowAt recordSize k (tableAfter table came (length (full table)))
+          ≡ cond (unhit (monitors table) sent came k) (rowAt recordSize k (by engine table (Frame sent ∷ []) .table)) (locked (rowAt recordSize k table))
+      each k h true e =
+          struck-unhit table s c struck (length (full table)) k h e
+          ∙ ap (rowAt recordSize k) (sym (one-frame engine table sent ready))
+          ∙ ap (λ (b : Bool). cond b (rowAt recordSize k (by engine table (Frame sent ∷ []) .table)) (locked (rowAt recordSize k table))) (sym e)
+      each k h false e =
+          struck-hit table s c struck (length (full table)) k h other e
+          ∙ ap (λ (b : Bool). cond b (rowAt recordSize k (by engine table (Frame sent ∷ []) .table)) (locked (rowAt recordSize k table))) (sym e)
+
+  refused-by : (c : Command) (n : ℕ) → StruckCommand c n sent came → (events : List Event)
+      → by engine table (Frame came ∷ events) ≡ saw (Answered (Refused CommandWrong) []) (by engine table events)
+  refused-by c n struck events =
+      either-by-rules engine table (Frame came ∷ events) ready
+      ∙ seen-refused table came events (struck-refused struck table (full table) s .0)
+      ∙ ap (saw (Answered (Refused CommandWrong) [])) (sym (either-by-rules engine table events ready))
+
 pub demand-3 : Demand3
-unfolding chainedBy
+unfolding chainedBy locked
 demand-3 =
     record {
       one-to-32 = λ table s. (is-sound table s .some, is-sound table s .few);
@@ -315,6 +391,12 @@ demand-3 =
           ∙ ap (λ (left : Left). sixBytes p (rowAt recordSize k (left .table))) (sym (either-by-rules engine table (Frame unsnap ∷ read .before) ready));
       snap-leaves = λ engine table snap ready. left-by engine table snap ready Snap (inr (lit≤ tt), (inr (lit≤ tt), (inl (lit≤ tt), (inr (lit≤ tt), tt))));
       unsnap-leaves = λ engine table unsnap ready. left-by engine table unsnap ready Unsnap (inr (lit≤ tt), (inr (lit≤ tt), (inl (lit≤ tt), tt)));
+      spike-data = λ engine table sent came ready s. spike-by engine table ready s;
+      spike-wrrr = λ engine table sent came ready s struck. (
+        ap (λ (left : Left). left .seen) (either-by-rules engine table (Frame came ∷ []) ready) ∙ seen-none table came (struck-wrrr-answer table s struck (length (full table))),
+        λ k h. ap (rowAt recordSize k) (one-frame engine table came ready) ∙ struck-kept table s Wrrr struck (length (full table)) k h,
+      );
+      spike-command = λ engine table sent came events ready s c n struck. refused-by engine table ready s c n struck events;
       every-byte = view;
       only-byte-four = only-byte-four;
       at-byte-four = at-byte-four;

@@ -17,6 +17,8 @@ pub mod Cleared
 pub mod AsBefore
 pub mod Muting
 pub mod Retention
+pub mod Spikes
+pub mod Sharp
 pub mod Snapshot
 pub mod Along
 pub mod OneMoment

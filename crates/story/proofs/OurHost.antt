@@ -18,6 +18,7 @@ use Rattle.laws.proofs.Rows.{length-rows, every-rows, row-at}
 use Rattle.pec.specs.Words.{payloadRight}
 use Rattle.pec.proofs.CheckWords.{seal-right}
 use Rattle.wire.proofs.Order.{write-at}
+use Rattle.refusals.specs.Order.{Passed}
 use Rattle.refusals.proofs.Deciding.{passes}
 use Rattle.records.specs.declared.commands.Command.{Command}
 use Rattle.records.specs.declared.commands.Command.the-variants.{Reads, Writes, Bares}
@@ -48,29 +49,28 @@ use Rattle.host.proofs.Payloads.{sealed-right}
 
 -- ---- any frame that our host builds for a sound table's N
 
-module _ (table values buffer : List ℕ) (code : ℕ) (c : Command) (its : commandOf code commands ≡ c) (listed : isListed c ≡ true)
-    (is-sound-table : sound table ≡ true) (right-count : length values ≡ valueCount c (monitors table)) (enough : replyLength c (monitors table) ≤ length buffer) where
-  abbrev frame : List ℕ
-  frame = frameFor code (monitors table) values
+module _ (table values : List ℕ) (code room : ℕ) (c : Command) (its : commandOf code commands ≡ c) (listed : isListed c ≡ true)
+    (is-sound-table : sound table ≡ true) (right-count : length values ≡ valueCount c (monitors table)) (enough : replyLength c (monitors table) ≤ room) where
+  abbrev its-frame : List ℕ
+  its-frame = frameFor code (monitors table) values
 
-  command-in : commandIn frame ≡ c
+  pub command-in : commandIn its-frame ≡ c
   unfolding commandIn
   command-in = ap (λ (x : ℕ). commandOf x commands) (frame-code code (monitors table) values) ∙ its
 
-  frame-length : length frame ≡ frameLength c (monitors table)
+  frame-length : length its-frame ≡ frameLength c (monitors table)
   frame-length =
       length-frame code (monitors table) values (right-count ∙ ap (λ (k : Command). valueCount k (monitors table)) (sym its))
       ∙ ap (λ (k : Command). frameLength k (monitors table)) its
 
-  pub judged-good : judged table frame (length buffer) ≡ Good c (monitors table)
-  unfolding judged frameRefusals
-  judged-good =
+  -- no refusal holds
+  pub host-passes : Passed (frameRefusals table its-frame room)
+  unfolding frameRefusals
+  host-passes =
       let n = monitors table in
-      let room = length buffer in
-      let four : 4 ≤ length frame = omega (arith, frame-length, head c n) in
-      let long : length frame ≡ frameLength (commandIn frame) n = frame-length ∙ ap (λ (k : Command). frameLength k n) (sym command-in) in
-      let fits : replyLength (commandIn frame) n ≤ room = subst (λ (k : Command). replyLength k n ≤ room) (sym command-in) enough in
-      passes (frameRefusals table frame room) Bad (Good (commandIn frame) n) (
+      let four : 4 ≤ length its-frame = omega (arith, frame-length, head c n) in
+      let long : length its-frame ≡ frameLength (commandIn its-frame) n = frame-length ∙ ap (λ (k : Command). frameLength k n) (sym command-in) in
+      let fits : replyLength (commandIn its-frame) n ≤ room = subst (λ (k : Command). replyLength k n ≤ room) (sym command-in) enough in (
         ap not is-sound-table,
         (
           le-ltb _ _ four,
@@ -86,7 +86,18 @@ module _ (table values buffer : List ℕ) (code : ℕ) (c : Command) (its : comm
           ),
         ),
       )
-      ∙ ap (λ (k : Command). Good k n) command-in
+
+module _ (table values buffer : List ℕ) (code : ℕ) (c : Command) (its : commandOf code commands ≡ c) (listed : isListed c ≡ true)
+    (is-sound-table : sound table ≡ true) (right-count : length values ≡ valueCount c (monitors table)) (enough : replyLength c (monitors table) ≤ length buffer) where
+  abbrev frame : List ℕ
+  frame = frameFor code (monitors table) values
+
+  pub judged-good : judged table frame (length buffer) ≡ Good c (monitors table)
+  unfolding judged
+  judged-good =
+      passes (frameRefusals table frame (length buffer)) Bad (Good (commandIn frame) (monitors table))
+      (host-passes table values code (length buffer) c its listed is-sound-table right-count enough)
+      ∙ ap (λ (k : Command). Good k (monitors table)) (command-in table values code (length buffer) c its listed is-sound-table right-count enough)
 
   pub accepted : answer table frame (length buffer) ≡ Accepted (takenBy c (monitors table) frame) (replyLength c (monitors table))
   accepted = the-answer table frame buffer judged-good

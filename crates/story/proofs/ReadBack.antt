@@ -20,15 +20,16 @@ use Rattle.records.specs.declared.commands.Command.the-variants.{Writes}
 use Rattle.records.specs.declared.commands.Write.{Write}
 use Rattle.records.specs.declared.commands.Write.the-variants.{Wrcfgb, Wrpwma, Wrpwmb}
 use Rattle.records.specs.declared.record.Part.{Part}
-use Rattle.records.specs.Record.{recordSize, byteOf, unlocked}
+use Rattle.records.specs.Record.{recordSize, byteOf, unlocked, onBytes}
 use Rattle.records.specs.Commands.{commands, commandOf, rdcfgb, rdpwma, rdpwmb, payloadSize}
 use Rattle.writes.specs.Writes.{rulesOf, changed, byRules, opens, written}
 use Rattle.writes.proofs.Storing.{six, as-sent}
 use Rattle.writes.proofs.Written.{opens-always}
 use Rattle.monitor.specs.Effects.{locked, counted, goodFor, keeps}
+use Rattle.monitor.specs.Spares.{sixOf}
 use Rattle.reads.specs.Shown.{ofCells}
 use Rattle.reads.specs.Reply.{sixBytes, register, reply}
-use Rattle.records.proofs.Anew.{anew-inside}
+use Rattle.records.proofs.Anew.{anew-inside, anew-same}
 use Rattle.monitor.proofs.Keeping.{right-good, good-length, keeps-opened}
 use Rattle.reads.proofs.Parts.{shows-other}
 use Rattle.reads.proofs.Showing.{shows}
@@ -146,6 +147,14 @@ pub whole-byte : (c : Write) → rulesOf c .stored ≡ six 255 → rulesOf c .ke
     → (i old : ℕ) → i < 6 → changed (rulesOf c) sent i old ≡ getD bs i 0
 whole-byte c st ke on bs sent same bytes i old h =
     sym (as-sent (rulesOf c) st ke on sent i old h) ∙ mod-eq-of-lt (rw (same i h) (bytes i h)) ∙ same i h
+
+-- the whole record after it
+pub stores-whole : (c : Write) → rulesOf c .stored ≡ six 255 → rulesOf c .kept ≡ six 0 → rulesOf c .ones ≡ six 0 → (eight r : List ℕ) → goodFor c eight ≡ true
+    → opens (rulesOf c) (byteOf unlocked r) ≡ true → ((i : ℕ) → i < dataSize → getD eight i 0 < 256)
+    → keeps (Writes c) eight r ≡ onBytes (sixOf c) (λ i old. getD eight i 0) (counted (locked r))
+unfolding byRules onBytes
+stores-whole c st ke on eight r good opened bytes =
+    keeps-opened c eight r good opened ∙ anew-same _ _ (rulesOf c .at) 6 (counted (locked r)) (λ i h. whole-byte c st ke on eight eight (λ k j. refl) bytes i _ h)
 
 pub b-read-back : ReadsBack Wrcfgb rdcfgb as-written
 b-read-back =

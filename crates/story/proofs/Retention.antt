@@ -6,16 +6,15 @@ use mathlib.Core.Path.{_≡_, refl, sym, ap, _∙_}
 use mathlib.Core.Bool.{true}
 use mathlib.Core.List.{List}
 use mathlib.Core.Logic.{inr}
-use Prim.Native.Nat.{ℕ, suc, _+_, _-_, _*_, _<_}
+use Prim.Native.Nat.{ℕ, _-_, _<_}
 use native.Mathlib.Nat.{lt-of-lt-of-le}
 use native.Mathlib.Omega.{arith}
 use lib.Dec.{lit<, lit≤}
 use lib.ListN.{length, getD, take, drop, length-drop, length-take}
-use lib.Seq.{ext-getD, take-at, getD-drop}
+use lib.Seq.{ext-getD, take-at}
 use borrow.Author.Tests.{eq-eqb, ne-eqb}
 use Rattle.laws.specs.Rows.{rowAt}
 use Rattle.laws.proofs.Lists.{getD-any}
-use Rattle.laws.proofs.Rows.{length-row-at, row-element}
 use Rattle.laws.proofs.Tables.{at-each}
 use Rattle.refusals.specs.Order.{Passed}
 use Rattle.records.specs.declared.commands.Bare.the-variants.{Ulrr}
@@ -23,8 +22,8 @@ use Rattle.records.specs.declared.commands.Command.the-variants.{Reads, Writes,
 use Rattle.records.specs.declared.commands.Write.the-variants.{Wrrr}
 use Rattle.records.specs.Record.{recordSize, retention, unlocked, bytesOf, byteOf, onBytes}
 use Rattle.records.specs.Commands.{rdrr, payloadSize}
-use Rattle.records.proofs.Anew.{anew-inside, anew-same}
-use Rattle.writes.specs.Writes.{rulesOf, byRules, opens}
+use Rattle.records.proofs.Anew.{anew-inside}
+use Rattle.writes.specs.Writes.{rulesOf, opens}
 use Rattle.writes.proofs.Written.{opens-unlocked}
 use Rattle.monitor.specs.Effects.{locked, counted, done, goodFor, keeps}
 use Rattle.monitor.proofs.Keeping.{good-unchecked, keeps-opened}
@@ -37,9 +36,9 @@ use Rattle.judging.specs.Refusals.{commandIn}
 use Rattle.chain.specs.Frame.{frameRefusals, tableAfter, replyAfter}
 use Rattle.host.specs.Frames.{dataSize}
 use Rattle.story.specs.ReadsBack.{as-written}
-use Rattle.story.proofs.Accepted.{frame-whole, kept-table, eightAt, record-at, kept-at, reply-own}
+use Rattle.story.proofs.Accepted.{kept-table, eightAt, eight-long, eight-bytes, record-at, kept-at, reply-own}
 use Rattle.story.proofs.OurHost.{length-register}
-use Rattle.story.proofs.ReadBack.{whole-byte, reads-back}
+use Rattle.story.proofs.ReadBack.{whole-byte, stores-whole, reads-back}
 
 -- ---- one monitor
 
@@ -52,10 +51,7 @@ module _ (eight r : List ℕ) (l : length eight ≡ payloadSize) where
 
   pub wrrr-unlocked : ((i : ℕ) → i < dataSize → getD eight i 0 < 256) → byteOf unlocked r ≡ 1
       → keeps (Writes Wrrr) eight r ≡ onBytes retention (λ i old. getD eight i 0) (counted (locked r))
-  unfolding byRules onBytes
-  wrrr-unlocked bytes was =
-      keeps-opened Wrrr eight r good (opened was)
-      ∙ anew-same _ _ (retention .at) 6 (counted (locked r)) (λ i h. whole-byte Wrrr refl refl refl eight eight (λ k j. refl) bytes i _ h)
+  wrrr-unlocked bytes was = stores-whole Wrrr refl refl refl eight r good (opened was) bytes
 
   pub wrrr-locked : (byteOf unlocked r ≡ 1 → ⊥) → keeps (Writes Wrrr) eight r ≡ counted (locked r)
   wrrr-locked was = keeps-opened Wrrr eight r good (opens-unlocked (rulesOf Wrrr) (byteOf unlocked r) refl ∙ ne-eqb (byteOf unlocked r) 1 was)
@@ -92,9 +88,7 @@ module _ (table write read buffer : List ℕ) (room : ℕ) (first : Passed (fram
   eight = eightAt table write room first k
 
   own : length eight ≡ payloadSize
-  own =
-      length-row-at payloadSize (monitors table) (drop 4 write) (monitors table - suc k) (omega arith)
-      (omega (arith, length-drop 4 write, frame-whole table write room first wrrr))
+  own = eight-long table write room first wrrr k h
 
   -- the part of the reply of the monitor at k
   abbrev part : List ℕ
@@ -112,12 +106,7 @@ module _ (table write read buffer : List ℕ) (room : ℕ) (first : Passed (fram
   retained was bytes =
       part-shows
       ∙ reads-back Wrrr rdrr as-written (record { place = refl; six-long = refl; fits = lit≤ tt; live = refl; as-many = λ six l. l; each = whole-byte Wrrr refl refl refl })
-      eight before (good eight before own) (opened eight before own was) own-bytes (record-at table write room first k h)
-    where
-      own-bytes : (i : ℕ) → i < dataSize → getD eight i 0 < 256
-      own-bytes i j =
-          rw (row-element payloadSize (monitors table - suc k) (drop 4 write) i 0 (omega arith))
-          (rw (getD-drop 4 write ((monitors table - suc k) * payloadSize + i) 0) (bytes (4 + ((monitors table - suc k) * payloadSize + i))))
+      eight before (good eight before own) (opened eight before own was) (λ i j. eight-bytes table write room first bytes k i) (record-at table write room first k h)
 
   pub not-retained : (byteOf unlocked before ≡ 1 → ⊥) → part ≡ bytesOf retention before
   not-retained was =

@@ -2,3 +2,4 @@ pub mod Numbers
 pub mod Runs
 pub mod ReadsBack
 pub mod Snapshots
+pub mod Spikes

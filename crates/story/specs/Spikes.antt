@@ -1,0 +1,59 @@
+-- Document 02, L7: what a spike on the wire can do. Frames that our host builds, as they were sent and as they came, and which monitors a spike
+-- spares. Monitors are counted from 0.
+-- Assumes nothing.
+use mathlib.Core.Path.{_≡_}
+use mathlib.Core.Bool.{Bool}
+use mathlib.Core.List.{List}
+use Prim.Native.Nat.{ℕ, suc, _-_}
+use lib.ListN.{length, take, drop}
+use Rattle.laws.specs.Counts.{count, same}
+use Rattle.laws.specs.Rows.{rowAt}
+use Rattle.laws.specs.Tables.{tabulate}
+use Rattle.pec.specs.Spikes.{Spike}
+use Rattle.refusals.specs.Order.{Passed}
+use Rattle.records.specs.declared.commands.Command.{Command}
+use Rattle.records.specs.Commands.{commands, commandOf, payloadSize}
+use Rattle.host.specs.Frames.{headSize, frameFor, buildRefusals}
+
+-- ---- what was sent, and what came
+
+-- how many places in a row a spike may take: behind the first four bytes, and where it hits these, a command with its check and the 0 after it
+abbrev pub dataPlaces : ℕ
+dataPlaces = 10
+
+abbrev pub commandPlaces : ℕ
+commandPlaces = 15
+
+-- a frame of a command for n monitors as our host builds it, of some code and values that it does not refuse
+pub record Ours (c : Command) (n : ℕ) (sent : List ℕ) : Type 0 where
+  pub code : ℕ
+  pub values : List ℕ
+  pub its : commandOf code commands ≡ c
+  pub passed : Passed (buildRefusals code n values (length sent))
+  pub built : sent ≡ frameFor code n values
+
+-- a spike struck it behind its first four bytes, within ten places in a row
+pub record StruckData (c : Command) (n : ℕ) (sent came : List ℕ) : Type 0 where
+  pub ours : Ours c n sent
+  pub spike : Spike dataPlaces sent came
+  pub same-head : take headSize came ≡ take headSize sent
+
+-- a spike struck its first four bytes, within fifteen places in a row; whether some of them lie behind these four does not matter
+pub record StruckCommand (c : Command) (n : ℕ) (sent came : List ℕ) : Type 0 where
+  pub ours : Ours c n sent
+  pub spike : Spike commandPlaces sent came
+  pub hit-head : take headSize came ≡ take headSize sent → ⊥
+
+-- ---- which monitors it hits, and which not
+
+-- the own eight bytes of the monitor at k, in a frame for n monitors: the k-th from the end
+unfoldable pub ownEight : ℕ → List ℕ → ℕ → List ℕ
+ownEight n frame k = rowAt payloadSize (n - suc k) (drop headSize frame)
+
+-- they came as they were sent; a monitor of which this is not so was hit
+unfoldable pub unhit : ℕ → List ℕ → List ℕ → ℕ → Bool
+unhit n sent came k = same (ownEight n came k) (ownEight n sent k)
+
+-- how many of the n monitors were not hit
+unfoldable pub unhitOf : ℕ → List ℕ → List ℕ → ℕ
+unhitOf n sent came = count (unhit n sent came) (tabulate (λ k. k) 0 n)
