@@ -91,6 +91,39 @@ class Case(unittest.TestCase):
         self.assertEqual(int(answer), number, "a refusal is its number only")
 
 
+class BothEngines(Case):
+    """Each frame goes to both engines."""
+
+    @staticmethod
+    def each(place, *some_bytes):
+        """Changes at one place of every record, nearest monitor first."""
+        return {RECORD * at + place: each for at, each in enumerate(some_bytes)}
+
+    def sent(self, table, frame):
+        """A frame whole to the table and clocked to one like it: the same answers, reply and bytes left. The answer, and the reply."""
+        twin, state, reply = bytearray(table), started(), bytearray([CANARY]) * 300
+        answer, answered = osk_frame(table, frame, reply), clocked(state, twin, frame)
+        self.assertEqual(osk_clock_release(state, twin), answer)
+        self.assertEqual(twin, table)
+        self.assertEqual(reply[answer.second:], bytes([CANARY]) * (300 - answer.second))
+        if answer.number == OSK_ACCEPTED:
+            self.assertEqual(answered, (b"\xff" * 4 + reply[:answer.second]).ljust(len(frame), b"\xff"))
+        return answer, reply[:answer.second]
+
+    def takes(self, table, frame, changes):
+        """Every monitor takes the frame, counts it (63 is followed by 1) and is locked; beside that it makes these changes and no other."""
+        counted = (bytes([counter % 63 + 1, 0]) for counter in table[COUNTER::RECORD])
+        expected = edited(table, {**self.each(COUNTER, *counted), **changes})
+        self.assert_answer(self.sent(table, frame)[0], len(table) // RECORD, 0)
+        self.assertEqual(table, expected)
+
+    def keeps(self, table, frame, number):
+        """Refused with the number, and every byte stays."""
+        before = bytes(table)
+        self.assert_refused(self.sent(table, frame)[0], number)
+        self.assertEqual(table, before)
+
+
 class Words(unittest.TestCase):
     """The tests' own check words hold to the paper's worked examples 1 to 7."""
 
@@ -473,15 +506,10 @@ class Record(Case):
                     self.assertEqual(lent, table)
 
 
-class Snapshots(Case):
+class Snapshots(BothEngines):
     """SNAP and UNSNAP, by both engines."""
 
     SNAP, UNSNAP = bytes.fromhex("002DD2A2"), bytes.fromhex("002F4FF4")
-
-    @staticmethod
-    def each(place, *some_bytes):
-        """Changes at one place of every record, nearest monitor first."""
-        return {RECORD * at + place: each for at, each in enumerate(some_bytes)}
 
     def bytes_5(self, *values):
         return self.each(5, *(bytes([value]) for value in values))
@@ -498,30 +526,6 @@ class Snapshots(Case):
     def stored(self, table, *codes_of_each):
         for position, codes in enumerate(codes_of_each, 1):
             self.assert_answer(osk_store(table, position, codes), 0, 0)
-
-    def sent(self, table, frame):
-        """A frame whole to the table and clocked to one like it: the same answers, reply and bytes left. The answer, and the reply."""
-        twin, state, reply = bytearray(table), started(), bytearray([CANARY]) * 300
-        answer, answered = osk_frame(table, frame, reply), clocked(state, twin, frame)
-        self.assertEqual(osk_clock_release(state, twin), answer)
-        self.assertEqual(twin, table)
-        self.assertEqual(reply[answer.second:], bytes([CANARY]) * (300 - answer.second))
-        if answer.number == OSK_ACCEPTED:
-            self.assertEqual(answered, b"\xff" * 4 + reply[:answer.second])
-        return answer, reply[:answer.second]
-
-    def takes(self, table, frame, changes):
-        """Every monitor takes the frame, counts it (63 is followed by 1) and is locked; beside that it makes these changes and no other."""
-        counted = (bytes([counter % 63 + 1, 0]) for counter in table[COUNTER::RECORD])
-        expected = edited(table, {**self.each(COUNTER, *counted), **changes})
-        self.assert_answer(self.sent(table, frame)[0], len(table) // RECORD, 0)
-        self.assertEqual(table, expected)
-
-    def keeps(self, table, frame, number):
-        """Refused with the number, and every byte stays."""
-        before = bytes(table)
-        self.assert_refused(self.sent(table, frame)[0], number)
-        self.assertEqual(table, before)
 
     def shows(self, table, command, *registers):
         """A read has these six bytes of each monitor, nearest first, and its counter."""
@@ -755,12 +759,11 @@ class Host(Case):
         self.builds(wire.SNAP, 1, b"", bytes.fromhex("002DD2A2"))
         self.builds(wire.UNSNAP, 1, b"", bytes.fromhex("002F4FF4"))
         near, far = bytes.fromhex("715246000000"), bytes.fromhex("F4813E123456")
-        for command in wire.WRCFGA, wire.WRCFGB, wire.WRRR, wire.CLRFLAG, wire.CLOVUV, wire.WRPWMA, wire.WRPWMB:
+        for command in wire.WRITES:
             self.builds(command, 2, near + far, wire.command_bytes(command) + wire.payload(far) + wire.payload(near))
-        for command in (wire.RDCFGA, wire.RDCFGB, wire.RDCVA, wire.RDCVB, wire.RDCVC, wire.RDCVD, wire.RDCVE, wire.RDCVF, wire.RDSTATC,
-                        wire.RDSTATD, wire.RDSID, wire.RDRR, wire.RDPWMA, wire.RDPWMB):
+        for command in wire.READS:
             self.builds(command, 32, b"", wire.command_bytes(command) + b"\xff" * 256)
-        for command in wire.MUTE, wire.UNMUTE, wire.RSTCC, wire.ULRR, wire.CLRCELL, wire.SNAP, wire.UNSNAP:
+        for command in wire.BARE:
             self.builds(command, 32, b"", wire.command_bytes(command))
 
     def test_refusals_in_their_order(self):

@@ -1,4 +1,4 @@
-// Each command on two monitors whose bytes all differ, damaged payloads, the counters at their end, and loads, stores and compares.
+// Each command on two monitors whose bytes all differ, damaged payloads, spikes, the counters at their end, and loads, stores and compares.
 use crate::cases::Case;
 use crate::cases::tried;
 use crate::words::CASES;
@@ -12,12 +12,12 @@ use crate::words::CASES;
 //    stored before it, and at which position.
 // 2. Its sizes and what is expected, in decimal, begin_monitors_frame_room_refusal_taken_kind_place_count_shown: the table that the case begins
 //    with (starts.rt), its monitors, the bytes of the frame and the room for a reply; then the refusal or 0, how many monitors take it, and
-//    the kind (0 is bare or refused, 1 a read, 2 a write, 3 a SNAP that copies in the second monitor); then the place in a record and the count of the bytes that numbers 5 and 6 are;
+//    the kind (0 is bare, 1 a read, 2 a write, 3 a SNAP that copies in the second monitor; of a refused frame 0 will do); then the place in a record and the count of the bytes that numbers 5 and 6 are;
 //    and what is shown of the outcome (cases.rt).
 // 3, 4. Of a read, the replies of the first and the second monitor. Of a write, the eight bytes that each is sent, and of a load, a
 //    store or a compare the first is what WRCFGB sent before it, to both, where its table asks for that.
 // 5, 6. The bytes that are expected at that place of the first and the second record. Every other byte stays as it was.
-const ROWS: [u64; 702] = [
+const ROWS: [u64; 768] = [
     // MUTE on 0, 1, 32 and 33 monitors of 0
     0x0028_e80e_0000_0000,
     00_00_004_008_1_00_0_00_00_0,
@@ -484,6 +484,83 @@ const ROWS: [u64; 702] = [
     0x61e2_e3e4_e5e6_02ec,
     0x0102_0304_0506_5f60,
     0xc5c6_c7c8_c9ca_cbcc,
+    // spikes, after ULRR. Ten bits for monitor 1, as the data polynomial 48f has ones but for its last: it keeps all but byte 69
+    0x0024_b19e_0600_0b00,
+    03_02_020_020_0_01_2_06_08_6,
+    0x90c2_0304_0506_0131,
+    0xe1e2_e3e4_e5e6_02ec,
+    0x2728_292a_2b2c_2d2e,
+    0xe1e2_e3e4_e5e6_999a,
+    // its last too: the check is right again, and what came is stored
+    0x0024_b19e_0700_0b00,
+    03_02_020_020_0_02_2_06_08_6,
+    0x90e2_0304_0506_0131,
+    0xe1e2_e3e4_e5e6_02ec,
+    0x90e2_0304_0506_2d2e,
+    0xe1e2_e3e4_e5e6_999a,
+    // all ten, from the first bit after the command on
+    0x0024_b19e_0700_0a00,
+    03_02_020_020_0_01_2_06_08_6,
+    0x0102_0304_0506_0131,
+    0x1e22_e3e4_e5e6_02ec,
+    0x0102_0304_0506_2d2e,
+    0x9394_9596_9798_999a,
+    // all ten, over the border of the two payloads: both are hit
+    0x0024_b19e_0600_0a00,
+    03_02_020_020_0_00_2_06_08_6,
+    0xfe82_0304_0506_0131,
+    0xe1e2_e3e4_e5e6_02ed,
+    0x2728_292a_2b2c_2d2e,
+    0x9394_9596_9798_999a,
+    // the same in a WRRR, which is executed whatever its check
+    0x0039_3812_0700_0b00,
+    03_02_020_020_0_02_2_56_08_6,
+    0xfe82_0304_0506_0131,
+    0xe1e2_e3e4_e5e6_02ed,
+    0xfe82_0304_0506_5f60,
+    0xe1e2_e3e4_e5e6_cbcc,
+    // all ten, from the command's last bit on: refused, so that byte 69 stays too
+    0x0024_b19f_0601_0a01,
+    03_02_020_020_3_00_2_00_00_3,
+    0x0102_0304_0506_0131,
+    0x1e62_e3e4_e5e6_02ec,
+    0,
+    0,
+    // MUTE, fifteen bits, as the command polynomial c599 has ones but for its first
+    0x0028_633c_0601_0a01,
+    03_02_004_020_3_00_0_00_00_3,
+    0,
+    0,
+    0,
+    0,
+    // its first too: an UNMUTE with its right check
+    0x0029_633c_0700_0b00,
+    03_02_004_020_0_02_0_00_08_6,
+    0,
+    0,
+    0x2122_2324_2526_2728,
+    0x8d8e_8f90_9182_9394,
+    // the same one bit further on, where the 0 after the check is the last of the sixteen
+    0x0028_2d97_0601_0a01,
+    03_02_004_020_3_00_0_00_00_3,
+    0,
+    0,
+    0,
+    0,
+    // RDRR, all of the last fifteen bits, that 0 among them
+    0x003a_5189_0601_0a01,
+    03_02_020_020_3_00_0_00_00_3,
+    0,
+    0,
+    0,
+    0,
+    // WRPWMA, sixteen bits by that polynomial: a WRPWMB with its right check
+    0x0021_8b32_0700_0b00,
+    03_02_020_020_0_02_2_74_08_6,
+    0x0102_0304_0506_0131,
+    0xe1e2_e3e4_e5e6_02ec,
+    0x696a_0102_ffff_ffff,
+    0xd5d6_e1e2_ffff_ffff,
     // MUTE, the counters being 62 and 63
     0x0028_e80e_3f00_0100,
     05_02_004_020_0_02_0_00_08_6,
@@ -803,11 +880,11 @@ const ROWS: [u64; 702] = [
 ];
 
 fn number(k: usize) -> u64 {
-    ROWS[k % 702]
+    ROWS[k % 768]
 }
 
 pub(crate) fn command(i: usize) -> bool {
-    let k = i % 117 * 6;
+    let k = i % 128 * 6;
     let c = Case {
         given: number(k),
         sizes: number(k + 1),
@@ -816,5 +893,5 @@ pub(crate) fn command(i: usize) -> bool {
         at_first: number(k + 4),
         at_second: number(k + 5),
     };
-    tried(c, CASES + (i % 117) as u64)
+    tried(c, CASES + (i % 128) as u64)
 }

@@ -73,10 +73,11 @@ fn main() {
     let t = run(t, words::ORDER, ORDER, 0, 31);
     let t = run(t, 0, COMMAND, 57, 58);
     let t = run(t, words::DAMAGE, COMMAND, 58, 69);
-    let t = run(t, words::COUNTERS, COMMAND, 69, 74);
-    let t = run(t, words::LOADS, COMMAND, 74, 90);
-    let t = run(t, words::STORES, COMMAND, 90, 102);
-    let t = run(t, words::COMPARES, COMMAND, 102, 117);
+    let t = run(t, words::SPIKES, COMMAND, 69, 80);
+    let t = run(t, words::COUNTERS, COMMAND, 80, 85);
+    let t = run(t, words::LOADS, COMMAND, 85, 101);
+    let t = run(t, words::STORES, COMMAND, 101, 113);
+    let t = run(t, words::COMPARES, COMMAND, 113, 128);
     let t = run(t, words::OUTPUTS, OUTPUTS, 0, 51);
     let t = run(t, words::HOSTS, BUILD, 0, 20);
     let t = run(t, words::VOLTS, VOLTS, 0, 5);

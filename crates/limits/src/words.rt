@@ -85,13 +85,15 @@ pub(crate) const ON: u64 = 56;
 
 pub(crate) const SNAPSHOTS: u64 = 57;
 
-pub(crate) const MICROVOLTS: u64 = 58;
+pub(crate) const SPIKES: u64 = 58;
 
-pub(crate) const ORDERED: u64 = 68;
+pub(crate) const MICROVOLTS: u64 = 59;
 
-pub(crate) const CASES: u64 = 99;
+pub(crate) const ORDERED: u64 = 69;
 
-pub(crate) const ASKED: u64 = 216;
+pub(crate) const CASES: u64 = 100;
+
+pub(crate) const ASKED: u64 = 228;
 
 // The words of a number, with the numbers in them.
 pub(crate) fn words(k: u64, a: u64, b: u64, c: u64, d: u64) {
@@ -154,6 +156,7 @@ pub(crate) fn words(k: u64, a: u64, b: u64, c: u64, d: u64) {
     |discharge outputs\n\
     |: on #;\
     |snapshots; monitor 1 is lent with one on\n\
+    |spikes, after ULRR: of the bits hit, all in a row, the first and the last at least are turned over\n\
     |code -10000\
     |: microvolts 0\
     |code 0\
@@ -264,6 +267,17 @@ pub(crate) fn words(k: u64, a: u64, b: u64, c: u64, d: u64) {
     |WRRR, both damaged\
     |WRRR, both damaged, a MUTE between\
     |WRRR, both damaged, monitor 1 alone unlocked\
+    |WRCFGB, ten bits for monitor 1 hit\
+    |WRCFGB, eleven bits for monitor 1 hit, by the data polynomial\
+    |WRCFGB, ten bits for monitor 2 hit\
+    |WRCFGB, one bit for monitor 2 and nine for monitor 1 hit\
+    |WRRR, one bit for monitor 2 and nine for monitor 1 hit\
+    |WRCFGB, one bit of the command and nine for monitor 2 hit\
+    |MUTE, fifteen bits hit, comes as 00 28 63 3c\
+    |MUTE, sixteen bits hit, by the command polynomial, comes as UNMUTE, 00 29 63 3c\
+    |MUTE, its last sixteen bits hit, by the command polynomial, comes as 00 28 2d 97\
+    |RDRR, the last fifteen bits of the command hit, comes as 00 3a 51 89\
+    |WRPWMA, sixteen bits of the command hit, by its polynomial, comes as WRPWMB, 00 21 8b 32\
     |MUTE\
     |RSTCC\
     |SNAP\
