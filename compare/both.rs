@@ -3,6 +3,7 @@
 use crate::cells;
 use crate::difference::{listed, refused, Difference, Faults};
 use crate::effects;
+use crate::inputs::MOST;
 use crate::lent::{Both, Lent};
 use crate::outputs::{self, Question};
 use crate::run::{Done, Run};
@@ -149,6 +150,13 @@ pub fn host_frame(run: &mut Run, command: u16, monitors: usize, values: &[u8], r
         ]
     })?;
     Ok((library, out.contents().to_vec()))
+}
+
+/// The frame that the host builds of these values, in more room than it needs.
+pub fn built(run: &mut Run, command: u16, monitors: usize, values: &[u8]) -> Result<Vec<u8>, Box<Difference>> {
+    let (answer, mut out) = host_frame(run, command, monitors, values, 4 + 8 * MOST)?;
+    out.truncate((answer >> 16) as usize);
+    Ok(out)
 }
 
 pub fn check(run: &mut Run, payload: &[u8]) -> Answered {

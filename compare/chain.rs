@@ -24,9 +24,20 @@ impl Chain {
 
     /// A chain with this sound table.
     pub fn of(run: &mut Run, bytes: &[u8]) -> Result<Chain, Box<Difference>> {
+        let clocks = Clocks::new(run)?;
+        Ok(Chain::with(run, bytes, clocks))
+    }
+
+    /// The same, but that nobody watches its windows.
+    pub fn unwatched(run: &mut Run, bytes: &[u8]) -> Result<Chain, Box<Difference>> {
+        let clocks = Clocks::unwatched(run)?;
+        Ok(Chain::with(run, bytes, clocks))
+    }
+
+    fn with(run: &mut Run, bytes: &[u8], clocks: Clocks) -> Chain {
         let whole = Both::new(&mut run.random, bytes);
         let clocked = Both::new(&mut run.random, bytes);
-        Ok(Chain { whole, clocked, clocks: Clocks::new(run)?, monitors: bytes.len() / RECORD })
+        Chain { whole, clocked, clocks, monitors: bytes.len() / RECORD }
     }
 
     pub fn monitors(&self) -> usize {
@@ -105,7 +116,7 @@ impl Chain {
             faults.add(format!("answer: whole {answer:#010x}, clocked {release:#010x}"));
         }
         self.compare_tables(&mut faults);
-        let read = !refused(answer) && inputs::shape(u16::from_be_bytes([frame[0], frame[1]])) == Some(Shape::Read);
+        let read = !refused(answer) && inputs::shape(inputs::first_code(frame)) == Some(Shape::Read);
         if read && answered[4..] != *reply.contents() {
             faults.add(format!("reply: whole {}, clocked {}", listed(reply.contents()), listed(&answered[4..])));
         }

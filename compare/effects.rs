@@ -1,7 +1,7 @@
 //! What an accepted frame did, read off the table before and after it and, in a write, off the payloads. An effect counts once a frame.
 
 use crate::copies;
-use crate::inputs::{at, head, is_damaged, shape, snapped, with_check, Shape, RECORD, WRRR};
+use crate::inputs::{at, differ, first_code, head, is_damaged, shape, snapped, with_check, Shape, RECORD, WRRR};
 use crate::lent::Both;
 use crate::run::Run;
 use crate::tally::{Effect, Engine};
@@ -50,7 +50,7 @@ impl Received<'_> {
         let six = self.sent[..6].try_into().expect("six of eight bytes");
         let mut record = self.before.to_vec();
         model::frame(&mut record, &[&head(code)[..], &with_check(six, 0)].concat(), &mut []);
-        record[..at::COUNTER] != self.before[..at::COUNTER] || record[at::PWM_A..] != self.before[at::PWM_A..]
+        differ(&record, self.before)
     }
 }
 
@@ -60,7 +60,7 @@ fn retention(record: &[u8]) -> &[u8] {
 
 /// `shown` is the table that a read goes by: a whole frame's own before the call, a clocked one's of byte four.
 pub fn note(run: &mut Run, engine: Engine, frame: &[u8], shown: &[u8], table: &Both<u8>) {
-    let code = u16::from_be_bytes([frame[0], frame[1]]);
+    let code = first_code(frame);
     run.tally.accepted(engine, code);
     let records = || table.before.chunks(RECORD).zip(table.contents().chunks(RECORD));
     let after_63 = records().any(|(before, after)| before[at::COUNTER] == 63 && after[at::COUNTER] == 1);

@@ -78,6 +78,28 @@ pub fn shape(code: u16) -> Option<Shape> {
     })
 }
 
+/// The code that a frame begins with.
+pub fn first_code(frame: &[u8]) -> u16 {
+    u16::from_be_bytes([frame[0], frame[1]])
+}
+
+pub fn writes() -> impl Iterator<Item = u16> {
+    LISTED[WRITES].iter().map(|(code, _)| *code)
+}
+
+/// How many bytes the host is lent for a frame of this code, and how many the frame has.
+pub fn values_owed(code: u16, monitors: usize) -> usize {
+    if shape(code) == Some(Shape::Write) {
+        6 * monitors
+    } else {
+        0
+    }
+}
+
+pub fn frame_length(code: u16, monitors: usize) -> usize {
+    4 + if shape(code) == Some(Shape::Bare) { 0 } else { 8 * monitors }
+}
+
 pub fn any_listed(random: &mut Random) -> u16 {
     random.pick(&LISTED).0
 }
@@ -232,6 +254,11 @@ pub fn record(random: &mut Random) -> Vec<u8> {
     record[at::COUNTER] = if random.once_in(2) { random.pick(&[0, 1, 61, 62, 63]) } else { random.below(64) as u8 };
     record[at::UNLOCKED] = random.below(2) as u8;
     record
+}
+
+/// Two records of one monitor differ in more than its counter and its lock.
+pub fn differ(one: &[u8], other: &[u8]) -> bool {
+    one[..at::COUNTER] != other[..at::COUNTER] || one[at::PWM_A..] != other[at::PWM_A..]
 }
 
 /// A copy of any bytes, or of the live cells, whole or but for one bit.

@@ -15,6 +15,9 @@ mod lent;
 mod outputs;
 mod random;
 mod run;
+mod sent;
+mod spike;
+mod struck;
 mod surface;
 mod tally;
 

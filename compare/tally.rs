@@ -1,6 +1,6 @@
 //! What came up, so that a run which tried too little fails instead of passing.
 
-use crate::inputs::{needs_check, part_shown, LISTED};
+use crate::inputs::{needs_check, part_shown, shape, Shape, LISTED};
 use crate::surface::Function;
 use std::collections::BTreeMap;
 
@@ -23,7 +23,7 @@ macro_rules! situations {
     };
 }
 
-// What an accepted frame did that its answer alone does not show. Each must come up in both engines.
+// What a frame did, mostly an accepted one, that its answer alone does not show. Each must come up in both engines.
 situations! { Effect:
     TakenBySome: "a write taken by some monitors only",
     TakenByNone: "a write taken by none",
@@ -51,6 +51,39 @@ situations! { Effect:
     WrcfgaSendsSnapSt: "WRCFGA taken while no snapshot is on, sent with SNAP_ST set",
     StatusCInSnapshot: "RDSTATC while a snapshot is on",
     StatusDInSnapshot: "RDSTATD while a snapshot is on",
+    SpikeInOnly: "a spike hits the payload of the only monitor, which keeps its record",
+    SpikeInOne: "a spike hits one payload of several, and each other monitor takes its own",
+    SpikeAtNearest: "a spike hits the nearest monitor alone of several",
+    SpikeAtFarthest: "a spike hits the farthest monitor alone of several",
+    SpikeOverBorder: "a spike over the border of two payloads, and neither is taken",
+    SpikeOverBorderBesideOthers: "a spike over the border of two payloads, and each other monitor takes its own",
+    SpikeInData: "a spike hits data bits alone, and the payload is not taken",
+    SpikeInCounter: "a spike hits the six counter bits alone, and the payload is not taken",
+    SpikeInCheck: "a spike hits check bits alone, and the payload is not taken",
+    SpikeInHighestOfCheck: "a spike hits the two highest check bits alone, and the payload is not taken",
+    SpikeOfTen: "a spike of exactly ten places hits one payload",
+    SpikeOfTenOverBorder: "a spike of exactly ten places hits two payloads",
+    SpikeLocks: "an unlocked monitor is locked by the spike that hits it",
+    SpikeAt63: "a counter of 63 is left by the spike that hits its monitor",
+    SpikeInBulk: "a spike of the list of all within eleven places of two payloads",
+    WrrrSpikeStores: "WRRR hit by a spike while unlocked stores what came",
+    WrrrSpikeLocked: "WRRR hit by a spike while locked stores nothing and is counted",
+    WrrrSpikeOverBorder: "WRRR hit by a spike over the border of two payloads is taken by both",
+    ElevenBesideData: "eleven places of counter and check bits get through, and the data are stored as sent",
+    CommandSpikeInCode: "a spike hits the code alone, refused with 3",
+    CommandSpikeInCheck: "a spike hits the command's check alone, refused with 3",
+    CommandSpikeInBoth: "a spike hits the code and its check, refused with 3",
+    CommandSpikeAtLastPlace: "a spike hits the 0 after the command's check alone, refused with 3",
+    CommandSpikeOfFifteen: "a spike of exactly fifteen places in the command, refused with 3",
+    CommandSpikeToListed: "a spike makes the code of another listed command of that length, refused with 3",
+    CommandSpikeOverBorder: "a spike over the border of the command and the first payload, refused with 3",
+    CommandSpikeKeepsUnlocked: "a spike in a command that would lock leaves a monitor unlocked",
+    CommandSpikeInBulk: "a spike of the list of all within sixteen places of a command",
+    SixteenUnlisted: "sixteen places make a code with a right check that is not listed",
+    SixteenLength: "sixteen places make a listed command of another length",
+    SixteenObeyed: "sixteen places make another write or bare command, which is obeyed",
+    SixteenReadForWrite: "sixteen places make a read of a write, which is answered",
+    SixteenWriteForRead: "sixteen places make a write of a read, which is accepted",
 }
 
 // Other situations that the answers alone do not show.
@@ -136,14 +169,21 @@ pub enum Engine {
     Clocked,
 }
 
-/// What came up of one engine's accepted frames: how many of each command, its damaged payloads that were not taken, its replies that
-/// showed the copy or the live cells where the other ones differ, and the effects.
+impl Engine {
+    pub const BOTH: [Engine; 2] = [Engine::Whole, Engine::Clocked];
+}
+
+/// What came up of one engine's frames: how many of each command were accepted, its damaged payloads that were not taken, its replies that
+/// showed the copy or the live cells where the other ones differ, its frames refused for a spike in the command, its payloads that were
+/// stored otherwise than sent since the check did not see a spike, and the effects.
 #[derive(Default)]
 struct Frames {
     accepted: [u64; LISTED.len()],
     not_taken: [u64; LISTED.len()],
     showed_copy: [u64; LISTED.len()],
     showed_live: [u64; LISTED.len()],
+    struck: [u64; LISTED.len()],
+    slipped: [u64; LISTED.len()],
     effects: BTreeMap<Effect, u64>,
 }
 
@@ -199,6 +239,14 @@ impl Tally {
         showed[place_of(code)] += 1;
     }
 
+    pub fn struck(&mut self, engine: Engine, code: u16) {
+        self.frames[engine as usize].struck[place_of(code)] += 1;
+    }
+
+    pub fn slipped(&mut self, engine: Engine, code: u16) {
+        self.frames[engine as usize].slipped[place_of(code)] += 1;
+    }
+
     pub fn did_if(&mut self, engine: Engine, effect: Effect, came_up: bool) {
         if came_up {
             *self.frames[engine as usize].effects.entry(effect).or_default() += 1;
@@ -247,6 +295,10 @@ impl Tally {
         for (frames, how) in self.frames.iter().zip(["as a whole frame", "at a release"]) {
             for (place, (code, name)) in LISTED.iter().enumerate() {
                 want(frames.accepted[place], format!("{name} ({code:04X}) accepted {how}"));
+                want(frames.struck[place], format!("{name} ({code:04X}) hit by a spike in its command refused {how}"));
+                if shape(*code) == Some(Shape::Write) {
+                    want(frames.slipped[place], format!("{name} ({code:04X}) with eleven places that get through stored {how}"));
+                }
                 if needs_check(*code) {
                     want(frames.not_taken[place], format!("{name} ({code:04X}) with a damaged payload not taken {how}"));
                 }
@@ -267,5 +319,5 @@ impl Tally {
 }
 
 fn place_of(code: u16) -> usize {
-    LISTED.iter().position(|(listed, _)| *listed == code).expect("an accepted command is listed")
+    LISTED.iter().position(|(listed, _)| *listed == code).expect("a command that is counted is listed")
 }

@@ -1,6 +1,6 @@
 //! Which outputs are on, and by which row of Table 27: every event and phase, every duty, every refusal, and questions between frames.
 
-use crate::both::{discharge, host_frame};
+use crate::both::{built, discharge};
 use crate::chain::Chain;
 use crate::inputs::{self, first_of, MOST, RECORD};
 use crate::lent::Both;
@@ -145,8 +145,8 @@ fn every_refusal(run: &mut Run) -> Done {
 
 /// The host's frame of a command, through both engines.
 fn send(run: &mut Run, chain: &mut Chain, code: u16, values: &[u8]) -> Done {
-    let (built, out) = host_frame(run, code, chain.monitors(), values, 4 + 8 * MOST)?;
-    chain.frame(run, &out[..(built >> 16) as usize])?;
+    let frame = built(run, code, chain.monitors(), values)?;
+    chain.frame(run, &frame)?;
     Ok(())
 }
 

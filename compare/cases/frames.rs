@@ -1,6 +1,6 @@
 //! Whole frames, each on a table of its own.
 
-use crate::both::{frame, host_frame};
+use crate::both::{built, frame};
 use crate::inputs::{self, head, Shape, LISTED, MOST};
 use crate::lent::Both;
 use crate::run::{Done, Run};
@@ -84,10 +84,10 @@ fn built_by_the_host(run: &mut Run) -> Done {
     for _ in 0..500 {
         let code = inputs::any_listed(&mut run.random);
         let monitors = run.random.within(1, MOST);
-        let values = if inputs::shape(code) == Some(Shape::Write) { run.random.bytes(6 * monitors) } else { Vec::new() };
-        let (answer, out) = host_frame(run, code, monitors, &values, 4 + 8 * MOST)?;
+        let values = run.random.bytes(inputs::values_owed(code, monitors));
+        let bytes = built(run, code, monitors, &values)?;
         let mut table = table(run, monitors);
-        frame(run, &mut table, &out[..(answer >> 16) as usize], 8 * monitors)?;
+        frame(run, &mut table, &bytes, 8 * monitors)?;
     }
     Ok(())
 }

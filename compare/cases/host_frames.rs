@@ -1,25 +1,13 @@
 //! Frames that the host builds.
 
 use crate::both::host_frame;
-use crate::inputs::{self, Shape, LISTED, MOST};
+use crate::inputs::{self, frame_length, values_owed, LISTED, MOST};
 use crate::run::{Done, Run};
 
 pub fn cases(run: &mut Run) -> Done {
     every_command(run)?;
     every_n(run)?;
     mixed(run)
-}
-
-fn values_owed(code: u16, monitors: usize) -> usize {
-    if inputs::shape(code) == Some(Shape::Write) {
-        6 * monitors
-    } else {
-        0
-    }
-}
-
-fn frame_length(code: u16, monitors: usize) -> usize {
-    4 + if inputs::shape(code) == Some(Shape::Bare) { 0 } else { 8 * monitors }
 }
 
 /// All 65,536, each with the values and the room that it would need.

@@ -11,13 +11,14 @@ mod payloads;
 mod readings;
 mod retention;
 mod snapshots;
+mod spikes;
 mod stores;
 mod tables;
 
 use crate::run::{Done, Run};
 use crate::tally::NEVER_STARTED;
 
-pub const KINDS: [(&str, fn(&mut Run) -> Done); 13] = [
+pub const KINDS: [(&str, fn(&mut Run) -> Done); 14] = [
     ("frames", frames::cases),
     ("tables", tables::cases),
     ("stores", stores::cases),
@@ -29,6 +30,7 @@ pub const KINDS: [(&str, fn(&mut Run) -> Done); 13] = [
     ("clocked", clocked::cases),
     ("retention", retention::cases),
     ("snapshots", snapshots::cases),
+    ("spikes", spikes::cases),
     ("long runs", long_runs::cases),
     (NEVER_STARTED, never_started::cases),
 ];

@@ -3,7 +3,7 @@
 use crate::both::frame;
 use crate::chain::Chain;
 use crate::difference::Difference;
-use crate::inputs::{self, at, damaged_payload, head, needs_check, payload, shape, Shape, LISTED, MOST, RECORD, WRRR};
+use crate::inputs::{self, at, damaged_payload, head, needs_check, payload, writes, MOST, RECORD, WRRR};
 use crate::lent::Both;
 use crate::run::{expect, Done, Run};
 use crate::surface::Function;
@@ -18,10 +18,6 @@ pub fn cases(run: &mut Run) -> Done {
     one_bit_faults(run)?;
     in_any_order(run)?;
     unlocked_written_and_read(run)
-}
-
-fn writes() -> impl Iterator<Item = u16> {
-    LISTED.iter().map(|(code, _)| *code).filter(|&code| shape(code) == Some(Shape::Write))
 }
 
 /// All 65,536 values of a payload's last two bytes: 64 of them are right, and WRRR asks nothing of them.

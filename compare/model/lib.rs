@@ -23,6 +23,8 @@ mod worked_examples;
 mod worked_retention;
 #[cfg(test)]
 mod worked_snapshot;
+#[cfg(test)]
+mod worked_spikes;
 
 pub use chain::{compare, frame, load, store};
 pub use check_words::{
