@@ -377,6 +377,13 @@ def osk_host_frame(command: int, monitors: int, values: Readable, out: Writable)
     """Builds the frame for a command and so many monitors at the start of `out`; bytes past it stay. The values are six bytes for each
     monitor in a write, nearest monitor first, and none (b"") otherwise.
 
+    What a spike on the wire can do to such a frame, at a chain of so many monitors, where it turns over at least one bit:
+    all within ten places in a row, and none in the first four bytes: a write is accepted. Each monitor whose own eight bytes were hit keeps
+    its record, counter included, but for its unlock byte (byte 69), which becomes 0; each other one does as without the spike. So fewer
+    than N take it. Not so a WRRR, which needs no data PEC: every monitor takes it, and an unlocked one stores what came;
+    all within fifteen places in a row, and some in the first four bytes: the frame, of any command, is refused with 3.
+    Eleven places behind the first four bytes, and sixteen in them, may get through.
+
     Second: the length of the frame. Refusals: 4, 7, 8, 6.
     """
     number = _whole("command", command, 0, 0xFFFF)
