@@ -1,7 +1,7 @@
 //! Before anything is timed: the contestants give the same answers and leave the same bytes, on damaged inputs too. It makes sure that
 //! all of them do the same work; compare/ is the test of the library.
 
-use crate::inputs::{host_frame, values_for, Random, BARE, COUNTER, INPUTS, READS, RECORD, UNLOCKED, WRITES};
+use crate::inputs::{data_size, frame_length, host_frame, values_for, Random, BARE, COUNTER, INPUTS, READS, RECORD, UNLOCKED, WRITES};
 use crate::measure::State;
 use crate::sides::{words, Side};
 
@@ -47,11 +47,12 @@ fn any_frame(side: &Side, n: usize, random: &mut Random) -> Vec<u8> {
     let payloads = if WRITES.contains(&command) { n } else { 0 };
     if payloads > 0 && random.below(4) == 0 {
         // Counter bits that our host would not send, with the PEC that is right for them.
-        let at = 4 + 8 * random.below(payloads);
+        let size = data_size(command);
+        let at = 4 + (size + 2) * random.below(payloads);
         let counter = random.below(64) as u8;
-        let pec = unsafe { words::plain_data_pec10(frame[at..].as_ptr(), 6, counter) };
-        frame[at + 6] = counter << 2 | (pec >> 8) as u8;
-        frame[at + 7] = pec as u8;
+        let pec = unsafe { words::plain_data_pec10(frame[at..].as_ptr(), size, counter) };
+        frame[at + size] = counter << 2 | (pec >> 8) as u8;
+        frame[at + size + 1] = pec as u8;
     }
     match random.below(10) {
         0 => {
@@ -160,7 +161,8 @@ fn hosts(sides: &[Side], random: &mut Random) {
         let (command, n) = (any_command(random), random.below(34));
         let one_more = usize::from(random.below(10) == 0);
         let values = random.bytes(values_for(command, n) + one_more);
-        let room = [4 + 8 * n, 300, 3 + 8 * n][random.below(3)];
+        let length = frame_length(command, n);
+        let room = [length, 300, length - 1][random.below(3)];
         let build = |side: &Side| {
             let mut out = [CANARY; 300];
             let answer = unsafe { (side.host_frame)(command, n, values.as_ptr(), values.len(), out.as_mut_ptr(), room) };

@@ -2,24 +2,28 @@
 
 use crate::sides::Side;
 
-pub const RECORD: usize = 114;
+pub const RECORD: usize = 170;
 pub const COUNTER: usize = 68;
 pub const UNLOCKED: usize = 69;
+const CMF1: usize = 133;
 /// So many inputs take turns in each measure, so that no predictor of the machine learns a single one.
 pub const INPUTS: usize = 16;
 /// The chains that frames are timed at.
 pub const SIZES: [usize; 3] = [1, 8, 32];
 
-pub const READS: [u16; 14] = [0x02, 0x26, 0x04, 0x06, 0x08, 0x0a, 0x09, 0x0b, 0x32, 0x33, 0x2c, 0x3a, 0x22, 0x23];
-pub const WRITES: [u16; 7] = [0x01, 0x24, 0x39, 0x717, 0x715, 0x20, 0x21];
-pub const BARE: [u16; 7] = [0x28, 0x29, 0x2e, 0x38, 0x711, SNAP, UNSNAP];
+pub const READS: [u16; 18] = [0x02, 0x26, 0x04, 0x06, 0x08, 0x0a, 0x09, 0x0b, 0x32, 0x33, 0x2c, 0x3a, 0x22, 0x23, 0x59, 0x5b, 0x5d, 0x5f];
+pub const WRITES: [u16; 11] = [0x01, 0x24, 0x39, 0x717, 0x715, 0x20, 0x21, 0x58, 0x5a, 0x5c, CLRCMFLAG];
+pub const BARE: [u16; 9] = [0x28, 0x29, 0x2e, 0x38, 0x711, SNAP, UNSNAP, 0x41, 0x40];
 pub const RDCVA: u16 = 0x04;
 pub const WRCFGB: u16 = 0x24;
 pub const MUTE: u16 = 0x28;
 pub const SNAP: u16 = 0x2d;
 pub const UNSNAP: u16 = 0x2f;
+const CLRCMFLAG: u16 = 0x5e;
 /// In byte 5 of a record.
 const SNAP_ST: u8 = 0x20;
+/// In CMF1.
+const CMC_EN: u8 = 0x80;
 
 /// splitmix64.
 pub struct Random(pub u64);
@@ -54,11 +58,13 @@ impl Random {
         table
     }
 
-    /// One without a snapshot, as most tables are timed: cell reads show the live cells of every monitor.
+    /// One without a snapshot and with no monitor in LPCM, as most tables are timed: cell reads show the live cells of every monitor, and
+    /// every monitor takes writes.
     pub fn live_table(&mut self, n: usize) -> Vec<u8> {
         let mut table = self.sound_table(n);
         for record in table.chunks_mut(RECORD) {
             record[5] &= !SNAP_ST;
+            record[CMF1] &= !CMC_EN;
         }
         table
     }
@@ -73,12 +79,30 @@ pub fn snapped(table: &[u8]) -> Vec<u8> {
     table
 }
 
+/// The data bytes of each payload of a command.
+pub fn data_size(command: u16) -> usize {
+    if command == CLRCMFLAG {
+        2
+    } else {
+        6
+    }
+}
+
 /// How many value bytes the host needs for a command.
 pub fn values_for(command: u16, n: usize) -> usize {
     if WRITES.contains(&command) {
-        6 * n
+        data_size(command) * n
     } else {
         0
+    }
+}
+
+/// How long the host's frame is.
+pub fn frame_length(command: u16, n: usize) -> usize {
+    if BARE.contains(&command) {
+        4
+    } else {
+        4 + (data_size(command) + 2) * n
     }
 }
 

@@ -1,4 +1,4 @@
-/* Document 01, L2, L3 and L6 in plain C99. See plain.h. */
+/* Document 01, L2, L3, L6 and of L8 the settings and the enabling, in plain C99. See plain.h. */
 #include "plain.h"
 
 #include <stdbool.h>
@@ -61,26 +61,31 @@ static inline uint16_t counter_step(uint16_t pec, uint8_t counter)
     return (uint16_t)(((pec << 6) & 0x3ff) ^ data_table[(pec >> 4) ^ (counter & 0x3f)]);
 }
 
-/* A payload has six bytes, always: gcc -O2 leaves a loop over them a loop, which takes a fifth longer. */
-static inline uint16_t data_pec(const uint8_t *six, uint8_t counter)
+/* The data bytes of a payload, and all of them with the counter and the PEC: of CLRCMFLAG two, and of any other command six. */
+enum { TWO = 2, SIX = 6, SEAL = 2, EIGHT = SIX + SEAL };
+
+/* A payload has six bytes, or two: gcc -O2 leaves a loop over them a loop, which takes a fifth longer. */
+static inline uint16_t data_pec(const uint8_t *bytes, size_t size, uint8_t counter)
 {
-    uint16_t pec = data_step(data_step(data_step(START, six[0]), six[1]), six[2]);
-    pec = data_step(data_step(data_step(pec, six[3]), six[4]), six[5]);
+    uint16_t pec = data_step(data_step(START, bytes[0]), bytes[1]);
+    if (size == SIX)
+        pec = data_step(data_step(data_step(data_step(pec, bytes[2]), bytes[3]), bytes[4]), bytes[5]);
     return counter_step(pec, counter);
 }
 
-static inline bool right(const uint8_t *payload)
+static inline bool right(const uint8_t *payload, size_t size)
 {
-    return data_pec(payload, payload[6] >> 2) == (uint16_t)((payload[6] & 3) << 8 | payload[7]);
+    const uint8_t *seal = payload + size;
+    return data_pec(payload, size, seal[0] >> 2) == (uint16_t)((seal[0] & 3) << 8 | seal[1]);
 }
 
-/* The PEC is taken from where the six bytes came from: reading back what was just stored would make each payload wait for the last. */
-static inline void seal(uint8_t *payload, const uint8_t *six, uint8_t counter)
+/* The PEC is taken from where the bytes came from: reading back what was just stored would make each payload wait for the last. */
+static inline void seal(uint8_t *payload, const uint8_t *bytes, size_t size, uint8_t counter)
 {
-    uint16_t pec = data_pec(six, counter);
-    memcpy(payload, six, 6);
-    payload[6] = (uint8_t)(counter << 2 | pec >> 8);
-    payload[7] = (uint8_t)pec;
+    uint16_t pec = data_pec(bytes, size, counter);
+    memcpy(payload, bytes, size);
+    payload[size] = (uint8_t)(counter << 2 | pec >> 8);
+    payload[size + 1] = (uint8_t)pec;
 }
 
 uint16_t plain_command_pec(const uint8_t *bytes, size_t length)
@@ -127,19 +132,21 @@ uint16_t plain_data_pec10_bits(const uint8_t *bytes, size_t length, uint8_t coun
 /* ---- records and commands */
 
 enum { CONFIG_A = 0, CONFIG_B = 6, CELLS = 12, STATUS_C = 44, STATUS_D = 50, RETENTION = 56, SERIAL = 62, COUNTER = 68, UNLOCKED = 69,
-       PWM_A = 70, PWM_B = 76, COPY = 82, CELL_BYTES = 32, RECORD = COPY + CELL_BYTES, MONITORS = 32 };
+       PWM_A = 70, PWM_B = 76, COPY = 82, CM_CONFIG = 114, CM_CELLT = 120, CM_GPIOT = 126, CMF0 = 132, CMF1 = 133, LAST = 138,
+       CELL_BYTES = 32, RECORD = LAST + CELL_BYTES, MONITORS = 32 };
 
 enum { MUTE_ST = 0x10, SNAP_ST = 0x20 }; /* in byte 5 */
+enum { CMC_EN = 0x80 };                  /* in CMF1 */
 
 enum { NONE, READ, WRITE, BARE };
 
 enum { WRCFGA = 0x0001, WRCFGB = 0x0024, MUTE = 0x0028, UNMUTE = 0x0029, RSTCC = 0x002e, ULRR = 0x0038, WRRR = 0x0039,
        CLRCELL = 0x0711, CLOVUV = 0x0715, CLRFLAG = 0x0717, RDCVF = 0x000b, WRPWMA = 0x0020, WRPWMB = 0x0021, SNAP = 0x002d,
-       UNSNAP = 0x002f };
+       UNSNAP = 0x002f, CMDIS = 0x0040, CMEN = 0x0041, WRCMCFG = 0x0058, WRCMCELLT = 0x005a, WRCMGPIOT = 0x005c, CLRCMFLAG = 0x005e };
 
 struct command { uint8_t kind, at; }; /* `at` says where a read finds its six bytes, cells where no snapshot is on */
 
-static const struct command low_codes[64] = {
+static const struct command low_codes[96] = {
     [0x02] = { READ, CONFIG_A },   [0x26] = { READ, CONFIG_B },   [0x04] = { READ, CELLS },      [0x06] = { READ, CELLS + 6 },
     [0x08] = { READ, CELLS + 12 }, [0x0a] = { READ, CELLS + 18 }, [0x09] = { READ, CELLS + 24 }, [RDCVF] = { READ, CELLS + 30 },
     [0x32] = { READ, STATUS_C },   [0x33] = { READ, STATUS_D },   [0x2c] = { READ, SERIAL },     [0x3a] = { READ, RETENTION },
@@ -147,17 +154,24 @@ static const struct command low_codes[64] = {
     [WRRR] = { WRITE, 0 },         [WRPWMA] = { WRITE, 0 },       [WRPWMB] = { WRITE, 0 },
     [MUTE] = { BARE, 0 },          [UNMUTE] = { BARE, 0 },        [RSTCC] = { BARE, 0 },         [ULRR] = { BARE, 0 },
     [SNAP] = { BARE, 0 },          [UNSNAP] = { BARE, 0 },
+    [0x59] = { READ, CM_CONFIG },  [0x5b] = { READ, CM_CELLT },   [0x5d] = { READ, CM_GPIOT },   [0x5f] = { READ, CMF0 },
+    [WRCMCFG] = { WRITE, 0 },      [WRCMCELLT] = { WRITE, 0 },    [WRCMGPIOT] = { WRITE, 0 },    [CLRCMFLAG] = { WRITE, 0 },
+    [CMEN] = { BARE, 0 },          [CMDIS] = { BARE, 0 },
 };
 
 static inline struct command command_of(uint16_t code)
 {
     static const struct command write = { WRITE, 0 }, bare = { BARE, 0 }, none = { NONE, 0 };
-    if (code < 64)
+    if (code < 96)
         return low_codes[code];
     if (code == CLRFLAG || code == CLOVUV)
         return write;
     return code == CLRCELL ? bare : none;
 }
+
+static inline size_t data_size(uint16_t code) { return code == CLRCMFLAG ? TWO : SIX; }
+
+static inline size_t frame_size(uint8_t kind, uint16_t code, size_t n) { return kind == BARE ? 4 : 4 + (data_size(code) + SEAL) * n; }
 
 /* N, or 0 for a table that is not sound. */
 static inline size_t monitors_of(const uint8_t *table, size_t length)
@@ -182,6 +196,14 @@ static inline uint32_t answer(size_t first, size_t second) { return (uint32_t)(f
 static inline void raise_counter(uint8_t *record) { record[COUNTER] = record[COUNTER] == 63 ? 1 : (uint8_t)(record[COUNTER] + 1); }
 
 /* ---- what a chain does with an accepted frame */
+
+/* Three of twelve bits, and zeros after them. */
+static inline void thresholds(uint8_t *held, const uint8_t *sent)
+{
+    memcpy(held, sent, 4);
+    held[4] = sent[4] & 0x0f;
+    held[5] = 0;
+}
 
 static inline void store(uint8_t *record, uint16_t code, const uint8_t *sent)
 {
@@ -214,6 +236,18 @@ static inline void store(uint8_t *record, uint16_t code, const uint8_t *sent)
         memcpy(record + PWM_B, sent, 2);
         memset(record + PWM_B + 2, 0xff, 4);
         break;
+    case WRCMCFG:
+        memcpy(record + CM_CONFIG, sent, 6);
+        break;
+    case WRCMCELLT:
+        thresholds(record + CM_CELLT, sent);
+        break;
+    case WRCMGPIOT:
+        thresholds(record + CM_GPIOT, sent);
+        break;
+    case CLRCMFLAG: /* the second byte does nothing */
+        record[CMF0] &= (uint8_t)~sent[0];
+        break;
     default: /* CLRFLAG */
         flags = record + STATUS_C;
         flags[0] &= (uint8_t)~sent[0];
@@ -224,13 +258,14 @@ static inline void store(uint8_t *record, uint16_t code, const uint8_t *sent)
     }
 }
 
-static size_t take_write(uint8_t *table, size_t n, uint16_t code, const uint8_t *payloads)
+static inline size_t take_payloads(uint8_t *table, size_t n, uint16_t code, const uint8_t *payloads, size_t size)
 {
     size_t taken = 0;
     for (size_t i = 0; i < n; i++) {
         uint8_t *record = table + i * RECORD;
-        const uint8_t *payload = payloads + 8 * (n - 1 - i);
-        if (code == WRRR || right(payload)) { /* the chip executes WRRR whatever its check */
+        const uint8_t *payload = payloads + (size + SEAL) * (n - 1 - i);
+        bool in_lpcm = record[CMF1] & CMC_EN; /* where no write is accepted */
+        if (!in_lpcm && (code == WRRR || right(payload, size))) { /* the chip executes WRRR whatever its check */
             store(record, code, payload);
             raise_counter(record);
             taken++;
@@ -238,6 +273,11 @@ static size_t take_write(uint8_t *table, size_t n, uint16_t code, const uint8_t 
         record[UNLOCKED] = 0;
     }
     return taken;
+}
+
+static size_t take_write(uint8_t *table, size_t n, uint16_t code, const uint8_t *payloads)
+{
+    return data_size(code) == TWO ? take_payloads(table, n, code, payloads, TWO) : take_payloads(table, n, code, payloads, SIX);
 }
 
 static void take_bare(uint8_t *table, size_t n, uint16_t code)
@@ -260,6 +300,15 @@ static void take_bare(uint8_t *table, size_t n, uint16_t code)
             break;
         case UNSNAP:
             record[5] &= (uint8_t)~SNAP_ST;
+            break;
+        case CMEN: /* a second one keeps the last cells */
+            if (!(record[CMF1] & CMC_EN)) {
+                memcpy(record + LAST, record + CELLS, CELL_BYTES);
+                record[CMF1] = CMC_EN | 3;
+            }
+            break;
+        case CMDIS:
+            record[CMF1] &= (uint8_t)~CMC_EN;
             break;
         case RSTCC:
             record[COUNTER] = 0;
@@ -287,11 +336,11 @@ static inline void read_out(const uint8_t *table, size_t n, uint16_t code, uint8
         if (code == RDCVF) {
             const uint8_t *last = record + at + (record[5] & SNAP_ST ? COPY - CELLS : 0);
             const uint8_t six[6] = { last[0], last[1], 0xff, 0xff, 0xff, 0xff };
-            seal(reply + 8 * i, six, record[COUNTER]);
+            seal(reply + 8 * i, six, SIX, record[COUNTER]);
         } else if (cells && (record[5] & SNAP_ST)) {
-            seal(reply + 8 * i, record + at + (COPY - CELLS), record[COUNTER]);
+            seal(reply + 8 * i, record + at + (COPY - CELLS), SIX, record[COUNTER]);
         } else {
-            seal(reply + 8 * i, record + at, record[COUNTER]);
+            seal(reply + 8 * i, record + at, SIX, record[COUNTER]);
         }
     }
 }
@@ -315,7 +364,7 @@ uint32_t plain_frame(uint8_t *table, size_t table_length, const uint8_t *frame, 
     struct command command = command_of(code);
     if (command.kind == NONE)
         return 4;
-    if (frame_length != (command.kind == BARE ? 4 : 4 + 8 * n))
+    if (frame_length != frame_size(command.kind, code, n))
         return 5;
     if (command.kind == WRITE)
         return answer(take_write(table, n, code, frame + 4), 0);
@@ -402,9 +451,9 @@ uint32_t plain_host_frame(uint16_t command, size_t monitors, const uint8_t *valu
         return 4;
     if (monitors < 1 || monitors > MONITORS)
         return 7;
-    if (values_length != (kind == WRITE ? 6 * monitors : 0))
+    if (values_length != (kind == WRITE ? data_size(command) * monitors : 0))
         return 8;
-    size_t length = kind == BARE ? 4 : 4 + 8 * monitors;
+    size_t length = frame_size(kind, command, monitors);
     if (out_length < length)
         return 6;
     out[0] = (uint8_t)(command >> 8);
@@ -414,17 +463,20 @@ uint32_t plain_host_frame(uint16_t command, size_t monitors, const uint8_t *valu
     out[3] = (uint8_t)(pec << 1);
     if (kind == READ)
         memset(out + 4, 0xff, 8 * monitors);
-    if (kind == WRITE)
+    if (kind == WRITE && data_size(command) == TWO)
         for (size_t i = 0; i < monitors; i++)
-            seal(out + 4 + 8 * (monitors - 1 - i), values + 6 * i, 0);
+            seal(out + 4 + (TWO + SEAL) * (monitors - 1 - i), values + TWO * i, TWO, 0);
+    else if (kind == WRITE)
+        for (size_t i = 0; i < monitors; i++)
+            seal(out + 4 + EIGHT * (monitors - 1 - i), values + SIX * i, SIX, 0);
     return answer(0, length);
 }
 
 uint32_t plain_check(const uint8_t *payload, size_t payload_length)
 {
-    if (payload_length != 8)
+    if (payload_length != EIGHT)
         return 5;
-    return answer(right(payload) ? 1 : 2, 0);
+    return answer(right(payload, SIX) ? 1 : 2, 0);
 }
 
 /* The library's own way, in C: the payload as one number is divided by the polynomial, by shifts alone, and 0x4c is what the start
@@ -496,17 +548,17 @@ uint32_t plain_clock_window(const struct plain_clock *clock, size_t position, ui
 {
     if (position < 1 || position > clock->monitors)
         return 7;
-    size_t past = 8 * (position - 1), held = 0;
-    uint8_t window[8];
+    size_t width = data_size(clock->code) + SEAL, past = width * (position - 1), held = 0;
+    uint8_t window[EIGHT];
     if (clock->kind == READ) {
         size_t end = 8u * clock->monitors;
-        for (; held < 8; held++) {
+        for (; held < EIGHT; held++) {
             size_t at = clock->moved + past + held;
             window[held] = at < end ? clock->ring[at] : 0xff;
         }
     } else if (clock->kind == WRITE) {
         size_t came = clock->count - 4; /* stops above 8N, where every window is full */
-        held = came <= past ? 0 : came - past < 8 ? came - past : 8;
+        held = came <= past ? 0 : came - past < width ? came - past : width;
         for (size_t i = 0; i < held; i++)
             window[i] = clock->ring[(clock->moved - past - held + i) % sizeof clock->ring];
     }
@@ -526,7 +578,7 @@ uint32_t plain_clock_release(struct plain_clock *clock, uint8_t *table, size_t t
         given = 2;
     else if (clock->number != 0)
         given = clock->number;
-    else if (clock->count != (clock->kind == BARE ? 4 : 4 + 8 * n))
+    else if (clock->count != frame_size(clock->kind, clock->code, n))
         given = 5;
     else if (clock->kind == WRITE)
         given = answer(take_write(table, n, clock->code, clock->ring), 0);

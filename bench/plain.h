@@ -1,6 +1,6 @@
-/* Document 01 with requests L2, L3 and L6 of document 02, in plain C99, written from the papers alone: what the proved library is timed
- * against. Answers are packed as in oskorbine.h, a pointer and the length behind it are one buffer, and a refusal leaves every lent buffer
- * as it was.
+/* Document 01 with requests L2, L3 and L6 of document 02, and of L8 the settings and the enabling, in plain C99, written from the papers
+ * alone: what the proved library is timed against. Answers are packed as in oskorbine.h, a pointer and the length behind it are one buffer,
+ * and a refusal leaves every lent buffer as it was.
  */
 #ifndef PLAIN_H
 #define PLAIN_H
@@ -27,8 +27,8 @@ uint32_t plain_check_by_shifts(const uint8_t *payload, size_t payload_length);
 
 /* ---- the clocked engine */
 
-/* The chain of windows is one shift register of 8N bytes, so it is kept as one ring: of the bytes that came in a write, of the bytes
- * still to leave in a read. No byte then costs more at a long chain than at a short one, except byte four, which looks at the table.
+/* The chain of windows is one shift register of 8N bytes, or 4N of a CLRCMFLAG, so it is kept as one ring: of the bytes that came in a
+ * write, of the bytes still to leave in a read. No byte then costs more at a long chain than at a short one, except byte four, which looks at the table.
  */
 struct plain_clock {
     uint8_t ring[256];

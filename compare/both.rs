@@ -3,7 +3,7 @@
 use crate::cells;
 use crate::difference::{listed, refused, Difference, Faults};
 use crate::effects;
-use crate::inputs::MOST;
+use crate::inputs::{head, is_damaged, shape, values_owed, Shape, CMHB, MOST};
 use crate::lent::{Both, Lent};
 use crate::outputs::{self, Question};
 use crate::run::{Done, Run};
@@ -41,7 +41,9 @@ pub fn frame_into(run: &mut Run, table: &mut Both<u8>, frame: &[u8], reply: &mut
     run.settle(Function::Frame, library, faults, || {
         vec![("table", listed(&table.before)), ("frame", listed(frame)), ("reply", listed(&reply.before))]
     })?;
-    if !refused(library) {
+    if refused(library) {
+        effects::note_refused(run, Engine::Whole, frame, &table.before, library);
+    } else {
         effects::note(run, Engine::Whole, frame, &table.before, table);
     }
     Ok(library)
@@ -149,7 +151,18 @@ pub fn host_frame(run: &mut Run, command: u16, monitors: usize, values: &[u8], r
             ("out", listed(&out.before)),
         ]
     })?;
+    note_host_frame(run, command, monitors, values.len(), library & 0xFF);
     Ok((library, out.contents().to_vec()))
+}
+
+fn note_host_frame(run: &mut Run, command: u16, monitors: usize, values: usize, number: u32) {
+    run.tally.host(command, number as usize);
+    run.tally.saw_if(Situation::HostCmhb, number == 4 && command == CMHB);
+    if number == 8 && shape(command) == Some(Shape::Write) {
+        let owed = values_owed(command, monitors);
+        run.tally.saw_if(Situation::HostSixForTwo, values == 6 * monitors && owed == 2 * monitors);
+        run.tally.saw_if(Situation::HostTwoForSix, values == 2 * monitors && owed == 6 * monitors);
+    }
 }
 
 /// The frame that the host builds of these values, in more room than it needs.
@@ -195,6 +208,46 @@ pub fn two_ports(run: &mut Run, a: &[u8], b: &[u8], monitors: usize, position: u
         _ => {}
     }
     Ok(library)
+}
+
+/// What came of a heartbeat; the time ran out where the value is not 0.
+pub fn verdict(run: &mut Run, message: &[u8], time_ran_out: u8) -> Answered {
+    let lent = Lent::new(&mut run.random, message);
+    run.begin();
+    let library = surface::verdict(lent.part(), time_ran_out);
+
+    let mut faults = Faults::new();
+    faults.answer(library, model::verdict(message, time_ran_out));
+    faults.kept("message", &lent, message);
+    run.settle(Function::Verdict, library, faults, || vec![("message", listed(message)), ("time_ran_out", time_ran_out.to_string())])?;
+    note_verdict(run, message, time_ran_out, library);
+    Ok(library)
+}
+
+fn note_verdict(run: &mut Run, message: &[u8], time_ran_out: u8, answer: u32) {
+    let late = time_ran_out != 0;
+    let first = answer >> 8 & 0xFF;
+    let tally = &mut run.tally;
+    tally.saw_if(Situation::NothingCame, first == 4 && message.is_empty());
+    tally.saw_if(Situation::LateByEven, first == 4 && time_ran_out % 2 == 0);
+    tally.saw_if(Situation::VerdictOfNothing, answer == 5 && message.is_empty());
+    tally.saw_if(Situation::LengthInTime, answer == 5 && !late && !message.is_empty());
+    tally.saw_if(Situation::LengthLate, answer == 5 && late);
+    if message.len() == 8 {
+        let (command, payload) = message.split_at(4);
+        let (of_heartbeat, data_right) = (command == head(CMHB), !is_damaged(payload));
+        let (counter, pass_count, no_flags) = (payload[2] >> 2, payload[0] == 0x42, payload[1] == 0);
+        tally.saw_if(Situation::LateRight, first == 4 && of_heartbeat && data_right);
+        tally.saw_if(Situation::LateDamaged, first == 4 && !(of_heartbeat && data_right));
+        tally.saw_if(Situation::Passed, first == 1 && counter == 0);
+        tally.saw_if(Situation::PassedWithCounter, first == 1 && counter != 0);
+        tally.saw_if(Situation::FailedByCount, first == 2 && no_flags);
+        tally.saw_if(Situation::FailedByFlags, first == 2 && pass_count);
+        tally.saw_if(Situation::FailedByBoth, first == 2 && !no_flags && !pass_count);
+        tally.saw_if(Situation::DamagedInCommand, first == 3 && data_right);
+        tally.saw_if(Situation::DamagedInData, first == 3 && of_heartbeat);
+        tally.saw_if(Situation::DamagedInBoth, first == 3 && !of_heartbeat && !data_right);
+    }
 }
 
 pub fn microvolts(run: &mut Run, code: i16) -> Done {

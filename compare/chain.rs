@@ -22,6 +22,12 @@ impl Chain {
         Chain::of(run, &bytes)
     }
 
+    /// With no monitor in LPCM.
+    pub fn out_of_lpcm(run: &mut Run, monitors: usize) -> Result<Chain, Box<Difference>> {
+        let bytes = inputs::table_out_of_lpcm(&mut run.random, monitors);
+        Chain::of(run, &bytes)
+    }
+
     /// A chain with this sound table.
     pub fn of(run: &mut Run, bytes: &[u8]) -> Result<Chain, Box<Difference>> {
         let clocks = Clocks::new(run)?;

@@ -4,7 +4,7 @@
 use crate::both::Answered;
 use crate::difference::{listed, refused, Difference, Faults};
 use crate::effects;
-use crate::inputs::{at, RECORD};
+use crate::inputs::{at, first_code, CLRCMFLAG, RECORD};
 use crate::lent::{Both, Lent};
 use crate::run::{Done, Run};
 use crate::surface::{self, Function, CLOCK_STATE};
@@ -125,14 +125,27 @@ impl Clocks {
             inputs.extend([("position", position.to_string()), ("out", listed(&self.outs[room].before))]);
             inputs
         })?;
-        if (1..8).contains(&(library >> 16)) {
-            run.tally.saw(Situation::WindowPartlyFull);
-        }
+        self.note_window(run, position, room, (library >> 16) as usize);
         // Other bytes for the next call, so that what a window leaves does not pass for what it writes.
         for byte in self.outs[room].library.part_mut() {
             *byte = byte.wrapping_mul(5).wrapping_add(0x35);
         }
         Ok(())
+    }
+
+    fn note_window(&self, run: &mut Run, position: usize, room: usize, held: usize) {
+        if held == 0 {
+            return;
+        }
+        if first_code(&self.came) != CLRCMFLAG {
+            run.tally.saw_if(Situation::WindowPartlyFull, held < 8);
+            return;
+        }
+        let came = self.came.len() - 4;
+        run.tally.saw_if(Situation::ShortWindowPartlyFull, held < 4);
+        run.tally.saw_if(Situation::ShortWindowFull, held == 4 && came > 4);
+        run.tally.saw_if(Situation::ShortWindowPassedOn, position > 1);
+        run.tally.saw_if(Situation::ShortWindowInTightRoom, held == 4 && room < 8);
     }
 
     pub fn release(&mut self, run: &mut Run, table: &mut Both<u8>) -> Answered {
@@ -175,8 +188,10 @@ impl Clocks {
 
     fn note(&self, run: &mut Run, answer: u32, table: &Both<u8>) {
         if !refused(answer) {
-            effects::note(run, Engine::Clocked, &self.came, &self.at_four, table);
-        } else if answer == 1 && sound(&table.before) && self.came.len() >= 4 {
+            return effects::note(run, Engine::Clocked, &self.came, &self.at_four, table);
+        }
+        effects::note_refused(run, Engine::Clocked, &self.came, &table.before, answer);
+        if answer == 1 && sound(&table.before) && self.came.len() >= 4 {
             let unsound = !sound(&self.at_four);
             run.tally.saw(if unsound { Situation::UnsoundAtByteFour } else { Situation::OtherNAtRelease });
         }

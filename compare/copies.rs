@@ -3,7 +3,7 @@
 use crate::inputs::{at, part_shown, snapped, CELLS, COPY, RECORD, SNAP, UNSNAP};
 use crate::lent::Both;
 use crate::run::Run;
-use crate::tally::{Effect, Engine};
+use crate::tally::{Effect, Engine, OfCommand};
 
 const RDSTATC: u16 = 0x0032;
 const RDSTATD: u16 = 0x0033;
@@ -22,11 +22,9 @@ pub fn note_read(run: &mut Run, engine: Engine, code: u16, shown: &[u8]) {
         _ => {}
     }
     let Some(part) = part_shown(code) else { return };
-    for copy in [true, false] {
+    for (what, copy) in [(OfCommand::ShowedCopy, true), (OfCommand::ShowedLive, false)] {
         let told = |record: &[u8]| snapped(record) == copy && record[COPY][part.clone()] != record[CELLS][part.clone()];
-        if shown.chunks(RECORD).any(told) {
-            run.tally.showed(engine, code, copy);
-        }
+        run.tally.of_command_if(engine, code, what, shown.chunks(RECORD).any(told));
     }
 }
 

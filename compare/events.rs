@@ -2,7 +2,7 @@
 
 use crate::chain::Chain;
 use crate::difference::refused;
-use crate::inputs::{self, head, payload, UNSNAP};
+use crate::inputs::{self, head, own_bytes, payload, UNSNAP};
 use crate::run::{expect, Done, Run};
 use crate::surface::Function;
 
@@ -43,7 +43,7 @@ pub fn store_and_compare(run: &mut Run, chain: &mut Chain) -> Done {
 
 /// With right payloads only.
 fn write(run: &mut Run, chain: &mut Chain, code: u16) -> Done {
-    let payloads: Vec<u8> = (0..chain.monitors()).flat_map(|_| payload(&mut run.random)).collect();
+    let payloads: Vec<u8> = (0..chain.monitors()).flat_map(|_| payload(&mut run.random, own_bytes(code))).collect();
     chain.frame(run, &[&head(code)[..], &payloads].concat())?;
     Ok(())
 }

@@ -2,7 +2,7 @@
 
 use crate::random::Random;
 pub use model::{at, RECORD};
-use model::{MUTE_ST, SNAP_ST};
+use model::{CMC_EN, MUTE_ST, SNAP_ST};
 use std::ops::Range;
 
 pub const MOST: usize = 32;
@@ -10,11 +10,15 @@ pub const CLEARED: i16 = -32768;
 pub const CELLS: Range<usize> = at::CELLS..at::STATUS_C;
 pub const STATUS_C: Range<usize> = at::STATUS_C..at::STATUS_D;
 pub const STATUS_D: Range<usize> = at::STATUS_D..at::STATUS_D + 6;
-/// The copy of the cells, which L6 has as the record's last part.
-pub const COPY: Range<usize> = at::COPY..RECORD;
+/// The copy of the cells (L6).
+pub const COPY: Range<usize> = at::COPY..at::LPCM_CONFIGURATION;
+/// The cells of the last measurement, which L8 has as the record's last part.
+pub const LAST: Range<usize> = at::LAST..RECORD;
+pub const CMF0: usize = at::LPCM_FLAGS;
+pub const CMF1: usize = at::LPCM_FLAGS + 1;
 
 /// Every command, in the paper's order: reads, writes, bare ones.
-pub const LISTED: [(u16, &str); 28] = [
+pub const LISTED: [(u16, &str); 38] = [
     (0x0002, "RDCFGA"),
     (0x0026, "RDCFGB"),
     (0x0004, "RDCVA"),
@@ -29,6 +33,10 @@ pub const LISTED: [(u16, &str); 28] = [
     (0x003A, "RDRR"),
     (0x0022, "RDPWMA"),
     (0x0023, "RDPWMB"),
+    (RDCMCFG, "RDCMCFG"),
+    (RDCMCELLT, "RDCMCELLT"),
+    (RDCMGPIOT, "RDCMGPIOT"),
+    (RDCMFLAG, "RDCMFLAG"),
     (0x0001, "WRCFGA"),
     (0x0024, "WRCFGB"),
     (0x0039, "WRRR"),
@@ -36,6 +44,10 @@ pub const LISTED: [(u16, &str); 28] = [
     (0x0715, "CLOVUV"),
     (0x0020, "WRPWMA"),
     (0x0021, "WRPWMB"),
+    (WRCMCFG, "WRCMCFG"),
+    (WRCMCELLT, "WRCMCELLT"),
+    (WRCMGPIOT, "WRCMGPIOT"),
+    (CLRCMFLAG, "CLRCMFLAG"),
     (0x0028, "MUTE"),
     (0x0029, "UNMUTE"),
     (0x002E, "RSTCC"),
@@ -43,12 +55,26 @@ pub const LISTED: [(u16, &str); 28] = [
     (0x0711, "CLRCELL"),
     (SNAP, "SNAP"),
     (UNSNAP, "UNSNAP"),
+    (CMEN, "CMEN"),
+    (CMDIS, "CMDIS"),
 ];
-const READS: Range<usize> = 0..14;
-const WRITES: Range<usize> = 14..21;
+const READS: Range<usize> = 0..18;
+const WRITES: Range<usize> = 18..29;
 pub const WRRR: u16 = 0x0039;
 pub const SNAP: u16 = 0x002D;
 pub const UNSNAP: u16 = 0x002F;
+pub const CMDIS: u16 = 0x0040;
+pub const CMEN: u16 = 0x0041;
+pub const WRCMCFG: u16 = 0x0058;
+pub const RDCMCFG: u16 = 0x0059;
+pub const WRCMCELLT: u16 = 0x005A;
+pub const RDCMCELLT: u16 = 0x005B;
+pub const WRCMGPIOT: u16 = 0x005C;
+pub const RDCMGPIOT: u16 = 0x005D;
+pub const CLRCMFLAG: u16 = 0x005E;
+pub const RDCMFLAG: u16 = 0x005F;
+/// Sent by devices, and not listed for the host.
+pub const CMHB: u16 = 0x0043;
 
 /// RDCVA to RDCVF.
 pub const CELL_READS: [u16; 6] = [0x0004, 0x0006, 0x0008, 0x000A, 0x0009, 0x000B];
@@ -87,17 +113,29 @@ pub fn writes() -> impl Iterator<Item = u16> {
     LISTED[WRITES].iter().map(|(code, _)| *code)
 }
 
+/// One monitor's bytes of a reply: six of data and two of check.
+pub const REPLY: usize = 8;
+
+/// One monitor's bytes of a frame of this code: of a CLRCMFLAG two of data and two of check (L8).
+pub fn own_bytes(code: u16) -> usize {
+    match shape(code) {
+        Some(Shape::Bare) => 0,
+        _ if code == CLRCMFLAG => 4,
+        _ => REPLY,
+    }
+}
+
 /// How many bytes the host is lent for a frame of this code, and how many the frame has.
 pub fn values_owed(code: u16, monitors: usize) -> usize {
     if shape(code) == Some(Shape::Write) {
-        6 * monitors
+        (own_bytes(code) - 2) * monitors
     } else {
         0
     }
 }
 
 pub fn frame_length(code: u16, monitors: usize) -> usize {
-    4 + if shape(code) == Some(Shape::Bare) { 0 } else { 8 * monitors }
+    4 + own_bytes(code) * monitors
 }
 
 pub fn any_listed(random: &mut Random) -> u16 {
@@ -125,21 +163,25 @@ pub fn needs_check(code: u16) -> bool {
     shape(code) == Some(Shape::Write) && code != WRRR
 }
 
-/// Six bytes with these counter bits, and the PEC that belongs to them.
-pub fn with_check(six: [u8; 6], counter: u8) -> [u8; 8] {
-    let [pec_high, pec_low] = model::data_pec_with_counter(&six, counter).to_be_bytes();
-    let [a, b, c, d, e, f] = six;
-    [a, b, c, d, e, f, counter << 2 | pec_high, pec_low]
+/// Data with these counter bits, and the PEC that belongs to them.
+pub fn with_check(data: &[u8], counter: u8) -> Vec<u8> {
+    let [pec_high, pec_low] = model::data_pec_with_counter(data, counter).to_be_bytes();
+    [data, &[counter << 2 | pec_high, pec_low]].concat()
 }
 
-/// A right payload; its counter bits are often 0, as our host sends them, and otherwise any.
-pub fn payload(random: &mut Random) -> [u8; 8] {
-    let six: [u8; 6] = match random.below(4) {
-        0 => [random.pick(&[0x00, 0xFF]); 6],
-        _ => random.next().to_le_bytes()[..6].try_into().expect("six of eight bytes"),
+/// The data of a payload: all but its check.
+pub fn data_of(payload: &[u8]) -> &[u8] {
+    &payload[..payload.len() - 2]
+}
+
+/// A right payload of so many bytes; its counter bits are often 0, as our host sends them, and otherwise any.
+pub fn payload(random: &mut Random, bytes: usize) -> Vec<u8> {
+    let data = match random.below(4) {
+        0 => vec![random.pick(&[0x00, 0xFF]); bytes - 2],
+        _ => random.bytes(bytes - 2),
     };
     let counter = if random.once_in(2) { 0 } else { random.below(64) as u8 };
-    with_check(six, counter)
+    with_check(&data, counter)
 }
 
 /// One or more wrong bits: one, two, or a byte that is another one.
@@ -156,40 +198,42 @@ pub fn damage(random: &mut Random, bytes: &mut [u8]) {
     }
 }
 
+/// By the counter bits as they were sent, whatever the number of data bytes.
 pub fn is_damaged(payload: &[u8]) -> bool {
-    model::check(payload) == 2 << 8
+    let data = data_of(payload);
+    with_check(data, payload[data.len()] >> 2) != payload
 }
 
 /// A payload that is damaged for certain: wrong bits may undo one another.
-pub fn damaged_payload(random: &mut Random) -> [u8; 8] {
+pub fn damaged_payload(random: &mut Random, bytes: usize) -> Vec<u8> {
     loop {
-        let mut eight = payload(random);
-        damage(random, &mut eight);
-        if is_damaged(&eight) {
-            return eight;
+        let mut damaged = payload(random, bytes);
+        damage(random, &mut damaged);
+        if is_damaged(&damaged) {
+            return damaged;
         }
     }
 }
 
-/// Right payloads, or some damaged, or all.
-pub fn payloads(random: &mut Random, monitors: usize) -> Vec<u8> {
+/// Right payloads of so many bytes, or some damaged, or all.
+pub fn payloads(random: &mut Random, bytes: usize, monitors: usize) -> Vec<u8> {
     let damaged_of_four = random.pick(&[0, 0, 1, 2, 4]);
-    let mut bytes = Vec::with_capacity(8 * monitors);
+    let mut all = Vec::with_capacity(bytes * monitors);
     for _ in 0..monitors {
-        let mut eight = payload(random);
+        let mut own = payload(random, bytes);
         if random.below(4) < damaged_of_four {
-            damage(random, &mut eight);
+            damage(random, &mut own);
         }
-        bytes.extend(eight);
+        all.extend(own);
     }
-    bytes
+    all
 }
 
 /// A frame of this code with the length that it should have for so many monitors.
 pub fn frame_of(random: &mut Random, code: u16, monitors: usize) -> Vec<u8> {
     let mut frame = head(code).to_vec();
     match shape(code) {
-        Some(Shape::Write) => frame.extend(payloads(random, monitors)),
+        Some(Shape::Write) => frame.extend(payloads(random, own_bytes(code), monitors)),
         Some(Shape::Read) if random.once_in(2) => frame.resize(4 + 8 * monitors, 0xFF),
         Some(Shape::Read) => frame.extend(random.bytes(8 * monitors)),
         Some(Shape::Bare) => {}
@@ -198,15 +242,19 @@ pub fn frame_of(random: &mut Random, code: u16, monitors: usize) -> Vec<u8> {
     frame
 }
 
-/// A wrong length: under four, one or eight off, or any up to more than 33 monitors' bytes.
+/// A wrong length: under four, one, four or eight off, with twice or half the bytes for each monitor, or any up to more than 33 monitors'.
 pub fn miscut(random: &mut Random, frame: &mut Vec<u8>) {
     let length = frame.len();
-    let wrong = match random.below(6) {
+    let wrong = match random.below(10) {
         0 => random.below(4),
         1 => length - 1,
         2 => length + 1,
         3 => length.saturating_sub(8),
         4 => length + 8,
+        5 => length.saturating_sub(4),
+        6 => length + 4,
+        7 => 4 + 2 * (length - 4),
+        8 => 4 + (length - 4) / 2,
         _ => random.below(4 + 8 * 33 + 10),
     };
     let more = random.bytes(wrong.saturating_sub(length));
@@ -234,7 +282,7 @@ pub fn frame(random: &mut Random, monitors: usize) -> Vec<u8> {
 }
 
 /// One record that is sound: any bytes, or all alike, or with clear flags and near thresholds, so that a compare shows. Half have
-/// SNAP_ST set.
+/// SNAP_ST set, and a third CMC_EN.
 pub fn record(random: &mut Random) -> Vec<u8> {
     let mut record = match random.below(4) {
         0 => vec![random.pick(&[0x00, 0xFF]); RECORD],
@@ -251,6 +299,11 @@ pub fn record(random: &mut Random) -> Vec<u8> {
     if random.once_in(2) {
         set_copy(random, &mut record);
     }
+    if random.once_in(2) {
+        set_lpcm_flags(random, &mut record);
+    }
+    let lpcm = random.once_in(3);
+    set_lpcm(&mut record, lpcm);
     record[at::COUNTER] = if random.once_in(2) { random.pick(&[0, 1, 61, 62, 63]) } else { random.below(64) as u8 };
     record[at::UNLOCKED] = random.below(2) as u8;
     record
@@ -281,6 +334,27 @@ pub fn set_snap_st(record: &mut [u8], on: bool) {
     *flags = *flags & !SNAP_ST | if on { SNAP_ST } else { 0 };
 }
 
+/// Flags as CMEN, CMDIS, CLRCMFLAG and the first pass leave them; and the live cells as the last measurement, or the copy, or any others.
+fn set_lpcm_flags(random: &mut Random, record: &mut [u8]) {
+    record[CMF0] = random.pick(&[0x00, 0x01, 0x80, 0xFF]);
+    record[CMF1] = random.pick(&[0x00, 0x03, 0x80, 0x83]);
+    match random.below(4) {
+        0 => record.copy_within(CELLS, LAST.start),
+        1 => record.copy_within(COPY, LAST.start),
+        _ => {}
+    }
+}
+
+/// In LPCM, lent so or enabled.
+pub fn in_lpcm(record: &[u8]) -> bool {
+    record[CMF1] & CMC_EN != 0
+}
+
+pub fn set_lpcm(record: &mut [u8], on: bool) {
+    let flags = &mut record[CMF1];
+    *flags = *flags & !CMC_EN | if on { CMC_EN } else { 0 };
+}
+
 fn set_thresholds(record: &mut [u8], vuv: i16, vov: i16) {
     let (vuv, vov) = (vuv as u16 & 0xFFF, vov as u16 & 0xFFF);
     record[6] = vuv as u8;
@@ -303,9 +377,32 @@ pub fn record_with(random: &mut Random, value: i32, as_vov: bool) -> Vec<u8> {
     record
 }
 
-/// A sound table, where N is 1 to 32.
+/// A sound table, where N is 1 to 32: half of them with no monitor in LPCM, others with some, or all.
 pub fn table(random: &mut Random, monitors: usize) -> Vec<u8> {
-    (0..monitors).flat_map(|_| record(random)).collect()
+    let lpcm_of_six = random.pick(&[0, 0, 0, 2, 3, 6]);
+    table_with(random, monitors, |random| random.below(6) < lpcm_of_six)
+}
+
+/// The same with no monitor in LPCM.
+pub fn table_out_of_lpcm(random: &mut Random, monitors: usize) -> Vec<u8> {
+    table_with(random, monitors, |_| false)
+}
+
+/// The same with all of them in LPCM, but for this one of several.
+pub fn table_in_lpcm(random: &mut Random, monitors: usize, but_for: Option<usize>) -> Vec<u8> {
+    let mut bytes = table_with(random, monitors, |_| true);
+    if let Some(one) = but_for {
+        set_lpcm(&mut bytes[RECORD * one..][..RECORD], false);
+    }
+    bytes
+}
+
+fn table_with(random: &mut Random, monitors: usize, lpcm: impl Fn(&mut Random) -> bool) -> Vec<u8> {
+    let mut bytes: Vec<u8> = (0..monitors).flat_map(|_| record(random)).collect();
+    for record in bytes.chunks_mut(RECORD) {
+        set_lpcm(record, lpcm(random));
+    }
+    bytes
 }
 
 /// A table with at least one reason not to be sound.

@@ -12,6 +12,7 @@ mod effects;
 mod events;
 mod inputs;
 mod lent;
+mod lpcm;
 mod outputs;
 mod random;
 mod run;

@@ -1,9 +1,12 @@
-//! A frame as our host sent it, and what must come of it once a spike has struck it: said in L7's own words, beside the comparison.
+//! A frame as our host sent it, and what must come of it once a spike has struck it: said in L7's own words, and for a chain with monitors
+//! in LPCM in L8's, beside the comparison.
 
 use crate::both::{built, frame, Written};
 use crate::chain::Chain;
 use crate::difference::Difference;
-use crate::inputs::{self, at, first_code, first_of, frame_length, head, shape, values_owed, RECORD, WRRR};
+use crate::inputs::{
+    self, at, data_of, differ, first_code, first_of, frame_length, head, in_lpcm, own_bytes, shape, values_owed, Shape, RECORD, WRRR,
+};
 use crate::lent::Both;
 use crate::run::{expect, Done, Run};
 use crate::spike::Spike;
@@ -14,8 +17,6 @@ use std::ops::Range;
 
 /// The places of the first four bytes along the wire.
 pub const COMMAND: Range<usize> = 0..32;
-/// How many places a payload has.
-const PAYLOAD: usize = 64;
 
 pub struct Sent {
     frame: Vec<u8>,
@@ -29,6 +30,33 @@ impl Sent {
     /// With any values, for any table.
     pub fn new(run: &mut Run, code: u16, monitors: usize) -> Result<Sent, Box<Difference>> {
         let table = inputs::table(&mut run.random, monitors);
+        Sent::to(run, code, table)
+    }
+
+    /// The same for any table with no monitor in LPCM.
+    pub fn out_of_lpcm(run: &mut Run, code: u16, monitors: usize) -> Result<Sent, Box<Difference>> {
+        let table = inputs::table_out_of_lpcm(&mut run.random, monitors);
+        Sent::to(run, code, table)
+    }
+
+    /// The same, but that each monitor shows, and not by its counter alone, that it takes the frame.
+    pub fn telling(run: &mut Run, code: u16, monitors: usize) -> Result<Sent, Box<Difference>> {
+        loop {
+            let sent = Sent::out_of_lpcm(run, code, monitors)?;
+            if sent.table.chunks(RECORD).zip(sent.unstruck.chunks(RECORD)).all(|(before, after)| differ(before, after)) {
+                return Ok(sent);
+            }
+        }
+    }
+
+    /// For any table with all monitors in LPCM, or all but one.
+    pub fn in_lpcm(run: &mut Run, code: u16, monitors: usize, but_for: Option<usize>) -> Result<Sent, Box<Difference>> {
+        let table = inputs::table_in_lpcm(&mut run.random, monitors, but_for);
+        Sent::to(run, code, table)
+    }
+
+    fn to(run: &mut Run, code: u16, table: Vec<u8>) -> Result<Sent, Box<Difference>> {
+        let monitors = table.len() / RECORD;
         let values = run.random.bytes(values_owed(code, monitors));
         let frame = built(run, code, monitors, &values)?;
         let (answer, unstruck) = as_a_whole(run, &table, &frame)?;
@@ -51,9 +79,11 @@ impl Sent {
         self.table.len() / RECORD
     }
 
-    /// The answer of a write that all monitors take.
+    /// The answer where all monitors take it that can: in LPCM none takes a write.
     fn all(&self) -> u32 {
-        (self.monitors() as u32) << 8
+        let write = shape(self.code()) == Some(Shape::Write);
+        let takes = |record: &&[u8]| !(write && in_lpcm(record));
+        (self.table.chunks(RECORD).filter(takes).count() as u32) << 8
     }
 
     /// The places of all payloads.
@@ -63,8 +93,9 @@ impl Sent {
 
     /// The places of the payload that comes after so many others: first the farthest monitor's.
     pub fn payload(&self, after: usize) -> Range<usize> {
-        let first = COMMAND.end + PAYLOAD * after;
-        first..first + PAYLOAD
+        let places = 8 * own_bytes(self.code());
+        let first = COMMAND.end + places * after;
+        first..first + places
     }
 
     pub fn expect<T: PartialEq + Debug>(&self, run: &mut Run, found_and_expected: (T, T)) -> Done {
@@ -100,16 +131,18 @@ impl Sent {
         Ok(())
     }
 
-    /// Each monitor whose own eight bytes were hit keeps its record, but that its unlock byte becomes 0, and each other one does as before.
-    /// WRRR is excepted (L3): a monitor that was hit takes it, and stores its six bytes as they came where it was unlocked.
+    /// Each monitor whose own bytes were hit keeps its record, but that its unlock byte becomes 0, and each other one does as before. WRRR is
+    /// excepted (L3): a monitor that was hit takes it, and stores its six bytes as they came where it was unlocked. In LPCM a monitor does, hit
+    /// or not, as if it were hit, also with a WRRR.
     fn by_l7(&self, came: &[u8]) -> (u32, Vec<u8>) {
-        let payloads = self.frame[4..].chunks(8).zip(came[4..].chunks(8)).rev();
+        let own_bytes = own_bytes(self.code());
+        let payloads = self.frame[4..].chunks(own_bytes).zip(came[4..].chunks(own_bytes)).rev();
         let records = self.table.chunks(RECORD).zip(self.unstruck.chunks(RECORD));
         let mut taken = 0;
         let mut table = Vec::with_capacity(self.table.len());
         for ((own, own_came), (before, unstruck)) in payloads.zip(records) {
             let hit = own != own_came;
-            let takes = !hit || self.code() == WRRR;
+            let takes = !in_lpcm(before) && (!hit || self.code() == WRRR);
             let mut record = if takes { unstruck.to_vec() } else { before.to_vec() };
             if !takes {
                 record[at::UNLOCKED] = 0;
@@ -125,7 +158,7 @@ impl Sent {
     /// A spike of eleven places in one payload that its check does not tell: taken, as if the host had sent the values that came.
     pub fn slip(&self, run: &mut Run, spike: Spike) -> Done {
         let came = spike.strike(&self.frame);
-        let values: Vec<u8> = came[4..].chunks(8).rev().flat_map(|eight| eight[..6].to_vec()).collect();
+        let values: Vec<u8> = came[4..].chunks(own_bytes(self.code())).rev().flat_map(|own| data_of(own).to_vec()).collect();
         let other = built(run, self.code(), self.monitors(), &values)?;
         let expected = as_a_whole(run, &self.table, &other)?;
         self.expect(run, (expected.0, self.all()))?;

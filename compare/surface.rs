@@ -1,4 +1,4 @@
-//! The fifteen functions of include/oskorbine.h, behind safe wrappers: a slice is a pointer and a length that belong together, and Rust
+//! The sixteen functions of include/oskorbine.h, behind safe wrappers: a slice is a pointer and a length that belong together, and Rust
 //! sees to it that a written one overlaps no other. An empty slice must still have a real address (the header asks for it), so callers
 //! take theirs from `Lent`.
 
@@ -15,6 +15,7 @@ pub enum Function {
     HostFrame,
     Check,
     TwoPorts,
+    Verdict,
     ClockStart,
     ClockByte,
     ClockWindow,
@@ -25,7 +26,7 @@ pub enum Function {
 }
 
 impl Function {
-    pub const ALL: [Function; 15] = [
+    pub const ALL: [Function; 16] = [
         Function::Frame,
         Function::Store,
         Function::Compare,
@@ -34,6 +35,7 @@ impl Function {
         Function::HostFrame,
         Function::Check,
         Function::TwoPorts,
+        Function::Verdict,
         Function::ClockStart,
         Function::ClockByte,
         Function::ClockWindow,
@@ -53,6 +55,7 @@ impl Function {
             Function::HostFrame => "osk_host_frame",
             Function::Check => "osk_check",
             Function::TwoPorts => "osk_two_ports",
+            Function::Verdict => "osk_verdict",
             Function::ClockStart => "osk_clock_start",
             Function::ClockByte => "osk_clock_byte",
             Function::ClockWindow => "osk_clock_window",
@@ -71,7 +74,7 @@ impl Function {
             Function::Compare => &[1, 7],
             Function::Discharge => &[1, 6, 7],
             Function::HostFrame => &[4, 6, 7, 8],
-            Function::Check => &[5],
+            Function::Check | Function::Verdict => &[5],
             Function::TwoPorts => &[5, 7, 10],
             Function::ClockWindow => &[6, 7],
             Function::ClockRelease => &[1, 2, 3, 4, 5],
@@ -113,6 +116,7 @@ mod c {
         ) -> u32;
         pub fn osk_check(payload: *const u8, payload_length: usize) -> u32;
         pub fn osk_two_ports(a: *const u8, a_length: usize, b: *const u8, b_length: usize, monitors: usize, position: usize) -> u32;
+        pub fn osk_verdict(message: *const u8, message_length: usize, time_ran_out: u8) -> u32;
         pub fn osk_clock_start(state: *mut u8);
         pub fn osk_clock_byte(state: *mut u8, table: *const u8, table_length: usize, byte: u8) -> u32;
         pub fn osk_clock_window(state: *const u8, position: usize, out: *mut u8, out_length: usize) -> u32;
@@ -153,6 +157,10 @@ pub fn check(payload: &[u8]) -> u32 {
 
 pub fn two_ports(a: &[u8], b: &[u8], monitors: usize, position: usize) -> u32 {
     unsafe { c::osk_two_ports(a.as_ptr(), a.len(), b.as_ptr(), b.len(), monitors, position) }
+}
+
+pub fn verdict(message: &[u8], time_ran_out: u8) -> u32 {
+    unsafe { c::osk_verdict(message.as_ptr(), message.len(), time_ran_out) }
 }
 
 /// The state's length is part of the surface and not checked by the library: a wrong one must not reach it.

@@ -38,6 +38,39 @@ situations! { Effect:
     WrrrDamagedBoth: "WRRR with a right payload, and damaged ones at a locked and at an unlocked monitor",
     WrpwmbSentOther: "WRPWMB taken with something other than FF for bytes 2 to 5",
     WrpwmbMakesFf: "WRPWMB makes FF of bytes 2 to 5 that were something else",
+    CellThresholdsMasked: "WRCMCELLT taken with bits sent that are not kept, and 0 made of such bits that stood",
+    GpioThresholdsMasked: "WRCMGPIOT taken with bits sent that are not kept, and 0 made of such bits that stood",
+    ClrcmflagClearsAll: "CLRCMFLAG clears all flags of CMF0 that stand",
+    ClrcmflagClearsSome: "CLRCMFLAG clears flags of CMF0 and leaves others",
+    ClrcmflagClearsNone: "CLRCMFLAG taken that clears none of the flags that stand",
+    ClrcmflagSecondByte: "CLRCMFLAG taken with bits of its second byte that stand in CMF1, which stays",
+    ClrcmflagOfEight: "CLRCMFLAG with eight bytes for each monitor refused with 5",
+    WriteOfFour: "another write with four bytes for each monitor refused with 5",
+    CmhbRefused: "CMHB refused with 4",
+    CmenEnables: "CMEN where CMC_EN is clear makes another last measurement",
+    CmenOtherBits: "CMEN where CMC_EN is clear makes 83 of a CMF1 with other bits",
+    CmenKeepsLast: "CMEN where CMC_EN is set keeps a last measurement that differs from the live cells",
+    CmenKeepsCmf1: "CMEN where CMC_EN is set leaves a CMF1 that is not 83",
+    CmenBoth: "CMEN where CMC_EN is clear at one monitor and set at another",
+    CmenKeepsCmf0: "CMEN where CMC_EN is clear leaves flags of CMF0",
+    CmenInSnapshot: "CMEN while a snapshot is on takes the live cells and not the copy, which stays",
+    SecondCmenAfter63: "CMEN where CMC_EN is set makes 1 of a counter of 63",
+    SecondCmenLocks: "CMEN where CMC_EN is set ends an unlocking",
+    CmdisEnds: "CMDIS where CMC_EN is set leaves other bits of CMF1, flags of CMF0 and a last measurement unlike the live cells",
+    CmdisOfNone: "CMDIS where CMC_EN is clear",
+    CmdisBoth: "CMDIS where CMC_EN is clear at one monitor and set at another",
+    CmdisLocks: "CMDIS ends an unlocking",
+    SnapInLpcm: "SNAP in LPCM makes another copy, and leaves a last measurement that differs from it",
+    ClrcellInLpcm: "CLRCELL in LPCM leaves a last measurement that is not cleared",
+    UlrrInLpcm: "ULRR in LPCM unlocks a locked monitor",
+    LpcmNone: "a write taken by all of several monitors, none in LPCM",
+    LpcmSome: "a write not taken by some monitors, as they are in LPCM, and taken by others",
+    LpcmAll: "a write to several monitors, all in LPCM",
+    LpcmLocks: "a write with a right payload to an unlocked monitor in LPCM locks it",
+    LpcmAt63: "a write with a right payload to a monitor in LPCM leaves a counter of 63",
+    WrrrInLpcm: "WRRR with a right payload stores nothing at an unlocked monitor in LPCM",
+    WrrrDamagedInLpcm: "WRRR with a damaged payload stores nothing at an unlocked monitor in LPCM",
+    WrrrBesideLpcm: "WRRR stores at an unlocked monitor, and nothing at an unlocked one in LPCM",
     SnapCopies: "SNAP where SNAP_ST is clear makes another copy",
     SnapKeepsCopy: "SNAP where SNAP_ST is set keeps a copy that differs from the live cells",
     SnapBoth: "SNAP where SNAP_ST is clear at one monitor and set at another",
@@ -66,10 +99,23 @@ situations! { Effect:
     SpikeLocks: "an unlocked monitor is locked by the spike that hits it",
     SpikeAt63: "a counter of 63 is left by the spike that hits its monitor",
     SpikeInBulk: "a spike of the list of all within eleven places of two payloads",
+    SpikeInLpcm: "a spike hits the payload of a monitor in LPCM alone",
+    SpikeBesideLpcm: "a spike hits one payload, not taken, of a chain with a monitor in LPCM that is not hit",
+    SpikeOverBorderOfLpcm: "a spike over the border of two payloads, one of them of a monitor in LPCM",
+    ShortSpikeInFirst: "a spike hits the first byte of a CLRCMFLAG payload alone, and it is not taken",
+    ShortSpikeInSecond: "a spike hits the second byte of a CLRCMFLAG payload alone, and it is not taken",
+    ShortSpikeInCounter: "a spike hits the six counter bits of a CLRCMFLAG payload alone, and it is not taken",
+    ShortSpikeInCheck: "a spike hits check bits of a CLRCMFLAG payload alone, and it is not taken",
+    ShortSpikeInHighestOfCheck: "a spike hits the two highest check bits of a CLRCMFLAG payload alone, and it is not taken",
+    ShortSpikeOfTen: "a spike of exactly ten places hits one payload of a CLRCMFLAG",
+    ShortSpikeOfTenOverBorder: "a spike of exactly ten places hits two payloads of a CLRCMFLAG",
+    ShortSpikeInBulk: "a spike of the list of all within eleven places of two payloads of a CLRCMFLAG",
     WrrrSpikeStores: "WRRR hit by a spike while unlocked stores what came",
     WrrrSpikeLocked: "WRRR hit by a spike while locked stores nothing and is counted",
+    WrrrSpikeInLpcm: "WRRR hit by a spike at an unlocked monitor in LPCM stores nothing and is not counted",
     WrrrSpikeOverBorder: "WRRR hit by a spike over the border of two payloads is taken by both",
     ElevenBesideData: "eleven places of counter and check bits get through, and the data are stored as sent",
+    ElevenInLpcm: "eleven places that get through are nothing to a monitor in LPCM",
     CommandSpikeInCode: "a spike hits the code alone, refused with 3",
     CommandSpikeInCheck: "a spike hits the command's check alone, refused with 3",
     CommandSpikeInBoth: "a spike hits the code and its check, refused with 3",
@@ -140,9 +186,28 @@ situations! { Situation:
     PayloadDamaged: "a payload is damaged",
     PortA: "port A is chosen",
     PortB: "port B is chosen",
+    Passed: "a heartbeat passed with counter bits 0",
+    PassedWithCounter: "a heartbeat passed with other counter bits",
+    FailedByCount: "a heartbeat failed by its count alone",
+    FailedByFlags: "a heartbeat failed by its flags alone",
+    FailedByBoth: "a heartbeat failed by its count and its flags",
+    DamagedInCommand: "a heartbeat damaged in its command alone",
+    DamagedInData: "a heartbeat damaged behind its command alone",
+    DamagedInBoth: "a heartbeat damaged in its command and behind it",
+    NothingCame: "a heartbeat timed out, and nothing came",
+    LateRight: "a heartbeat timed out, and a right message came",
+    LateDamaged: "a heartbeat timed out, and a damaged message came",
+    LateByEven: "a heartbeat timed out by an even number",
+    VerdictOfNothing: "a verdict on nothing refused with 5 in time",
+    LengthInTime: "a verdict on another length refused with 5 in time",
+    LengthLate: "a verdict on another length refused with 5 late",
     Summary: "a summary",
     SummaryOfNone: "a summary of none",
-    WindowPartlyFull: "a window holds 1 to 7 bytes",
+    WindowPartlyFull: "a window of eight bytes holds 1 to 7",
+    ShortWindowPartlyFull: "a window of a CLRCMFLAG holds 1 to 3 bytes",
+    ShortWindowFull: "a window of a CLRCMFLAG holds four bytes, though more have come",
+    ShortWindowPassedOn: "a window of a CLRCMFLAG holds what the one before it passed on",
+    ShortWindowInTightRoom: "a full window of a CLRCMFLAG goes into a buffer of 4 to 7 bytes",
     OtherNAtRelease: "a release with a table of another N",
     UnsoundAtByteFour: "a release after an unsound table at byte four",
     DamagedRetentionShown: "ULRR, a damaged WRRR, and RDRR shows the bytes sent",
@@ -157,6 +222,46 @@ situations! { Situation:
     FlagsSetInSnapshot: "RDSTATD shows flags that a compare set after SNAP",
     FlagsClearedInSnapshot: "RDSTATD shows flags as CLOVUV cleared them after SNAP",
     StatusCClearedInSnapshot: "RDSTATC shows flags as CLRFLAG cleared them after SNAP",
+    HostSixForTwo: "CLRCMFLAG with six values for each monitor refused by the host with 8",
+    HostTwoForSix: "another write with two values for each monitor refused by the host with 8",
+    HostCmhb: "CMHB refused by the host with 4",
+    SettingsShown: "settings of LPCM written by the host, and a read shows other ones than stood",
+    SettingsKept: "settings of LPCM written by the host in LPCM, and a read shows what stood",
+    FlagsShown: "CLRCMFLAG by the host, and RDCMFLAG shows fewer flags",
+    FlagsKept: "CLRCMFLAG by the host in LPCM, and RDCMFLAG shows what stood",
+    AsleepAndAwake: "a write taken, CMEN, the write not taken, CMDIS, and it is taken again",
+    RetentionInLpcm: "CMEN, ULRR, WRRR, and RDRR shows what stood",
+    LastOfFirstCmen: "CMEN, a store, CMEN, and the last measurement is of the first",
+    LastOfLaterCmen: "CMEN, a store, CMDIS, CMEN, and the last measurement is another",
+    LiveInSnapshot: "SNAP, a store, CMEN: the last measurement is of the store, and the cell reads show the copy",
+}
+
+// What must come up for each command that it can come up for. Each must come up in both engines.
+situations! { OfCommand:
+    Accepted: "accepted",
+    NotTaken: "with a damaged payload not taken",
+    NotTakenInLpcm: "with a right payload not taken in LPCM",
+    TakenInLpcm: "accepted where a monitor is in LPCM",
+    ShowedCopy: "shows a copy that differs from the live cells",
+    ShowedLive: "shows live cells that differ from the copy",
+    Struck: "hit by a spike in its command refused",
+    Hit: "with one payload hit by a spike not taken there",
+    HitOverBorder: "with two payloads hit by a spike not taken there",
+    HitInLpcm: "hit by a spike at a monitor in LPCM that keeps its record",
+    Slipped: "with eleven places that get through stored",
+}
+
+impl OfCommand {
+    fn concerns(self, code: u16) -> bool {
+        let write = shape(code) == Some(Shape::Write);
+        match self {
+            OfCommand::Accepted | OfCommand::Struck => true,
+            OfCommand::NotTaken | OfCommand::Hit | OfCommand::HitOverBorder => needs_check(code),
+            OfCommand::NotTakenInLpcm | OfCommand::HitInLpcm | OfCommand::Slipped => write,
+            OfCommand::TakenInLpcm => !write,
+            OfCommand::ShowedCopy | OfCommand::ShowedLive => part_shown(code).is_some(),
+        }
+    }
 }
 
 /// Accepted calls at 0, refusals at their number.
@@ -173,24 +278,27 @@ impl Engine {
     pub const BOTH: [Engine; 2] = [Engine::Whole, Engine::Clocked];
 }
 
-/// What came up of one engine's frames: how many of each command were accepted, its damaged payloads that were not taken, its replies that
-/// showed the copy or the live cells where the other ones differ, its frames refused for a spike in the command, its payloads that were
-/// stored otherwise than sent since the check did not see a spike, and the effects.
+/// What came up of one engine's frames: of each command, the refusals of each, and the effects. Commands by their place in the list.
 #[derive(Default)]
 struct Frames {
-    accepted: [u64; LISTED.len()],
-    not_taken: [u64; LISTED.len()],
-    showed_copy: [u64; LISTED.len()],
-    showed_live: [u64; LISTED.len()],
-    struck: [u64; LISTED.len()],
-    slipped: [u64; LISTED.len()],
+    of_command: BTreeMap<(usize, OfCommand), u64>,
+    refused: BTreeMap<(usize, usize), u64>,
     effects: BTreeMap<Effect, u64>,
 }
+
+/// The refusals that each command's frame can get, whatever its engine: its code is listed, and only a read needs room.
+const FRAME_REFUSALS: [usize; 4] = [1, 2, 3, 5];
+const NO_ROOM: usize = 6;
+/// The answers that the host can give to each listed command.
+const HOST_ANSWERS: [usize; 4] = [0, 6, 7, 8];
+
+const WHOLE: &str = "as a whole frame";
 
 #[derive(Default)]
 pub struct Tally {
     kinds: Vec<(&'static str, [Answers; Function::ALL.len()])>,
     frames: [Frames; 2],
+    host: BTreeMap<(usize, usize), u64>,
     situations: BTreeMap<Situation, u64>,
     kind: usize,
 }
@@ -225,26 +333,25 @@ impl Tally {
         }
     }
 
-    pub fn accepted(&mut self, engine: Engine, code: u16) {
-        self.frames[engine as usize].accepted[place_of(code)] += 1;
+    /// Of a command that is listed.
+    pub fn of_command_if(&mut self, engine: Engine, code: u16, what: OfCommand, came_up: bool) {
+        if came_up {
+            let place = place_of(code).expect("a command that is counted is listed");
+            *self.frames[engine as usize].of_command.entry((place, what)).or_default() += 1;
+        }
     }
 
-    pub fn not_taken(&mut self, engine: Engine, code: u16) {
-        self.frames[engine as usize].not_taken[place_of(code)] += 1;
+    /// Where the code that the frame begins with is listed.
+    pub fn refused(&mut self, engine: Engine, code: u16, number: usize) {
+        if let Some(place) = place_of(code) {
+            *self.frames[engine as usize].refused.entry((place, number)).or_default() += 1;
+        }
     }
 
-    pub fn showed(&mut self, engine: Engine, code: u16, copy: bool) {
-        let frames = &mut self.frames[engine as usize];
-        let showed = if copy { &mut frames.showed_copy } else { &mut frames.showed_live };
-        showed[place_of(code)] += 1;
-    }
-
-    pub fn struck(&mut self, engine: Engine, code: u16) {
-        self.frames[engine as usize].struck[place_of(code)] += 1;
-    }
-
-    pub fn slipped(&mut self, engine: Engine, code: u16) {
-        self.frames[engine as usize].slipped[place_of(code)] += 1;
+    pub fn host(&mut self, code: u16, number: usize) {
+        if let Some(place) = place_of(code) {
+            *self.host.entry((place, number)).or_default() += 1;
+        }
     }
 
     pub fn did_if(&mut self, engine: Engine, effect: Effect, came_up: bool) {
@@ -292,24 +399,23 @@ impl Tally {
                 want(answers[number], format!("{} refused with {number}", function.name()));
             }
         }
-        for (frames, how) in self.frames.iter().zip(["as a whole frame", "at a release"]) {
+        for (frames, how) in self.frames.iter().zip([WHOLE, "at a release"]) {
             for (place, (code, name)) in LISTED.iter().enumerate() {
-                want(frames.accepted[place], format!("{name} ({code:04X}) accepted {how}"));
-                want(frames.struck[place], format!("{name} ({code:04X}) hit by a spike in its command refused {how}"));
-                if shape(*code) == Some(Shape::Write) {
-                    want(frames.slipped[place], format!("{name} ({code:04X}) with eleven places that get through stored {how}"));
+                for (what, words) in OfCommand::ALL.iter().filter(|(what, _)| what.concerns(*code)) {
+                    want(frames.of_command.get(&(place, *what)).copied().unwrap_or(0), format!("{name} ({code:04X}) {words} {how}"));
                 }
-                if needs_check(*code) {
-                    want(frames.not_taken[place], format!("{name} ({code:04X}) with a damaged payload not taken {how}"));
-                }
-                if part_shown(*code).is_some() {
-                    want(frames.showed_copy[place], format!("{name} ({code:04X}) shows a copy that differs from the live cells {how}"));
-                    want(frames.showed_live[place], format!("{name} ({code:04X}) shows live cells that differ from the copy {how}"));
+                let room = shape(*code) == Some(Shape::Read) && how == WHOLE;
+                for number in FRAME_REFUSALS.into_iter().chain(room.then_some(NO_ROOM)) {
+                    let count = frames.refused.get(&(place, number)).copied().unwrap_or(0);
+                    want(count, format!("{name} ({code:04X}) refused with {number} {how}"));
                 }
             }
             for (effect, name) in Effect::ALL {
                 want(frames.effects.get(effect).copied().unwrap_or(0), format!("{name}, {how}"));
             }
+        }
+        for ((place, (code, name)), number) in LISTED.iter().enumerate().flat_map(|listed| HOST_ANSWERS.map(|number| (listed, number))) {
+            want(self.host.get(&(place, number)).copied().unwrap_or(0), format!("{name} ({code:04X}) answered by the host with {number}"));
         }
         for (situation, name) in Situation::ALL {
             want(self.situations.get(situation).copied().unwrap_or(0), name.to_string());
@@ -318,6 +424,6 @@ impl Tally {
     }
 }
 
-fn place_of(code: u16) -> usize {
-    LISTED.iter().position(|(listed, _)| *listed == code).expect("a command that is counted is listed")
+fn place_of(code: u16) -> Option<usize> {
+    LISTED.iter().position(|(listed, _)| *listed == code)
 }

@@ -37,7 +37,7 @@ enum {
     OSK_FRAME_SHORT = 2,     /* frame under 4 bytes */
     OSK_COMMAND_WRONG = 3,   /* command PEC wrong */
     OSK_CODE_NOT_LISTED = 4, /* code not listed */
-    OSK_LENGTH_WRONG = 5,    /* length not the one for this command and N; a reply or payload of the wrong length */
+    OSK_LENGTH_WRONG = 5,    /* length not the one for this command and N; a reply, payload or message of the wrong length */
     OSK_NO_ROOM = 6,         /* the buffer to be written is too small */
     OSK_POSITION_WRONG = 7,  /* N not 1 to 32, position not 1 to N, or phase not 0 to 14 */
     OSK_COUNT_WRONG = 8,     /* wrong number of codes or value bytes */
@@ -46,21 +46,31 @@ enum {
 };
 
 /* ---- the chain: a table of N records, nearest monitor first, each laid out as document 01 has it, with more behind its byte 69: the groups
- * PWM A and PWM B of six bytes each, and then the copy of the cells, 32 bytes. Zero bytes are a sound table.
+ * PWM A and PWM B of six bytes each; the copy of the cells, 32 bytes; and low power cell monitoring (LPCM): its configuration at byte 114, the
+ * thresholds of the cells at 120 and of the GPIOs at 126, the flags CMF0 to CMF5 at 132, six bytes each, and the cells of the last measurement at
+ * 138, 32 bytes. Zero bytes are a sound table.
  * WRPWMB stores two bytes of its six and makes the other four FF; until then they are as they were lent.
  * SNAP (002D) copies the cells and sets SNAP_ST (byte 5, bit 5), so that a read in several frames shows one moment; where it is set already
  * SNAP changes neither. UNSNAP (002F) clears it. While SNAP_ST is set, also in a record that was lent so, RDCVA to RDCVF show the copy, and
  * everything else goes by the live record: every other read, stores, compares, loads, CLRCELL. The sheet freezes bytes of status C and D too;
- * this chain does not */
+ * this chain does not.
+ * WRCMCFG (0058) stores the LPCM configuration whole; WRCMCELLT (005A) and WRCMGPIOT (005C) store bytes 0 to 3 of their thresholds and the low half
+ * of byte 4, and every other bit becomes 0. RDCMCFG (0059), RDCMCELLT (005B) and RDCMGPIOT (005D) show these three, RDCMFLAG (005F) the flags.
+ * CLRCMFLAG (005E) has two data bytes for each monitor and not six, so a frame of 4 + 4N bytes and windows of four: each bit of the first that is 1
+ * clears that bit of CMF0; the second does nothing. CMHB (0043) is sent by monitors: a frame of it is refused with 4.
+ * CMEN (0041) where CMC_EN (CMF1, byte 133, bit 7) is clear makes CMF1 83 hex and takes the live cells as the last measurement; where it is set
+ * CMEN changes neither. CMDIS (0040) clears CMC_EN. Both leave CMF0. While CMC_EN is set, also in a record that was lent so, a monitor takes no
+ * write: it stores nothing and does not count, and its byte 69 becomes 0. Reads and bare commands go on */
 
 /* The bytes of one monitor's record. */
-#define OSK_RECORD_SIZE 114
+#define OSK_RECORD_SIZE 170
 
 /* Handles a frame. The table becomes what the monitors keep of it; the reply to a read, nearest monitor first, goes to the start of
  * `reply`, and bytes past it stay.
- * First: how many monitors took the frame: N for a read, a bare command or a WRRR, and for any other write as many as found the data PEC of
- * their own eight bytes right. A WRRR is executed whatever its data PEC: every monitor takes and counts it, stores its own six bytes only
- * where its retention was unlocked (byte 69 was 1, as ULRR leaves it), and is locked after it.
+ * First: how many monitors took the frame: N for a read or a bare command; for a WRRR the monitors that are not in LPCM; and for any other
+ * write those of them that found the data PEC of their own bytes right. A WRRR is executed whatever its data PEC: every monitor that is not in
+ * LPCM takes and counts it, and stores its own six bytes only where its retention was unlocked (byte 69 was 1, as ULRR leaves it); each is locked
+ * after it.
  * Second: the length of the reply (8N for a read, else 0).
  * Refusals: 1, 2, 3, 4, 5, 6 (6 only for reads).
  */
@@ -110,12 +120,12 @@ osk_answer osk_discharge(const uint8_t *table, size_t table_length, size_t posit
 /* ---- the host */
 
 /* Builds the frame for a command and so many monitors at the start of `out`; bytes past it stay. The values are six bytes for each
- * monitor in a write, nearest monitor first, and none otherwise.
+ * monitor in a write (in a CLRCMFLAG two), nearest monitor first, and none otherwise.
  * What a spike on the wire can do to such a frame, at a chain of so many monitors (proved, for both engines), where it turns over at least
  * one bit:
- * - all within ten places in a row, and none in the first four bytes: a write is accepted. Each monitor whose own eight bytes were hit keeps
+ * - all within ten places in a row, and none in the first four bytes: a write is accepted. Each monitor whose own bytes were hit keeps
  *   its record, counter included, but for its unlock byte (byte 69), which becomes 0; each other one does as without the spike. So fewer than
- *   N take it. Not so a WRRR, which needs no data PEC: every monitor takes it, and an unlocked one stores what came.
+ *   N take it. Not so a WRRR, which needs no data PEC: every monitor that is not in LPCM takes it, and an unlocked one of them stores what came.
  * - all within fifteen places in a row, and some in the first four bytes: the frame, of any command, is refused with 3.
  * Eleven places behind the first four bytes, and sixteen in them, may get through.
  * Second: the length of the frame. Refusals: 4, 7, 8, 6.
@@ -124,7 +134,7 @@ osk_answer osk_host_frame(uint16_t command, size_t monitors, const uint8_t *valu
 
 enum { OSK_RIGHT = 1, OSK_DAMAGED = 2 };
 
-/* Checks the data PEC of one payload of eight bytes.
+/* Checks the data PEC of one monitor's reply of eight bytes.
  * First: OSK_RIGHT or OSK_DAMAGED. Refusals: 5.
  */
 osk_answer osk_check(const uint8_t *payload, size_t payload_length);
@@ -136,6 +146,19 @@ enum { OSK_PORT_A = 1, OSK_PORT_B = 2 };
  * First: OSK_PORT_A or OSK_PORT_B. Second: the byte of that reply that the eight start at. Refusals: 7, 5 (either reply not 8N bytes), 10.
  */
 osk_answer osk_two_ports(const uint8_t *a, size_t a_length, const uint8_t *b, size_t b_length, size_t monitors, size_t position);
+
+/* The host's verdict on a heartbeat in LPCM: passed; failed; damaged; timed out. */
+enum { OSK_PASSED = 1, OSK_FAILED = 2, OSK_MESSAGE_DAMAGED = 3, OSK_TIMED_OUT = 4 };
+
+/* Judges what came to the host of a heartbeat, and whether the time ran out: there is no clock here, so that is given, 0 for no and any other
+ * value for yes. A message has eight bytes: 00 43 47 B2, the count, the flags (as in CMF0), and two of data PEC over these two bytes and the six
+ * counter bits as they stand. Where the time ran out eight bytes are OSK_TIMED_OUT, whatever they are; else a message that is not right in
+ * command, command PEC or data PEC is OSK_MESSAGE_DAMAGED, count 42 hex and flags 00 are OSK_PASSED, and any other OSK_FAILED. Nothing at all,
+ * with the time run out, is timed out too.
+ * First: one of the four. Second: where it failed, 256 x count + flags. Refusals: 5 (another length than eight, late or not; but for nothing where
+ * the time ran out).
+ */
+osk_answer osk_verdict(const uint8_t *message, size_t message_length, uint8_t time_ran_out);
 
 /* ---- the clocked engine: the same frames, a byte at a time */
 

@@ -23,12 +23,12 @@ from typing import Any, NamedTuple, Sequence, Tuple, Union
 
 __all__ = [
     "Answer", "osk_number", "osk_first", "osk_second", "osk_frame", "osk_store", "osk_compare", "osk_load", "osk_discharge",
-    "osk_host_frame", "osk_check", "osk_two_ports", "osk_clock_start", "osk_clock_byte", "osk_clock_window", "osk_clock_release",
-    "osk_microvolts", "osk_volts", "osk_summary",
+    "osk_host_frame", "osk_check", "osk_two_ports", "osk_verdict", "osk_clock_start", "osk_clock_byte", "osk_clock_window",
+    "osk_clock_release", "osk_microvolts", "osk_volts", "osk_summary",
     "OSK_ACCEPTED", "OSK_TABLE_NOT_SOUND", "OSK_FRAME_SHORT", "OSK_COMMAND_WRONG", "OSK_CODE_NOT_LISTED", "OSK_LENGTH_WRONG",
     "OSK_NO_ROOM", "OSK_POSITION_WRONG", "OSK_COUNT_WRONG", "OSK_CODE_CLEARED", "OSK_NEITHER_RIGHT", "OSK_RECORD_SIZE",
     "OSK_EVENT_SHUTDOWN", "OSK_EVENT_MEASUREMENT", "OSK_EVENT_WRCFGB", "OSK_EVENT_WRPWM", "OSK_OUTPUT_ON", "OSK_RIGHT", "OSK_DAMAGED",
-    "OSK_PORT_A", "OSK_PORT_B", "OSK_CLOCK_STATE",
+    "OSK_PORT_A", "OSK_PORT_B", "OSK_PASSED", "OSK_FAILED", "OSK_MESSAGE_DAMAGED", "OSK_TIMED_OUT", "OSK_CLOCK_STATE",
 ]
 
 Writable = Union[bytearray, memoryview, "array.array[Any]", "ctypes.Array[Any]"]
@@ -49,7 +49,7 @@ OSK_COUNT_WRONG = 8  # wrong number of codes or value bytes
 OSK_CODE_CLEARED = 9  # a code to store or load is -32768
 OSK_NEITHER_RIGHT = 10  # neither port's bytes are right
 
-OSK_RECORD_SIZE = 114  # the bytes of one monitor's record; the last 32 are the copy of its cells that SNAP makes
+OSK_RECORD_SIZE = 170  # the bytes of one monitor's record
 
 # ---- what goes on at the monitor while its outputs are asked for, added up; bits above these are not looked at
 
@@ -65,6 +65,13 @@ OSK_DAMAGED = 2
 
 OSK_PORT_A = 1
 OSK_PORT_B = 2
+
+# ---- the host's verdict on a heartbeat in LPCM
+
+OSK_PASSED = 1
+OSK_FAILED = 2
+OSK_MESSAGE_DAMAGED = 3
+OSK_TIMED_OUT = 4
 
 OSK_CLOCK_STATE = 264  # the bytes of one clock's state
 
@@ -134,6 +141,7 @@ _PROTOTYPES = {
     "osk_host_frame": (ctypes.c_uint32, (ctypes.c_uint16,) + _POSITION + _BUFFER + _BUFFER),
     "osk_check": (ctypes.c_uint32, _BUFFER),
     "osk_two_ports": (ctypes.c_uint32, _BUFFER + _BUFFER + _POSITION + _POSITION),
+    "osk_verdict": (ctypes.c_uint32, _BUFFER + _BYTE),
     "osk_clock_start": (None, _STATE),
     "osk_clock_byte": (ctypes.c_uint32, _STATE + _BUFFER + _BYTE),
     "osk_clock_window": (ctypes.c_uint32, _STATE + _POSITION + _BUFFER),
@@ -303,21 +311,33 @@ def _call(function: Any, *arguments: Any) -> Any:
     return function(*itertools.chain.from_iterable(words))
 
 
-# ---- the chain: a table of N records of OSK_RECORD_SIZE bytes, nearest monitor first
+# ---- the chain: a table of N records of OSK_RECORD_SIZE bytes, nearest monitor first, each laid out as document 01 has it, with more
+# behind its byte 69: the groups PWM A and PWM B of six bytes each; the copy of the cells, 32 bytes; and low power cell monitoring (LPCM):
+# its configuration at byte 114, the thresholds of the cells at 120 and of the GPIOs at 126, the flags CMF0 to CMF5 at 132, six bytes each,
+# and the cells of the last measurement at 138, 32 bytes. Zero bytes are a sound table.
 
 def osk_frame(table: Writable, frame: Readable, reply: Writable) -> Answer:
     """Handles a frame. The table becomes what the monitors keep of it; the reply to a read, nearest monitor first, goes to the start of
     `reply`, and bytes past it stay.
 
-    A snapshot is for a long read of one moment: the cells are read by six frames, and codes stored between two of them are of another.
-    SNAP (002D) copies each monitor's cells to the last 32 bytes of its record and sets SNAP_ST (byte 5, bit 5). While that is set, also in a
-    record that was lent so, RDCVA to RDCVF show the copy, and a further SNAP leaves it; everything else goes by the live record: every other
-    read, stores, compares, loads and CLRCELL. UNSNAP (002F) clears SNAP_ST, and the reads show the live cells again. The sheet freezes bytes of
-    status C and D too; this chain does not.
+    A snapshot is for a long read of one moment: the cells are read by six frames, and codes stored between two of them are of another. SNAP
+    (002D) copies each monitor's cells and sets SNAP_ST (byte 5, bit 5). While that is set, also in a record that was lent so, RDCVA to
+    RDCVF show the copy, and a further SNAP leaves it; everything else goes by the live record: every other read, stores, compares, loads
+    and CLRCELL. UNSNAP (002F) clears SNAP_ST, and the reads show the live cells again. The sheet freezes bytes of status C and D too; this
+    chain does not.
 
-    First: how many monitors took the frame: N for a read, a bare command or a WRRR, and for any other write as many as found the data PEC
-    of their own eight bytes right. A WRRR is executed whatever its data PEC: every monitor takes and counts it, stores its own six bytes
-    only where its retention was unlocked (byte 69 was 1, as ULRR leaves it), and is locked after it.
+    WRCMCFG (0058) stores the LPCM configuration whole; WRCMCELLT (005A) and WRCMGPIOT (005C) store bytes 0 to 3 of their thresholds and the
+    low half of byte 4, and every other bit becomes 0. RDCMCFG (0059), RDCMCELLT (005B) and RDCMGPIOT (005D) show these three, RDCMFLAG
+    (005F) the flags. CLRCMFLAG (005E) has two data bytes for each monitor and not six, so a frame of 4 + 4N bytes and windows of four: each
+    bit of the first that is 1 clears that bit of CMF0; the second does nothing. CMHB (0043) is sent by monitors: a frame of it is refused
+    with 4. CMEN (0041) where CMC_EN (CMF1, byte 133, bit 7) is clear makes CMF1 83 hex and takes the live cells as the last measurement;
+    where it is set CMEN changes neither. CMDIS (0040) clears CMC_EN. Both leave CMF0. While CMC_EN is set, also in a record that was lent
+    so, a monitor takes no write: it stores nothing and does not count, and its byte 69 becomes 0. Reads and bare commands go on.
+
+    First: how many monitors took the frame: N for a read or a bare command; for a WRRR the monitors that are not in LPCM; and for any other
+    write those of them that found the data PEC of their own bytes right. A WRRR is executed whatever its data PEC: every monitor that is
+    not in LPCM takes and counts it, and stores its own six bytes only where its retention was unlocked (byte 69 was 1, as ULRR leaves it);
+    each is locked after it.
     Second: the length of the reply (8N for a read, else 0).
     Refusals: 1, 2, 3, 4, 5, 6 (6 only for reads).
     """
@@ -375,12 +395,13 @@ def osk_discharge(table: Readable, position: int, events: int, phase: int, out: 
 
 def osk_host_frame(command: int, monitors: int, values: Readable, out: Writable) -> Answer:
     """Builds the frame for a command and so many monitors at the start of `out`; bytes past it stay. The values are six bytes for each
-    monitor in a write, nearest monitor first, and none (b"") otherwise.
+    monitor in a write (in a CLRCMFLAG two), nearest monitor first, and none (b"") otherwise.
 
     What a spike on the wire can do to such a frame, at a chain of so many monitors, where it turns over at least one bit:
-    all within ten places in a row, and none in the first four bytes: a write is accepted. Each monitor whose own eight bytes were hit keeps
+    all within ten places in a row, and none in the first four bytes: a write is accepted. Each monitor whose own bytes were hit keeps
     its record, counter included, but for its unlock byte (byte 69), which becomes 0; each other one does as without the spike. So fewer
-    than N take it. Not so a WRRR, which needs no data PEC: every monitor takes it, and an unlocked one stores what came;
+    than N take it. Not so a WRRR, which needs no data PEC: every monitor that is not in LPCM takes it, and an unlocked one of them stores
+    what came;
     all within fifteen places in a row, and some in the first four bytes: the frame, of any command, is refused with 3.
     Eleven places behind the first four bytes, and sixteen in them, may get through.
 
@@ -391,7 +412,7 @@ def osk_host_frame(command: int, monitors: int, values: Readable, out: Writable)
 
 
 def osk_check(payload: Readable) -> Answer:
-    """Checks the data PEC of one payload of eight bytes.
+    """Checks the data PEC of one monitor's reply of eight bytes.
 
     First: OSK_RIGHT or OSK_DAMAGED. Refusals: 5.
     """
@@ -406,6 +427,19 @@ def osk_two_ports(a: Readable, b: Readable, monitors: int, position: int) -> Ans
     bytes), 10.
     """
     return Answer(_call(_library.osk_two_ports, _read("a", a), _read("b", b), _size("monitors", monitors), _size("position", position)))
+
+
+def osk_verdict(message: Readable, time_ran_out: int) -> Answer:
+    """Judges what came to the host of a heartbeat in LPCM, and whether the time ran out: there is no clock here, so that is given, 0 (or
+    False) for no and any other value up to 255 (or True) for yes. A message has eight bytes: 00 43 47 B2, the count, the flags (as in
+    CMF0), and two of data PEC over these two bytes and the six counter bits as they stand. Where the time ran out eight bytes are
+    OSK_TIMED_OUT, whatever they are; else a message that is not right in command, command PEC or data PEC is OSK_MESSAGE_DAMAGED, count 42
+    hex and flags 00 are OSK_PASSED, and any other OSK_FAILED. Nothing at all (b""), with the time run out, is timed out too.
+
+    First: one of the four. Second: where it failed, 256 x count + flags. Refusals: 5 (another length than eight, late or not; but for
+    nothing where the time ran out).
+    """
+    return Answer(_call(_library.osk_verdict, _read("message", message), _byte("time_ran_out", time_ran_out)))
 
 
 # ---- the clocked engine: the same frames, a byte at a time

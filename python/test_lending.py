@@ -91,6 +91,7 @@ class Kinds(unittest.TestCase):
         out = bytearray(16)
         self.assertEqual(osk.osk_discharge(bytearray(4 * RECORD), Four(), Four(), Four(), out), osk.OSK_ACCEPTED)
         self.assertEqual(out, b"\x05" * 16)
+        self.assertEqual(osk.osk_verdict(b"", Four()).first, osk.OSK_TIMED_OUT)
 
 
 class Lending(unittest.TestCase):
@@ -138,7 +139,7 @@ class Lending(unittest.TestCase):
             return 0
 
         names = ("osk_frame", "osk_store", "osk_compare", "osk_load", "osk_discharge", "osk_host_frame", "osk_check", "osk_two_ports",
-                 "osk_clock_byte", "osk_clock_window", "osk_clock_release", "osk_summary")
+                 "osk_verdict", "osk_clock_byte", "osk_clock_window", "osk_clock_release", "osk_summary")
         with library_of(**{name: function for name in names}):
             for empty in b"", bytearray(), memoryview(b"abc")[:0], (ctypes.c_uint8 * 0)(), array.array("B"):
                 state = bytearray(osk.OSK_CLOCK_STATE)
@@ -150,11 +151,12 @@ class Lending(unittest.TestCase):
                 osk.osk_host_frame(wire.MUTE, 1, empty, bytearray())
                 osk.osk_check(empty)
                 osk.osk_two_ports(empty, empty, 1, 1)
+                osk.osk_verdict(empty, 1)
                 osk.osk_clock_byte(state, empty, 1)
                 osk.osk_clock_window(state, 1, bytearray())
                 osk.osk_clock_release(state, bytearray())
                 osk.osk_summary(array.array("h"), array.array("d"))
-        self.assertEqual(len(seen), 5 * 20)
+        self.assertEqual(len(seen), 5 * 21)
         self.assertEqual([each for each in seen if not each or each % 8], [])
 
     def test_codes_are_aligned(self):
@@ -256,6 +258,7 @@ class Mistakes(unittest.TestCase):
             yield "payload", osk.osk_check, lambda wrong: (wrong,)
             yield "a", osk.osk_two_ports, lambda wrong: (wrong, PAYLOAD, 1, 1)
             yield "b", osk.osk_two_ports, lambda wrong: (PAYLOAD, wrong, 1, 1)
+            yield "message", osk.osk_verdict, lambda wrong: (wrong, 0)
             yield "table", osk.osk_clock_byte, lambda wrong: (state, wrong, 0)
             yield "state", osk.osk_clock_window, lambda wrong: (wrong, 1, reply)
 
@@ -325,6 +328,7 @@ class Mistakes(unittest.TestCase):
             ("byte", -1, 256, osk.osk_clock_byte, lambda wrong: (self.state, self.table, wrong)),
             ("events", -1, 256, osk.osk_discharge, lambda wrong: (self.table, 1, wrong, 0, self.reply)),
             ("phase", -1, 256, osk.osk_discharge, lambda wrong: (self.table, 1, 0, wrong, self.reply)),
+            ("time_ran_out", -1, 256, osk.osk_verdict, lambda wrong: (PAYLOAD, wrong)),
             ("command", -1, 65536, osk.osk_host_frame, lambda wrong: (wrong, 1, b"", self.reply)),
             ("code", -32769, 32768, osk.osk_microvolts, lambda wrong: (wrong,)),
             ("code", -32769, 32768, osk.osk_volts, lambda wrong: (wrong,)),

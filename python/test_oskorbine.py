@@ -20,6 +20,8 @@ COUNTER, UNLOCKED = 68, 69
 STATUS_D = 50
 PWM_A, PWM_B = 70, 76
 CELLS, COPY = 12, 82
+LPCM_CONFIGURATION, CELL_THRESHOLDS, GPIO_THRESHOLDS, CMF0, CMF1, LAST = 114, 120, 126, 132, 133, 138
+CMC_EN = 0x80  # in CMF1
 SNAP_ST = 0x20  # in byte 5
 CELL_READS = wire.RDCVA, wire.RDCVB, wire.RDCVC, wire.RDCVD, wire.RDCVE, wire.RDCVF
 PAST_32_BITS = (1 << 32) + 1  # a size_t that would pass for 1 if it went through a C int
@@ -28,10 +30,11 @@ UNLISTED = wire.command_bytes(0x0003)
 
 
 def filled(monitors, counter=5, unlocked=0):
-    """A sound table whose registers have no two neighbouring bytes alike."""
+    """A sound table whose registers have no two neighbouring bytes alike, with no monitor in LPCM."""
     table = bytearray((37 * at + 11 * (at // RECORD) + 5) % 256 for at in range(RECORD * monitors))
     for start in range(0, len(table), RECORD):
         table[start + COUNTER:start + COUNTER + 2] = counter, unlocked
+        table[start + CMF1] &= 0xFF - CMC_EN
     return table
 
 
@@ -45,6 +48,7 @@ def edited(table, changes):
 
 UNSOUND = {
     "empty": bytes(0), "the record before L2": bytes(70), "the record before L6": bytes(82), "32 records before L6": bytes(32 * 82),
+    "the record before L8": bytes(114), "32 records before L8": bytes(32 * 114),
     "a byte short": bytes(RECORD - 1), "a byte long": bytes(RECORD + 1),
     "32 records but a byte": bytes(32 * RECORD - 1), "32 records and a byte": bytes(32 * RECORD + 1), "33 records": bytes(33 * RECORD),
     "counter 64": edited(bytes(RECORD), {COUNTER: b"\x40"}), "byte 69 is 2": edited(bytes(RECORD), {UNLOCKED: b"\x02"}),
@@ -117,6 +121,13 @@ class BothEngines(Case):
         self.assert_answer(self.sent(table, frame)[0], len(table) // RECORD, 0)
         self.assertEqual(table, expected)
 
+    def shows(self, table, command, *registers):
+        """A read has these six bytes of each monitor, nearest first, and its counter."""
+        expected = b"".join(wire.payload(six, counter) for six, counter in zip(registers, table[COUNTER::RECORD]))
+        answer, reply = self.sent(table, wire.read(command, len(registers)))
+        self.assert_answer(answer, len(table) // RECORD, 8 * len(registers))
+        self.assertEqual(reply, expected)
+
     def keeps(self, table, frame, number):
         """Refused with the number, and every byte stays."""
         before = bytes(table)
@@ -133,6 +144,12 @@ class Words(unittest.TestCase):
         for value, bits, expected in (0x00, 8, 0x23C), (0x01, 8, 0x2B3), (0, 48, 0x331), (0, 54, 0x3E3):
             self.assertEqual(wire.remainder(10, wire.DATA_POLYNOMIAL, value, bits), expected)
         self.assertEqual(wire.payload(bytes(6)).hex(), "00000000000003e3")
+
+    def test_of_two_bytes(self):
+        """By x^26 = 248h for two zero bytes, x^24 = 092h for the last bit of the first, x^16 = 337h for that of the second, and those given
+        with L8."""
+        for some_bytes in "00000248", "010002da", "0001017f", "42000394", "4700014e", "430201e7", "ffff0205":
+            self.assertEqual(wire.payload(bytes.fromhex(some_bytes)[:2]).hex(), some_bytes)
 
 
 class Answers(unittest.TestCase):
@@ -166,7 +183,7 @@ class Frames(Case):
     def test_every_read(self):
         """The cell reads show the cells, and where a monitor's own SNAP_ST is set the copy. Every other read has one place."""
         at = {wire.RDCFGA: 0, wire.RDCFGB: 6, wire.RDSTATC: 44, wire.RDSTATD: 50, wire.RDRR: 56, wire.RDSID: 62, wire.RDPWMA: 70,
-              wire.RDPWMB: 76}
+              wire.RDPWMB: 76, wire.RDCMCFG: 114, wire.RDCMCELLT: 120, wire.RDCMGPIOT: 126, wire.RDCMFLAG: 132}
         for near_cells, far_cells in itertools.product((CELLS, COPY), repeat=2):
             changes = {5: b"\xbe" if near_cells == COPY else b"\x9e", RECORD + 5: b"\x20" if far_cells == COPY else b"\xdf"}
             table = edited(filled(2), {COUNTER: b"\x3f", RECORD + COUNTER: b"\x01", **changes})
@@ -174,7 +191,7 @@ class Frames(Case):
             registers = {command: (near_one[start:start + 6], far_one[start:start + 6]) for command, start in at.items()}
             for command in CELL_READS:
                 registers[command] = group(near_one[near_cells:][:32], command), group(far_one[far_cells:][:32], command)
-            self.assertEqual(len(registers), 14)
+            self.assertEqual(len(registers), len(wire.READS))
             for command, (near, far) in registers.items():
                 with self.subTest(command=f"{command:04X}", near=near_cells, far=far_cells):
                     lent, reply = bytearray(table), bytearray([CANARY]) * 20
@@ -250,9 +267,10 @@ class Frames(Case):
                                         2 * RECORD + COUNTER: b"\x01\x00"}, 3)
 
     def test_every_other_write_needs_its_check(self):
-        for command in wire.WRCFGA, wire.WRCFGB, wire.CLRFLAG, wire.CLOVUV, wire.WRPWMA, wire.WRPWMB:
+        for command in (each for each in wire.WRITES if each != wire.WRRR):
             with self.subTest(command=f"{command:04X}"):
-                frame = wire.write(command, wire.damaged(wire.payload(b"\xff" * 6)), wire.damaged(wire.payload(bytes(6))))
+                ones, zeros = b"\xff" * wire.data_bytes(command), bytes(wire.data_bytes(command))
+                frame = wire.write(command, wire.damaged(wire.payload(ones)), wire.damaged(wire.payload(zeros)))
                 self.changes(filled(2, unlocked=1), frame, {UNLOCKED: b"\x00", RECORD + UNLOCKED: b"\x00"}, 0)
 
     def test_pwm_groups(self):
@@ -494,13 +512,13 @@ class Record(Case):
                     for wrong in size - 1, size + 1:
                         self.assert_refused(function(bytearray(wrong)), OSK_TABLE_NOT_SOUND)
 
-    def test_records_without_the_copy(self):
-        """N records of 82 bytes, sound before L6, are refused with 1 for each N, and keep every byte."""
-        for monitors in range(1, 33):
+    def test_records_without_what_came_later(self):
+        """N records of 82 bytes, sound before L6, or 114, sound before L8, are refused with 1 for each N, and keep every byte."""
+        for monitors, length in itertools.product(range(1, 33), (82, 114)):
             whole = filled(monitors)
-            table = b"".join(whole[at:at + 82] for at in range(0, len(whole), RECORD))
+            table = b"".join(whole[at:at + length] for at in range(0, len(whole), RECORD))
             for name, function in self.functions():
-                with self.subTest(function=name, monitors=monitors):
+                with self.subTest(function=name, monitors=monitors, length=length):
                     lent = bytearray(table)
                     self.assert_refused(function(lent), OSK_TABLE_NOT_SOUND)
                     self.assertEqual(lent, table)
@@ -526,13 +544,6 @@ class Snapshots(BothEngines):
     def stored(self, table, *codes_of_each):
         for position, codes in enumerate(codes_of_each, 1):
             self.assert_answer(osk_store(table, position, codes), 0, 0)
-
-    def shows(self, table, command, *registers):
-        """A read has these six bytes of each monitor, nearest first, and its counter."""
-        expected = b"".join(wire.payload(six, counter) for six, counter in zip(registers, table[COUNTER::RECORD]))
-        answer, reply = self.sent(table, wire.read(command, len(registers)))
-        self.assert_answer(answer, len(table) // RECORD, 8 * len(registers))
-        self.assertEqual(reply, expected)
 
     def shows_cells(self, table, *shown):
         """All six cell reads are of these 32 bytes of each monitor, nearest first."""
@@ -629,7 +640,7 @@ class Snapshots(BothEngines):
     def test_clocked_read_goes_by_snap_st_at_byte_four(self):
         """The windows are loaded then: whether it is set before or after does not show."""
         on, off = self.chain(0x20), self.chain(0x00)
-        for at_four, before_and_after, shown in (on, off, on[COPY:]), (off, on, *self.live(off)):
+        for at_four, before_and_after, shown in (on, off, on[COPY:COPY + 32]), (off, on, *self.live(off)):
             for command in CELL_READS:
                 frame, state, answered = wire.read(command, 1), started(), b""
                 for table, part in (before_and_after, frame[:3]), (at_four, frame[3:4]), (before_and_after, frame[4:]):
@@ -758,8 +769,11 @@ class Host(Case):
         self.builds(wire.WRPWMA, 1, bytes(6), bytes.fromhex("00200000 00000000000003E3"))
         self.builds(wire.SNAP, 1, b"", bytes.fromhex("002DD2A2"))
         self.builds(wire.UNSNAP, 1, b"", bytes.fromhex("002F4FF4"))
-        near, far = bytes.fromhex("715246000000"), bytes.fromhex("F4813E123456")
+        self.builds(wire.CLRCMFLAG, 1, b"\xff\xff", bytes.fromhex("005ECE3E FFFF0205"))
+        self.builds(wire.CMEN, 1, b"", bytes.fromhex("0041DAE4"))
+        self.builds(wire.CMDIS, 1, b"", bytes.fromhex("004051D6"))
         for command in wire.WRITES:
+            near, far = (bytes.fromhex(values)[:wire.data_bytes(command)] for values in ("715246000000", "F4813E123456"))
             self.builds(command, 2, near + far, wire.command_bytes(command) + wire.payload(far) + wire.payload(near))
         for command in wire.READS:
             self.builds(command, 32, b"", wire.command_bytes(command) + b"\xff" * 256)
@@ -767,14 +781,16 @@ class Host(Case):
             self.builds(command, 32, b"", wire.command_bytes(command))
 
     def test_refusals_in_their_order(self):
-        for command in 0x0000, 0x0003, 0x2400, 0xFFFF:
+        for command in 0x0000, 0x0003, 0x2400, 0xFFFF, wire.CMHB:
             self.keeps(command, 0, b"x", 0, OSK_CODE_NOT_LISTED)
         for monitors in 0, 33, PAST_32_BITS, (1 << 64) - 1:
             self.keeps(wire.WRCFGB, monitors, b"x", 0, OSK_POSITION_WRONG)
-        for values in b"", bytes(11), bytes(13):
+        for values in b"", bytes(4), bytes(11), bytes(13):
             self.keeps(wire.WRCFGB, 2, values, 0, OSK_COUNT_WRONG)
-        for command in wire.RDCFGA, wire.MUTE:
-            self.keeps(command, 1, bytes(6), 0, OSK_COUNT_WRONG)
+        for values in b"", bytes(2), bytes(3), bytes(5), bytes(6), bytes(12):
+            self.keeps(wire.CLRCMFLAG, 2, values, 0, OSK_COUNT_WRONG)
+        for command, values in itertools.product((wire.RDCFGA, wire.MUTE, wire.RDCMFLAG, wire.CMEN, wire.CMDIS), (bytes(2), bytes(6))):
+            self.keeps(command, 1, values, 0, OSK_COUNT_WRONG)
 
     def test_check(self):
         right = wire.payload(bytes.fromhex("A1A2A3A4A5A6"), 17)
@@ -784,6 +800,7 @@ class Host(Case):
             self.assert_answer(osk_check((int.from_bytes(right, "big") ^ 1 << bit).to_bytes(8, "big")), OSK_DAMAGED, 0)
         for length in 0, 7, 9, 16:
             self.assert_refused(osk_check((right * 2)[:length]), OSK_LENGTH_WRONG)
+        self.assert_refused(osk_check(wire.payload(b"\xff\xff")), OSK_LENGTH_WRONG)
 
     def test_two_ports(self):
         right = [wire.payload(bytes([number] * 6), number) for number in (1, 2, 3)]

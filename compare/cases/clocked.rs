@@ -1,7 +1,7 @@
 //! The clocked engine: frames cut, given up, overlong, with tables that change under them, and two clocks in turn.
 
 use crate::clocks::Clocks;
-use crate::inputs::{self, LISTED, MOST};
+use crate::inputs::{self, CLRCMFLAG, LISTED, MOST, REPLY};
 use crate::lent::{Both, Lent};
 use crate::run::{Done, Run};
 
@@ -93,7 +93,7 @@ fn overlong(run: &mut Run) -> Done {
         let right = inputs::frame_of(&mut run.random, code, monitors).len();
         for length in [right + 1, right + 256, 300, 600] {
             let mut frame = inputs::head(code).to_vec();
-            frame.extend(inputs::payloads(&mut run.random, length / 8 + 1));
+            frame.extend(inputs::payloads(&mut run.random, REPLY, length / REPLY + 1));
             frame.truncate(length);
             let mut table = any_table(run, monitors);
             whole(run, &mut clocks, &mut table, &frame)?;
@@ -102,9 +102,9 @@ fn overlong(run: &mut Run) -> Done {
     Ok(())
 }
 
-/// A read, a write and a bare command that go on past what 16 bits count, tried for release at every length.
+/// A read, two writes and a bare command that go on past what 16 bits count, tried for release at every length.
 fn every_length(run: &mut Run) -> Done {
-    for code in [0x000B, 0x0024, 0x0711] {
+    for code in [0x000B, 0x0024, CLRCMFLAG, 0x0711] {
         let mut clocks = Clocks::new(run)?;
         let monitors = run.random.within(1, 3);
         let mut table = any_table(run, monitors);

@@ -153,7 +153,7 @@ fn send(run: &mut Run, chain: &mut Chain, code: u16, values: &[u8]) -> Done {
 /// Duties as the host writes them, with no DCC bit and no mute: each monitor's outputs go by its own values.
 fn by_the_hosts_writes(run: &mut Run) -> Done {
     for monitors in [1, 2, 3, 5, 8, MOST] {
-        let mut chain = Chain::new(run, monitors)?;
+        let mut chain = Chain::out_of_lpcm(run, monitors)?;
         let [duties_a, duties_b] = [(); 2].map(|()| run.random.bytes(6 * monitors));
         send(run, &mut chain, WRPWMA, &duties_a)?;
         send(run, &mut chain, WRCFGB, &vec![0; 6 * monitors])?;

@@ -1,14 +1,17 @@
-//! Whole frames, each on a table of its own.
+//! Whole frames, each on a table of its own; each refusal of each command by both engines.
 
 use crate::both::{built, frame};
+use crate::chain::Chain;
 use crate::inputs::{self, head, Shape, LISTED, MOST};
 use crate::lent::Both;
-use crate::run::{Done, Run};
+use crate::run::{expect, Done, Run};
+use crate::surface::Function;
 
 pub fn cases(run: &mut Run) -> Done {
     every_command_at_every_n(run)?;
     every_length(run)?;
     near_misses(run)?;
+    every_refusal(run)?;
     built_by_the_host(run)?;
     mixed(run)
 }
@@ -75,6 +78,34 @@ fn near_misses(run: &mut Run) -> Done {
             let mut table = table(run, monitors);
             frame(run, &mut table, &bytes, 8 * monitors)?;
         }
+    }
+    Ok(())
+}
+
+/// Each number that a frame of each command can be refused with.
+fn every_refusal(run: &mut Run) -> Done {
+    let numbers = |code: u16| if inputs::shape(code) == Some(Shape::Read) { &[1, 2, 3, 5, 6][..] } else { &[1, 2, 3, 5] };
+    let cases = LISTED.into_iter().flat_map(|(code, _)| numbers(code).iter().map(move |number| (code, *number)));
+    for ((code, number), _) in cases.flat_map(|case| (0..30).map(move |turn| (case, turn))) {
+        let monitors = run.random.within(1, 4);
+        let random = &mut run.random;
+        let bytes = if number == 1 { inputs::unsound(random) } else { inputs::table(random, monitors) };
+        let mut sent = inputs::frame_of(random, code, monitors);
+        match number {
+            2 => sent.truncate(random.within(2, 3)),
+            3 => sent[random.within(2, 3)] ^= 1 << random.below(8),
+            5 if sent.len() > 4 && random.once_in(2) => sent.truncate(random.within(4, sent.len() - 1)),
+            5 => sent.extend(vec![random.byte(); random.within(1, 40)]),
+            _ => {}
+        }
+        let answer = if number == 6 {
+            let room = random.below(8 * monitors);
+            let mut table = Both::new(random, &bytes);
+            frame(run, &mut table, &sent, room)?
+        } else {
+            Chain::unwatched(run, &bytes)?.frame(run, &sent)?.0
+        };
+        expect(run, Function::Frame, (answer, number), &bytes, monitors)?;
     }
     Ok(())
 }

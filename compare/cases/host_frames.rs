@@ -1,7 +1,7 @@
 //! Frames that the host builds.
 
 use crate::both::host_frame;
-use crate::inputs::{self, frame_length, values_owed, LISTED, MOST};
+use crate::inputs::{self, frame_length, values_owed, CMHB, LISTED, MOST};
 use crate::run::{Done, Run};
 
 pub fn cases(run: &mut Run) -> Done {
@@ -10,9 +10,9 @@ pub fn cases(run: &mut Run) -> Done {
     mixed(run)
 }
 
-/// All 65,536, each with the values and the room that it would need.
+/// All 65,536, each with the values and the room that it would need; CMHB more often.
 fn every_command(run: &mut Run) -> Done {
-    for code in 0..=u16::MAX {
+    for code in (0..=u16::MAX).chain([CMHB; 60]) {
         let monitors = run.random.pick(&[1, 2, 3, 8, 32]);
         let values = run.random.bytes(values_owed(code, monitors));
         host_frame(run, code, monitors, &values, frame_length(code, monitors))?;
@@ -26,7 +26,7 @@ fn every_n(run: &mut Run) -> Done {
         for monitors in 0..=36 {
             let owed = values_owed(code, monitors);
             let length = frame_length(code, monitors);
-            for count in [0, owed.saturating_sub(6), owed.saturating_sub(1), owed, owed + 1, owed + 6] {
+            for count in [0, 2 * monitors, 6 * monitors, owed.saturating_sub(6), owed.saturating_sub(1), owed, owed + 1, owed + 6] {
                 for room in [0, 3, 4, length - 1, length, length + 1, length + 30] {
                     let values = run.random.bytes(count);
                     host_frame(run, code, monitors, &values, room)?;

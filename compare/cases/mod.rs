@@ -6,6 +6,7 @@ mod frames;
 mod host_frames;
 mod loads;
 mod long_runs;
+mod lpcm;
 mod never_started;
 mod payloads;
 mod readings;
@@ -14,11 +15,12 @@ mod snapshots;
 mod spikes;
 mod stores;
 mod tables;
+mod verdicts;
 
 use crate::run::{Done, Run};
 use crate::tally::NEVER_STARTED;
 
-pub const KINDS: [(&str, fn(&mut Run) -> Done); 14] = [
+pub const KINDS: [(&str, fn(&mut Run) -> Done); 16] = [
     ("frames", frames::cases),
     ("tables", tables::cases),
     ("stores", stores::cases),
@@ -30,6 +32,8 @@ pub const KINDS: [(&str, fn(&mut Run) -> Done); 14] = [
     ("clocked", clocked::cases),
     ("retention", retention::cases),
     ("snapshots", snapshots::cases),
+    ("LPCM", lpcm::cases),
+    ("verdicts", verdicts::cases),
     ("spikes", spikes::cases),
     ("long runs", long_runs::cases),
     (NEVER_STARTED, never_started::cases),

@@ -1,16 +1,27 @@
 //! The check of one payload, and the choice between two ports' replies.
 
 use crate::both::{check, two_ports};
-use crate::inputs::{damage, payload, payloads, MOST};
+use crate::inputs::{self, damage, MOST, REPLY};
+use crate::random::Random;
 use crate::run::{Done, Run};
 
 pub fn cases(run: &mut Run) -> Done {
     lengths(run)?;
+    of_four_bytes(run)?;
     one_bit_faults(run)?;
     every_ending(run)?;
     any_payload(run)?;
     each_position(run)?;
     mixed_ports(run)
+}
+
+/// A right payload of a reply.
+fn payload(random: &mut Random) -> Vec<u8> {
+    inputs::payload(random, REPLY)
+}
+
+fn payloads(random: &mut Random, monitors: usize) -> Vec<u8> {
+    inputs::payloads(random, REPLY, monitors)
 }
 
 fn lengths(run: &mut Run) -> Done {
@@ -26,12 +37,23 @@ fn lengths(run: &mut Run) -> Done {
     Ok(())
 }
 
+/// What a CLRCMFLAG has for a monitor, right or damaged, is no reply.
+fn of_four_bytes(run: &mut Run) -> Done {
+    for _ in 0..50 {
+        let mut four = inputs::payload(&mut run.random, 4);
+        check(run, &four)?;
+        damage(&mut run.random, &mut four);
+        check(run, &four)?;
+    }
+    Ok(())
+}
+
 fn one_bit_faults(run: &mut Run) -> Done {
     for _ in 0..50 {
         let right = payload(&mut run.random);
         check(run, &right)?;
         for bit in 0..64 {
-            let mut eight = right;
+            let mut eight = right.clone();
             eight[bit / 8] ^= 0x80 >> (bit % 8);
             check(run, &eight)?;
         }

@@ -1,6 +1,6 @@
 //! What a spike on the wire can do (L7): which bits of which frames are flipped. By both engines.
 
-use crate::inputs::{self, writes, LISTED, MOST};
+use crate::inputs::{self, own_bytes, writes, CLRCMFLAG, LISTED, MOST};
 use crate::run::{Done, Run};
 use crate::sent::{Sent, COMMAND};
 use crate::spike::Spike;
@@ -17,6 +17,8 @@ const COMMAND_POLYNOMIAL: u16 = 0xC599;
 pub fn cases(run: &mut Run) -> Done {
     every_write_at_every_n(run)?;
     each_border(run)?;
+    ten_of_every_write(run)?;
+    every_write_in_lpcm(run)?;
     each_part_of_a_payload(run)?;
     every_spike_of_eleven(run)?;
     eleven_at_each_place(run)?;
@@ -65,12 +67,44 @@ fn each_border(run: &mut Run) -> Done {
     Ok(())
 }
 
-/// The data, the counter bits, the check, and its two highest bits, which stand in another byte than the rest of it.
+/// Exactly ten places of two payloads, and of one, where it shows that neither is taken.
+fn ten_of_every_write(run: &mut Run) -> Done {
+    for (code, _) in writes().flat_map(|code| (0..35).map(move |turn| (code, turn))) {
+        let monitors = run.random.within(2, 4);
+        let sent = Sent::telling(run, code, monitors)?;
+        let after = run.random.within(1, monitors - 1);
+        let over_border = over(run, sent.payload(after).start, DATA_PLACES);
+        sent.strike(run, over_border)?;
+        let in_one = Spike::of_width(&mut run.random, sent.payload(after), DATA_PLACES);
+        sent.strike(run, in_one)?;
+    }
+    Ok(())
+}
+
+/// A chain with all its monitors in LPCM, or all but one.
+fn every_write_in_lpcm(run: &mut Run) -> Done {
+    for (code, turn) in writes().flat_map(|code| (0..80).map(move |turn| (code, turn))) {
+        let monitors = run.random.within(1, 3);
+        let but_for = (turn % 2 == 1).then(|| run.random.below(monitors));
+        let sent = Sent::in_lpcm(run, code, monitors, but_for)?;
+        let spike = Spike::any(&mut run.random, sent.payloads(), DATA_PLACES);
+        sent.strike(run, spike)?;
+    }
+    Ok(())
+}
+
+/// The data, its first byte and its last, the counter bits, the check, and its two highest bits, which stand in another byte than the rest
+/// of it.
 fn each_part_of_a_payload(run: &mut Run) -> Done {
-    for (code, part) in writes().flat_map(|code| [0..48, 48..54, 54..64, 54..56].map(|part| (code, part))) {
-        for _ in 0..20 {
+    let parts = |code: u16| {
+        let data = 8 * own_bytes(code) - 16;
+        [0..data, 0..8, data - 8..data, data..data + 6, data + 6..data + 16, data + 6..data + 8].map(|part| (code, part))
+    };
+    for (code, part) in writes().flat_map(parts) {
+        let short = code == CLRCMFLAG;
+        for _ in 0..if short { 40 } else { 20 } {
             let monitors = run.random.pick(&[1, 2, 3, 6]);
-            let sent = Sent::new(run, code, monitors)?;
+            let sent = if short { Sent::telling(run, code, monitors)? } else { Sent::new(run, code, monitors)? };
             let first = sent.payload(run.random.below(monitors)).start;
             let spike = Spike::any(&mut run.random, first + part.start..first + part.end, DATA_PLACES);
             sent.strike(run, spike)?;
@@ -80,26 +114,30 @@ fn each_part_of_a_payload(run: &mut Run) -> Done {
 }
 
 /// All spikes of up to ten places in the payloads of two monitors, and those of eleven: of them the polynomial gets through wherever it
-/// lies in one payload, and no other.
+/// lies in one payload, and no other. With payloads of eight bytes, and of four.
 fn every_spike_of_eleven(run: &mut Run) -> Done {
-    let sent = Sent::new(run, WRCFGB, 2)?.in_bulk();
-    let (mut told, mut slipped) = (0, 0);
-    for spike in Spike::every(sent.payloads(), DATA_PLACES + 1) {
-        if [0, 1].iter().any(|&after| spike.is(DATA_POLYNOMIAL, sent.payload(after))) {
-            sent.slip(run, spike)?;
-            slipped += 1;
-        } else {
-            sent.strike(run, spike)?;
-            told += usize::from(spike.width() <= DATA_PLACES);
+    for (code, all_told, all_slipped) in [(WRCFGB, 61_439, 2 * 54), (CLRCMFLAG, 28_671, 2 * 22)] {
+        let sent = Sent::out_of_lpcm(run, code, 2)?.in_bulk();
+        let (mut told, mut slipped) = (0, 0);
+        for spike in Spike::every(sent.payloads(), DATA_PLACES + 1) {
+            if [0, 1].iter().any(|&after| spike.is(DATA_POLYNOMIAL, sent.payload(after))) {
+                sent.slip(run, spike)?;
+                slipped += 1;
+            } else {
+                sent.strike(run, spike)?;
+                told += usize::from(spike.width() <= DATA_PLACES);
+            }
         }
+        sent.expect(run, ([told, slipped], [all_told, all_slipped]))?;
     }
-    sent.expect(run, ([told, slipped], [61_439, 2 * 54]))
+    Ok(())
 }
 
 /// The polynomial over eleven places of a payload.
 fn eleven_at_each_place(run: &mut Run) -> Done {
-    for (code, place) in writes().flat_map(|code| (0..54).map(move |place| (code, place))) {
-        for _ in 0..8 {
+    let places = |code: u16| (0..8 * own_bytes(code) - DATA_PLACES).map(move |place| (code, place));
+    for (code, place) in writes().flat_map(places) {
+        for _ in 0..if code == CLRCMFLAG { 24 } else { 8 } {
             let monitors = run.random.pick(&[1, 1, 2, 3]);
             let sent = Sent::new(run, code, monitors)?;
             let first = sent.payload(run.random.below(monitors)).start;

@@ -9,8 +9,8 @@ use crate::run::{Done, Run};
 
 const RSTCC: u16 = 0x002E;
 
-/// The lengths of a record before L2 and before L6, which is where their parts begin.
-const EARLIER_RECORDS: [usize; 2] = [at::PWM_A, at::COPY];
+/// The lengths of a record before L2, before L6 and before L8, which is where their parts begin.
+const EARLIER_RECORDS: [usize; 3] = [at::PWM_A, at::COPY, at::LPCM_CONFIGURATION];
 
 pub fn cases(run: &mut Run) -> Done {
     let mut clocks = Clocks::new(run)?;
@@ -53,7 +53,7 @@ fn lengths(run: &mut Run, clocks: &mut Clocks) -> Done {
     Ok(())
 }
 
-/// Tables of records without the parts that came later.
+/// Tables of records without the parts that came later. Seventeen records of 70 bytes are as long as seven of today's.
 fn earlier_lengths(run: &mut Run, clocks: &mut Clocks) -> Done {
     for (monitors, length) in (1..=MOST).flat_map(|monitors| EARLIER_RECORDS.map(|length| (monitors, length))) {
         let records = inputs::table(&mut run.random, monitors);

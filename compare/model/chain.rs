@@ -52,9 +52,9 @@ fn whole(table: &mut [u8], frame: &[u8], reply: &mut [u8]) -> Outcome {
             Ok((monitors, 8 * monitors))
         }
         Command::Write(write) => {
-            // The first eight bytes travel to monitor N.
-            let far_end_first = rest.as_chunks::<8>().0;
-            let pairs = records.iter_mut().zip(far_end_first.iter().rev());
+            // The first payload travels to monitor N.
+            let far_end_first = rest.chunks_exact(write.payload_bytes());
+            let pairs = records.iter_mut().zip(far_end_first.rev());
             let taken = pairs.map(|(record, sent)| usize::from(monitor::write(record, write, sent))).sum();
             Ok((taken, 0))
         }

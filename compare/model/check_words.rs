@@ -82,15 +82,21 @@ pub fn command_bytes(code: u16) -> [u8; 4] {
     [high, low, pec_high, pec_low]
 }
 
-/// Six data bytes as a payload: byte 7 has the counter and PEC bits 9 and 8, byte 8 the other eight.
-pub fn payload(data: [u8; 6], counter: u8) -> [u8; 8] {
-    let [pec_high, pec_low] = data_pec_with_counter(&data, counter).to_be_bytes();
-    let [a, b, c, d, e, f] = data;
-    [a, b, c, d, e, f, counter << 2 | pec_high, pec_low]
+/// The two bytes after the data of a payload: the counter and PEC bits 9 and 8, then the other eight.
+pub fn check_bytes(data: &[u8], counter: u8) -> [u8; 2] {
+    let [pec_high, pec_low] = data_pec_with_counter(data, counter).to_be_bytes();
+    [counter << 2 | pec_high, pec_low]
 }
 
-/// The receiver checks over the six counter bits as they were sent.
-pub fn payload_right(payload: &[u8; 8]) -> bool {
-    let sent = u16::from_be_bytes([payload[6] & 0x03, payload[7]]);
-    data_pec_with_counter(&payload[..6], payload[6] >> 2) == sent
+/// Six data bytes as a payload.
+pub fn payload(data: [u8; 6], counter: u8) -> [u8; 8] {
+    let [seventh, eighth] = check_bytes(&data, counter);
+    let [a, b, c, d, e, f] = data;
+    [a, b, c, d, e, f, seventh, eighth]
+}
+
+/// The receiver checks over the six counter bits as they were sent, after however many data bytes came before them.
+pub fn payload_right(payload: &[u8]) -> bool {
+    let (data, check) = payload.split_at(payload.len() - 2);
+    check == check_bytes(data, check[0] >> 2)
 }

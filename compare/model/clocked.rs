@@ -1,4 +1,5 @@
-//! "The clocked engine": a window of eight bytes at each monitor, which fills and passes on in a write, and draws in a read.
+//! "The clocked engine": a window at each monitor, which fills and passes on in a write, and draws in a read. It has room for the payload
+//! of the command: eight bytes, and four in a CLRCMFLAG.
 
 use crate::chain::{records, records_mut, sound};
 use crate::commands::{received, Command};
@@ -7,36 +8,37 @@ use crate::numbers::{packed, Outcome, Refusal};
 
 const NOTHING_SENT: u8 = 0xFF;
 
-/// Up to eight bytes; the oldest one moves round, so that no byte has to.
+/// So many bytes as there is room for; the oldest one moves round, so that no byte has to.
 #[derive(Clone, Copy)]
 struct Window {
     bytes: [u8; 8],
+    room: u8,
     oldest: u8,
     held: u8,
 }
 
 impl Window {
-    const EMPTY: Window = Window { bytes: [0; 8], oldest: 0, held: 0 };
+    const EMPTY: Window = Window { bytes: [0; 8], room: 8, oldest: 0, held: 0 };
 
     fn full(bytes: [u8; 8]) -> Window {
-        Window { bytes, oldest: 0, held: 8 }
+        Window { bytes, held: 8, ..Window::EMPTY }
     }
 
     /// A byte enters. A full window gives its oldest byte for it.
     fn enter(&mut self, byte: u8) -> Option<u8> {
-        if self.held < 8 {
+        if self.held < self.room {
             self.bytes[usize::from(self.held)] = byte;
             self.held += 1;
             return None;
         }
         let place = usize::from(self.oldest);
-        self.oldest = (self.oldest + 1) % 8;
+        self.oldest = (self.oldest + 1) % self.room;
         Some(std::mem::replace(&mut self.bytes[place], byte))
     }
 
     fn oldest_first(&self) -> [u8; 8] {
         let mut bytes = self.bytes;
-        bytes.rotate_left(usize::from(self.oldest));
+        bytes[..usize::from(self.room)].rotate_left(usize::from(self.oldest));
         bytes
     }
 }
@@ -87,10 +89,18 @@ impl Clock {
     fn byte_four(&mut self, table: &[u8]) {
         self.command = received(self.head);
         self.monitors = sound(table).ok();
-        if let (Some(_), Ok(Command::Read(read))) = (self.monitors, self.command) {
-            for (window, record) in self.windows.iter_mut().zip(records(table)) {
-                *window = Window::full(monitor::reply(record, read));
+        match (self.monitors, self.command) {
+            (Some(_), Ok(Command::Read(read))) => {
+                for (window, record) in self.windows.iter_mut().zip(records(table)) {
+                    *window = Window::full(monitor::reply(record, read));
+                }
             }
+            (Some(_), Ok(Command::Write(write))) => {
+                for window in &mut self.windows {
+                    window.room = write.payload_bytes() as u8;
+                }
+            }
+            _ => {}
         }
     }
 
@@ -156,7 +166,7 @@ impl Clock {
             Command::Write(write) => {
                 let mut taken = 0;
                 for (record, window) in records.iter_mut().zip(&self.windows) {
-                    taken += usize::from(monitor::write(record, write, &window.oldest_first()));
+                    taken += usize::from(monitor::write(record, write, &window.oldest_first()[..write.payload_bytes()]));
                 }
                 Ok((taken, 0))
             }

@@ -1,4 +1,4 @@
-//! "Commands": the list of codes, the lengths of their frames, and which writes need their check (L3).
+//! "Commands": the list of codes, the lengths of their frames and payloads, and which writes need their check (L3).
 
 use crate::check_words::command_bytes;
 use crate::numbers::Refusal;
@@ -30,6 +30,10 @@ pub enum Write {
     Clovuv,
     Wrpwma,
     Wrpwmb,
+    Wrcmcfg,
+    Wrcmcellt,
+    Wrcmgpiot,
+    Clrcmflag,
 }
 
 #[derive(Clone, Copy, Debug, PartialEq, Eq)]
@@ -41,9 +45,11 @@ pub enum Bare {
     Clrcell,
     Snap,
     Unsnap,
+    Cmen,
+    Cmdis,
 }
 
-/// The places of a record, as the paper's table has them and, after byte 69, L2 and L6.
+/// The places of a record, as the paper's table has them and, after byte 69, L2, L6 and L8.
 pub mod at {
     pub const CONFIGURATION_A: usize = 0;
     pub const CONFIGURATION_B: usize = 6;
@@ -57,6 +63,13 @@ pub mod at {
     pub const PWM_A: usize = 70;
     pub const PWM_B: usize = 76;
     pub const COPY: usize = 82;
+    pub const LPCM_CONFIGURATION: usize = 114;
+    pub const LPCM_CELL_THRESHOLDS: usize = 120;
+    pub const LPCM_GPIO_THRESHOLDS: usize = 126;
+    /// CMF0 to CMF5.
+    pub const LPCM_FLAGS: usize = 132;
+    /// The cells of the last measurement.
+    pub const LAST: usize = 138;
 }
 
 pub fn listed(code: u16) -> Option<Command> {
@@ -76,6 +89,10 @@ pub fn listed(code: u16) -> Option<Command> {
         0x003A => R(Read::SixFrom(at::RETENTION)),
         0x0022 => R(Read::SixFrom(at::PWM_A)),
         0x0023 => R(Read::SixFrom(at::PWM_B)),
+        0x0059 => R(Read::SixFrom(at::LPCM_CONFIGURATION)),
+        0x005B => R(Read::SixFrom(at::LPCM_CELL_THRESHOLDS)),
+        0x005D => R(Read::SixFrom(at::LPCM_GPIO_THRESHOLDS)),
+        0x005F => R(Read::SixFrom(at::LPCM_FLAGS)),
         0x0001 => W(Write::Wrcfga),
         0x0024 => W(Write::Wrcfgb),
         0x0039 => W(Write::Wrrr),
@@ -83,6 +100,10 @@ pub fn listed(code: u16) -> Option<Command> {
         0x0715 => W(Write::Clovuv),
         0x0020 => W(Write::Wrpwma),
         0x0021 => W(Write::Wrpwmb),
+        0x0058 => W(Write::Wrcmcfg),
+        0x005A => W(Write::Wrcmcellt),
+        0x005C => W(Write::Wrcmgpiot),
+        0x005E => W(Write::Clrcmflag),
         0x0028 => B(Bare::Mute),
         0x0029 => B(Bare::Unmute),
         0x002E => B(Bare::Rstcc),
@@ -90,6 +111,8 @@ pub fn listed(code: u16) -> Option<Command> {
         0x0711 => B(Bare::Clrcell),
         0x002D => B(Bare::Snap),
         0x002F => B(Bare::Unsnap),
+        0x0041 => B(Bare::Cmen),
+        0x0040 => B(Bare::Cmdis),
         _ => return None,
     })
 }
@@ -106,10 +129,20 @@ pub fn received(head: [u8; 4]) -> Result<Command, Refusal> {
 impl Write {
     /// Whether a monitor takes it only with a right data PEC. The chip executes WRRR even if that does not match the data (L3).
     pub fn needs_check(self) -> bool {
+        self != Write::Wrrr
+    }
+
+    /// How many data bytes each monitor is sent. The sheet's CLRCMFLAG has two (its example of an LPCM configuration).
+    pub fn data_bytes(self) -> usize {
         match self {
-            Write::Wrrr => false,
-            Write::Wrcfga | Write::Wrcfgb | Write::Clrflag | Write::Clovuv | Write::Wrpwma | Write::Wrpwmb => true,
+            Write::Clrcmflag => 2,
+            _ => 6,
         }
+    }
+
+    /// With the two bytes of the check.
+    pub fn payload_bytes(self) -> usize {
+        self.data_bytes() + 2
     }
 }
 
@@ -117,7 +150,8 @@ impl Command {
     /// How many bytes follow the first four.
     pub fn length_after_four(self, monitors: usize) -> usize {
         match self {
-            Command::Read(_) | Command::Write(_) => 8 * monitors,
+            Command::Read(_) => 8 * monitors,
+            Command::Write(write) => write.payload_bytes() * monitors,
             Command::Bare(_) => 0,
         }
     }

@@ -1,7 +1,7 @@
 //! The host: the frames that it builds, the check of one payload, and "Two ends of the chain".
 
 use crate::chain::monitors_right;
-use crate::check_words::{command_bytes, payload, payload_right};
+use crate::check_words::{check_bytes, command_bytes, payload_right};
 use crate::commands::{listed, Command};
 use crate::numbers::{packed, Outcome, Refusal};
 
@@ -11,7 +11,7 @@ const DAMAGED: usize = 2;
 const PORT_A: usize = 1;
 const PORT_B: usize = 2;
 
-/// Builds the frame of a command at the start of `out`; values are six bytes a monitor for a write, nearest first, else none.
+/// Builds the frame of a command at the start of `out`; values are a write's data bytes for each monitor, nearest first, else none.
 /// Second value: the length of the frame.
 pub fn host_frame(command: u16, monitors: usize, values: &[u8], out: &mut [u8]) -> u32 {
     packed(build(command, monitors, values, out))
@@ -22,7 +22,10 @@ fn build(code: u16, monitors: usize, values: &[u8], out: &mut [u8]) -> Outcome {
     if !monitors_right(monitors) {
         return Err(Refusal::PositionWrong);
     }
-    let owed = if matches!(command, Command::Write(_)) { 6 * monitors } else { 0 };
+    let owed = match command {
+        Command::Write(write) => write.data_bytes() * monitors,
+        Command::Read(_) | Command::Bare(_) => 0,
+    };
     if values.len() != owed {
         return Err(Refusal::CountWrong);
     }
@@ -31,10 +34,12 @@ fn build(code: u16, monitors: usize, values: &[u8], out: &mut [u8]) -> Outcome {
     let (head, rest) = out.split_at_mut(4);
     head.copy_from_slice(&command_bytes(code));
     match command {
-        Command::Write(_) => {
-            let nearest_first = values.as_chunks::<6>().0;
-            for (eight, six) in rest.as_chunks_mut::<8>().0.iter_mut().zip(nearest_first.iter().rev()) {
-                *eight = payload(*six, 0);
+        Command::Write(write) => {
+            let nearest_first = values.chunks_exact(write.data_bytes());
+            for (payload, sent) in rest.chunks_exact_mut(write.payload_bytes()).zip(nearest_first.rev()) {
+                let (data, check) = payload.split_at_mut(sent.len());
+                data.copy_from_slice(sent);
+                check.copy_from_slice(&check_bytes(sent, 0));
             }
         }
         Command::Read(_) | Command::Bare(_) => rest.fill(FILLER),
@@ -44,9 +49,9 @@ fn build(code: u16, monitors: usize, values: &[u8], out: &mut [u8]) -> Outcome {
 
 /// Checks one payload of eight bytes. First value: 1 right, 2 damaged.
 pub fn check(payload: &[u8]) -> u32 {
-    packed(match payload.try_into() {
-        Ok(eight) => Ok((if payload_right(eight) { RIGHT } else { DAMAGED }, 0)),
-        Err(_) => Err(Refusal::LengthWrong),
+    packed(match payload.len() {
+        8 => Ok((if payload_right(payload) { RIGHT } else { DAMAGED }, 0)),
+        _ => Err(Refusal::LengthWrong),
     })
 }
 
@@ -65,9 +70,9 @@ fn choose(a: &[u8], b: &[u8], monitors: usize, position: usize) -> Outcome {
     }
     let in_a = position - 1;
     let in_b = monitors - position;
-    if payload_right(&a.as_chunks().0[in_a]) {
+    if payload_right(&a[8 * in_a..][..8]) {
         Ok((PORT_A, 8 * in_a))
-    } else if payload_right(&b.as_chunks().0[in_b]) {
+    } else if payload_right(&b[8 * in_b..][..8]) {
         Ok((PORT_B, 8 * in_b))
     } else {
         Err(Refusal::NeitherRight)

@@ -1,4 +1,5 @@
-//! Document 01, with requests L1, L2, L3 and L6 of document 02, written once more from the papers alone: one file for each section.
+//! Document 01, with requests L1, L2, L3 and L6 of document 02 and of L8 the settings, the enabling and the host's verdict, written once
+//! more from the papers alone: one file for each section.
 //!
 //! It shares nothing with the proved code, so that a difference between the two shows a mistake in one of them. Each public function
 //! stands beside a function of include/oskorbine.h and packs its answer the same way. Nothing here allocates.
@@ -12,6 +13,7 @@ mod host;
 mod monitor;
 mod numbers;
 mod readings;
+mod verdict;
 
 #[cfg(test)]
 mod both_engines;
@@ -20,11 +22,15 @@ mod worked_discharge;
 #[cfg(test)]
 mod worked_examples;
 #[cfg(test)]
+mod worked_lpcm;
+#[cfg(test)]
 mod worked_retention;
 #[cfg(test)]
 mod worked_snapshot;
 #[cfg(test)]
 mod worked_spikes;
+#[cfg(test)]
+mod worked_verdict;
 
 pub use chain::{compare, frame, load, store};
 pub use check_words::{
@@ -34,5 +40,6 @@ pub use clocked::Clock;
 pub use commands::at;
 pub use discharge::{discharge, event, OUTPUT_ON};
 pub use host::{check, host_frame, two_ports};
-pub use monitor::{MUTE_ST, RECORD, SNAP_ST};
+pub use monitor::{CMC_EN, MUTE_ST, RECORD, SNAP_ST};
 pub use readings::{microvolts, summary, volts};
+pub use verdict::verdict;

@@ -1,13 +1,13 @@
 //! One monitor's record: what a command does to it, what it replies, and its cells stored, compared and loaded ("Effects", "Counter",
-//! "Thresholds", L1, the PWM groups of L2, retention by L3, and the copy of the cells of L6).
+//! "Thresholds", L1, the PWM groups of L2, retention by L3, the copy of the cells of L6, and what L8 has of settings and enabling).
 
 use crate::check_words::{payload, payload_right};
 use crate::commands::{at, Bare, Read, Write};
 
-pub const RECORD: usize = 114;
+pub const RECORD: usize = 170;
 pub type Record = [u8; RECORD];
 
-/// The cells, and their copy as well: sixteen of two bytes.
+/// The cells, their copy and the last measurement as well: sixteen of two bytes.
 const CELL_BYTES: usize = 32;
 pub const CLEARED: i16 = -32768;
 
@@ -18,6 +18,12 @@ pub const SNAP_ST: u8 = 1 << 5;
 const CLRFLAG_MASKS: [u8; 6] = [0xFF, 0xFF, 0x00, 0x00, 0xFF, 0xDF];
 /// Bytes 2 to 5 of PWM group B: the memory map has all ones there, so what is sent for them is lost.
 const PWM_B_FIXED: [u8; 4] = [0xFF; 4];
+/// What WRCMCELLT and WRCMGPIOT store (Tables 98 and 99): the rest of both groups is 0.
+const LPCM_THRESHOLD_MASKS: [u8; 6] = [0xFF, 0xFF, 0xFF, 0xFF, 0x0F, 0x00];
+/// CMF1 (Table 100): LPCM is on; and the two flags of a timeout monitor, which stand until its first pass.
+pub const CMC_EN: u8 = 1 << 7;
+const CMF_BTMWD: u8 = 1 << 1;
+const CMF_BTMCMP: u8 = 1 << 0;
 
 pub fn sound(record: &Record) -> bool {
     record[at::COUNTER] <= 63 && record[at::UNLOCKED] <= 1
@@ -43,14 +49,19 @@ pub fn lock(record: &mut Record) {
     record[at::UNLOCKED] = 0;
 }
 
-/// Whether the monitor took the payload.
-pub fn write(record: &mut Record, write: Write, sent: &[u8; 8]) -> bool {
+/// Also in a record that was lent so.
+fn in_lpcm(record: &Record) -> bool {
+    record[at::LPCM_FLAGS + 1] & CMC_EN != 0
+}
+
+/// Whether the monitor took the payload, which in LPCM it never does.
+pub fn write(record: &mut Record, write: Write, sent: &[u8]) -> bool {
     let unlocked = record[at::UNLOCKED] == 1;
     lock(record);
-    if write.needs_check() && !payload_right(sent) {
+    if in_lpcm(record) || write.needs_check() && !payload_right(sent) {
         return false;
     }
-    let data = &sent[..6];
+    let data = &sent[..write.data_bytes()];
     match write {
         Write::Wrcfga => {
             let kept = record[at::CONFIGURATION_A + 5] & (SNAP_ST | MUTE_ST);
@@ -80,9 +91,20 @@ pub fn write(record: &mut Record, write: Write, sent: &[u8; 8]) -> bool {
             record[at::PWM_B..][..2].copy_from_slice(&data[..2]);
             record[at::PWM_B + 2..][..4].copy_from_slice(&PWM_B_FIXED);
         }
+        Write::Wrcmcfg => record[at::LPCM_CONFIGURATION..][..6].copy_from_slice(data),
+        Write::Wrcmcellt => store_masked(record, at::LPCM_CELL_THRESHOLDS, data),
+        Write::Wrcmgpiot => store_masked(record, at::LPCM_GPIO_THRESHOLDS, data),
+        // Of CMF0 alone: the second byte does nothing.
+        Write::Clrcmflag => record[at::LPCM_FLAGS] &= !data[0],
     }
     count(record);
     true
+}
+
+fn store_masked(record: &mut Record, first: usize, data: &[u8]) {
+    for byte in 0..6 {
+        record[first + byte] = data[byte] & LPCM_THRESHOLD_MASKS[byte];
+    }
 }
 
 pub fn bare(record: &mut Record, bare: Bare) {
@@ -105,6 +127,13 @@ pub fn bare(record: &mut Record, bare: Bare) {
             record[at::CONFIGURATION_A + 5] |= SNAP_ST;
         }
         Bare::Unsnap => record[at::CONFIGURATION_A + 5] &= !SNAP_ST,
+        // A second one takes no other measurement: a jump since the last would be hidden.
+        Bare::Cmen if in_lpcm(record) => {}
+        Bare::Cmen => {
+            record[at::LPCM_FLAGS + 1] = CMC_EN | CMF_BTMWD | CMF_BTMCMP;
+            record.copy_within(at::CELLS..at::CELLS + CELL_BYTES, at::LAST);
+        }
+        Bare::Cmdis => record[at::LPCM_FLAGS + 1] &= !CMC_EN,
     }
 }
 

@@ -168,8 +168,8 @@ fn both_ways_to_a_remainder_agree() {
 }
 
 #[test]
-fn twenty_eight_codes_are_listed() {
-    assert_eq!((0..=u16::MAX).filter(|&code| listed(code).is_some()).count(), 14 + 7 + 7);
+fn thirty_eight_codes_are_listed() {
+    assert_eq!((0..=u16::MAX).filter(|&code| listed(code).is_some()).count(), 18 + 11 + 9);
 }
 
 #[test]

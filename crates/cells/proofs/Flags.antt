@@ -10,10 +10,10 @@ use lib.Signed.{ltZ}
 use borrow.Author.Tests.{eq-eqb, ne-eqb}
 use mir.Syntax.{w32}
 use mir.Val.{SFits, boolByte, ofZ}
-use Rattle.records.specs.Record.{configurationB, cells, flags, bytesOf, anew}
+use Rattle.records.specs.Record.{configurationB, cells, flags, bytesOf, byteIn, anew}
 use Rattle.records.proofs.Parts.{before-anew}
-use Rattle.thresholds.specs.Thresholds.{byteB, vuv, vov, codesOf}
-use Rattle.cells.specs.Cells.{codeAt, isCleared, flagsFor, flagsOf, flagByte}
+use Rattle.thresholds.specs.Thresholds.{lower, upper, vuv, vov, codesOf}
+use Rattle.cells.specs.Cells.{codeIn, codeAt, isCleared, flagsFor, flagsOf, flagByte}
 
 -- ---- two flags as a number
 
@@ -51,7 +51,7 @@ not-cleared (negsuc n) f h = ne-eqb n 32767 (λ e. h (omega arith))
 
 module _ (r s : List ℕ) (same-b : bytesOf configurationB r ≡ bytesOf configurationB s) (same-cells : bytesOf cells r ≡ bytesOf cells s) where
   pub flags-of-same : (c : ℕ) → flagsOf r c ≡ flagsOf s c
-  unfolding flagsOf codeAt vuv vov byteB
+  unfolding flagsOf codeAt codeIn vuv vov lower upper byteIn
   flags-of-same c = rw (same-b, same-cells)
 
   pub flag-byte-same : (j : ℕ) → flagByte r j ≡ flagByte s j

@@ -13,11 +13,11 @@ use lib.ListN.{length, getD}
 use borrow.Author.Tests.{le-ltb, lt-ltb}
 use mir.Syntax.{w16}
 use mir.Val.{SFits}
-use Rattle.records.specs.Record.{cells, flags, configurationB, cellCount, recordSize, bytesOf}
+use Rattle.records.specs.Record.{cells, flags, configurationB, cellCount, recordSize, bytesOf, byteIn}
 use Rattle.records.proofs.Parts.{byte-of-part}
 use Rattle.thresholds.specs.declared.thresholds.ResultCode.{ResultCode}
-use Rattle.thresholds.specs.Thresholds.{signed, byteB, vuv, vov, codesOf}
-use Rattle.cells.specs.Cells.{word, codeByte, store, codeAt, isCleared, flagsFor, flagsOf, flagsIn, compare, load}
+use Rattle.thresholds.specs.Thresholds.{signed, lower, upper, vuv, vov, codesOf}
+use Rattle.cells.specs.Cells.{word, codeByte, store, codeIn, codeAt, isCleared, flagsFor, flagsOf, flagsIn, compare, load}
 use Rattle.cells.proofs.Loaded.{length-store, store-inside, part-before-store, part-after-store}
 use Rattle.cells.proofs.OwnFlags.{own-flags}
 
@@ -49,7 +49,7 @@ module _ (codes : List ℤ) where
 
   module _ (r : List ℕ) (whole : length r ≡ recordSize) (c : ℕ) (there : c < cellCount) (fits : SFits w16 (given c)) where
     pub own-code : codeAt (store codes r) c ≡ record { 0 = given c }
-    unfolding codeAt
+    unfolding codeAt codeIn byteIn
     own-code =
         let low : 2 * c < cells .size = omega arith in
         let high : 2 * c + 1 < cells .size = omega arith in
@@ -63,7 +63,7 @@ module _ (codes : List ℤ) where
     -- a load skips nothing, where none of its codes is that of a cleared cell
     pub load-flags : isCleared (given c) ≡ false
         → flagsIn (load codes r) c ≡ bitOr (flagsIn r c) (flagsFor (record { 0 = given c }) (codesOf (vuv r)) (codesOf (vov r)))
-    unfolding load flagsOf flagsIn vuv vov byteB
+    unfolding load flagsOf flagsIn vuv vov lower upper byteIn
     load-flags uncleared =
         let b = part-before-store codes r configurationB (omega arith) in
         let f = part-after-store codes r flags (omega arith) in

@@ -10,7 +10,8 @@ use lib.Dec.{eqb}
 use lib.IntN.{ℤ, pos, negsuc}
 use lib.ListN.{getD}
 use lib.Signed.{ltZ}
-use Rattle.records.specs.Record.{cells, flags, bytesOf, onBytes}
+use Rattle.records.specs.declared.record.Part.{Part}
+use Rattle.records.specs.Record.{cells, flags, bytesOf, byteIn, onBytes}
 use Rattle.thresholds.specs.declared.thresholds.ResultCode.{ResultCode}
 use Rattle.thresholds.specs.Thresholds.{signed, vuv, vov, codesOf}
 
@@ -30,9 +31,13 @@ store codes r = onBytes cells (λ i old. codeByte codes i) r
 
 -- ---- compare
 
--- the code of a stored cell, low byte first
+-- code c of a part that holds cells, low byte first
+unfoldable pub codeIn : Part → List ℕ → ℕ → ResultCode
+codeIn p r c = record { 0 = signed 16 (byteIn p r (2 * c) + byteIn p r (2 * c + 1) * 256) }
+
+-- the code of a stored cell
 unfoldable pub codeAt : List ℕ → ℕ → ResultCode
-codeAt r c = record { 0 = signed 16 (getD (bytesOf cells r) (2 * c) 0 + getD (bytesOf cells r) (2 * c + 1) 0 * 256) }
+codeAt r c = codeIn cells r c
 
 -- CLRCELL leaves the code -32768
 unfoldable pub isCleared : ℤ → Bool

@@ -10,7 +10,7 @@ ghost use Rattle.cells.specs.Cells.{
   word,
   codeByte,
   store,
-  codeAt,
+  codeIn,
   flagsFor,
   flagsOf,
   flagByte,
@@ -18,10 +18,12 @@ ghost use Rattle.cells.specs.Cells.{
 };
 use records::CELL_COUNT;
 use records::CELLS;
+use records::CELLS_PART;
 use records::FLAG_BYTES;
+use records::Part;
 use records::RECORD_SIZE;
 use records::STATUS_D;
-use records::byte_at;
+use records::byte_in;
 use thresholds::ResultCode;
 use thresholds::codes_of;
 use thresholds::over_threshold;
@@ -85,13 +87,15 @@ fn signed16(n: u16) -> i32
     }
 }
 
-// The code of a stored cell, low byte first.
-fn code_at(rec: &[u8], c: usize) -> ResultCode
-    requires { ⌜ c < cellCount ⌝ }
-    ensures { λ r. ⌜ r ≡ codeAt (now (rec .entry)) c ⌝ }
+// Code c of a part that holds cells, low byte first. Past its end it is 0.
+pub fn code_in(rec: &[u8], part: Part, c: usize) -> ResultCode
+    ensures { λ r. ⌜ r ≡ codeIn part (now (rec .entry)) c ⌝ }
 {
-    let low = byte_at(rec, CELLS + 2 * c) as u16;
-    let high = byte_at(rec, CELLS + 2 * c + 1) as u16;
+    if c >= part.size as usize {
+        return ResultCode(0);
+    }
+    let low = byte_in(rec, part, 2 * c) as u16;
+    let high = byte_in(rec, part, 2 * c + 1) as u16;
     ResultCode(signed16(low + high * 256))
 }
 
@@ -106,10 +110,9 @@ fn flags_for(code: ResultCode, lower: ResultCode, upper: ResultCode) -> u8
 
 // The two flags of a stored cell: none where it is cleared.
 fn flags_of(rec: &[u8], c: usize) -> u8
-    requires { ⌜ c < cellCount ⌝ }
     ensures { λ f. ⌜ f ≡ flagsOf (now (rec .entry)) c ⌝ }
 {
-    let code = code_at(rec, c);
+    let code = code_in(rec, CELLS_PART, c);
     if code.0 == CLEARED {
         return 0;
     }

@@ -31,7 +31,7 @@ head Unlisted n = lit≤ tt
 module _ (table frame buffer : List ℕ) where
   abbrev to-answer : Judged → Answer
   to-answer (Bad r) = Refused r
-  to-answer (Good c n) = Accepted (takenBy c n frame) (replyLength c n)
+  to-answer (Good c n) = Accepted (takenBy c n table frame) (replyLength c n)
 
   abbrev to-table : Judged → List ℕ
   to-table (Bad r) = table

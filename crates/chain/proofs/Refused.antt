@@ -40,11 +40,11 @@ module _ (table frame : List ℕ) (taken reply : ℕ) where
   accepted-reply buffer e = goes-on (frameRefusals table frame (length buffer)) Refused _ (Accepted taken reply) buffer _ (accepted-apart taken reply) e
 
   the-values : (room : ℕ) → answer table frame room ≡ Accepted taken reply
-      → Accepted (takenBy (commandIn frame) (monitors table) frame) (replyLength (commandIn frame) (monitors table)) ≡ Accepted taken reply
+      → Accepted (takenBy (commandIn frame) (monitors table) table frame) (replyLength (commandIn frame) (monitors table)) ≡ Accepted taken reply
   unfolding answer
   the-values room e = is-accepted (frameRefusals table frame room) Refused _ (Accepted taken reply) (accepted-apart taken reply) e
 
-  pub accepted-taken : (room : ℕ) → answer table frame room ≡ Accepted taken reply → taken ≡ takenBy (commandIn frame) (monitors table) frame
+  pub accepted-taken : (room : ℕ) → answer table frame room ≡ Accepted taken reply → taken ≡ takenBy (commandIn frame) (monitors table) table frame
   accepted-taken room e = let same = the-values room e in cc
 
   pub accepted-length : (room : ℕ) → answer table frame room ≡ Accepted taken reply → reply ≡ replyLength (commandIn frame) (monitors table)

@@ -1,5 +1,5 @@
 -- Document 01, "Commands" and "Numbers that come back": what the chain does with a whole frame. The data of a write hands each
--- monitor its own eight bytes by the order on the wire.
+-- monitor its own bytes by the order on the wire.
 -- Assumes nothing.
 use mathlib.Core.List.{List, [], _∷_}
 use Prim.Native.Nat.{ℕ}
@@ -29,7 +29,7 @@ frameRefusals table frame room =
 unfoldable pub answer : List ℕ → List ℕ → ℕ → Answer
 answer table frame room =
     decide (frameRefusals table frame room) Refused
-    (Accepted (takenBy (commandIn frame) (monitors table) frame) (replyLength (commandIn frame) (monitors table)))
+    (Accepted (takenBy (commandIn frame) (monitors table) table frame) (replyLength (commandIn frame) (monitors table)))
 
 unfoldable pub tableAfter : List ℕ → List ℕ → ℕ → List ℕ
 tableAfter table frame room = decide (frameRefusals table frame room) (λ n. table) (kept (commandIn frame) (monitors table) table frame)

@@ -47,10 +47,10 @@ fn payloads_of(frame: &[u8]) -> &[u8]
     &frame[4..]
 }
 
-// Every monitor acts on its own eight bytes of a frame.
+// Every monitor acts on its own bytes of a frame.
 fn serve_frame(table: &mut [u8], command: Command, n: usize, frame: &[u8]) -> usize
     requires { ⌜ (length (now table) ≡ n * recordSize) × (n ≤ mostMonitors) ⌝ }
-    ensures { λ r. ⌜ r ≡ takenBy command n (now (frame .entry)) ⌝ }
+    ensures { λ r. ⌜ r ≡ takenBy command n (now (table .entry)) (now (frame .entry)) ⌝ }
     ensures { λ _. ⌜ now (table .exit) ≡ kept command n (now (table .entry)) (now (frame .entry)) ⌝ }
 {
     serve(table, command, n, payloads_of(frame))

@@ -1,6 +1,6 @@
 // What is sent of the two check words of document 01, and is it right: a command's check, a payload's seal.
 ghost use mathlib.Core.Path.{_≡_};
-ghost use mathlib.Core.List.{_++_};
+ghost use mathlib.Core.List.{_∷_, _++_};
 ghost use Prim.Native.Nat.{_+_, _*_, _^_, _≤_, _<_};
 ghost use lib.ListN.{length};
 ghost use Rattle.laws.specs.Bits.{bitsOf, numberOf};
@@ -11,6 +11,7 @@ ghost use Rattle.pec.specs.Words.{
   commandRight,
   polynomial10,
   seal,
+  sealedRight,
   payloadRight,
   numberIn,
   numberRight,
@@ -132,4 +133,45 @@ pub fn payload_right(eight: &[u8]) -> bool
     ensures { λ r. ⌜ r ≡ payloadRight (now (eight .entry)) ⌝ }
 {
     number_right(number_in(eight))
+}
+
+// Bytes that lead the check back to its start value. With them in front, two bytes have the check that they have alone: what seals six, and
+// what tells whether eight are right, does so for two and for four.
+const LEAD: [u8; 4] = [0x00, 0x00, 0x01, 0x1a];
+
+// Two bytes behind it.
+fn with_lead(two: &[u8]) -> [u8; 6]
+    requires { ⌜ length (now two) ≡ 2 ⌝ }
+    ensures { λ r. ⌜ r ≡ 0x00 ∷ 0x00 ∷ 0x01 ∷ 0x1A ∷ now (two .entry) ⌝ }
+{
+    [LEAD[0], LEAD[1], LEAD[2], LEAD[3], two[0], two[1]]
+}
+
+// Two bytes, and the two that seal them.
+pub fn sealed_two(two: &[u8; 2], counter: u8) -> [u8; 4]
+    ensures { λ r. ⌜ r ≡ now (two .entry) ++ seal (now (two .entry)) counter ⌝ }
+{
+    let six = with_lead(two);
+    let eight = sealed(&six, counter);
+    [eight[4], eight[5], eight[6], eight[7]]
+}
+
+// Are four bytes two of data and their check, over the six counter bits as they stand?
+pub fn four_right(four: &[u8]) -> bool
+    ensures { λ r. ⌜ r ≡ sealedRight 2 (now (four .entry)) ⌝ }
+{
+    if four.len() != 4 {
+        return false;
+    }
+    let eight = [
+        LEAD[0],
+        LEAD[1],
+        LEAD[2],
+        LEAD[3],
+        four[0],
+        four[1],
+        four[2],
+        four[3],
+    ];
+    payload_right(&eight)
 }

@@ -3,7 +3,6 @@ mod state;
 
 pub use state::CHAINED;
 pub use state::DRAINS;
-pub use state::FILLS;
 pub use state::HEAD;
 pub use state::KIND;
 pub use state::Kind;

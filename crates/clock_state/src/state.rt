@@ -8,10 +8,10 @@ use records::MOST_MONITORS;
 use records::PAYLOAD_SIZE;
 use records::byte_at;
 
-// What the bytes after the fourth do: in a known write they fill the windows, in a known read they drain them, and in any
-// other frame the windows stay empty.
+// What the bytes after the fourth do: in a known write they fill windows of so many bytes, in a known read they drain the windows,
+// and in any other frame the windows stay empty.
 pub enum Kind {
-    Fills,
+    Fills(usize),
     Drains,
     Still,
 }
@@ -29,12 +29,10 @@ pub const WINDOWS: usize = 8;
 
 pub const STATE_SIZE: usize = WINDOWS + PAYLOAD_SIZE * MOST_MONITORS;
 
-// A kind as its byte. Any other byte is one of a frame where the windows stay empty.
+// A kind as its byte; of a write it is the width of its windows. Any other byte is one of a frame where the windows stay empty.
 pub const STILL: u8 = 0;
 
-pub const FILLS: u8 = 1;
-
-pub const DRAINS: u8 = 2;
+pub const DRAINS: u8 = 1;
 
 // Before a frame. Whatever the bytes were, a frame that had begun is given up.
 pub fn start(state: &mut [u8; STATE_SIZE])
@@ -66,11 +64,15 @@ pub fn kind_in(state: &[u8]) -> Kind
     ensures { λ r. ⌜ r ≡ kindIn (now (state .entry)) ⌝ }
 {
     let byte = byte_at(state, KIND);
-    if byte == FILLS {
-        return Kind::Fills;
-    }
     if byte == DRAINS {
         return Kind::Drains;
     }
-    Kind::Still
+    if byte <= DRAINS {
+        return Kind::Still;
+    }
+    let width = byte as usize;
+    if PAYLOAD_SIZE < width {
+        return Kind::Still;
+    }
+    Kind::Fills(width)
 }

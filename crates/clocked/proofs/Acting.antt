@@ -1,9 +1,8 @@
 -- What comes of an accepted frame, command by command: after the bytes of a whole frame each monitor's window makes of the command
--- what its own eight bytes of the frame make of it, and the bytes that came back are the reply. By the laws of the windows; a read
--- and a bare command do not look at the eight bytes, so there the number of windows is all that counts.
+-- what its own bytes of the frame make of it, and the bytes that came back are the reply. By the laws of the windows, of any width; a
+-- read and a bare command do not look at the bytes, so there the number of windows is all that counts.
 -- Assumes nothing.
 use mathlib.Core.Path.{_≡_, refl, sym, ap, _∙_}
-use mathlib.Core.Bool.{true, false≢true}
 use mathlib.Core.List.{List, _++_, map}
 use Prim.Native.Nat.{ℕ, _+_, _*_, _≤_}
 use native.Mathlib.Nat.{mul-comm}
@@ -13,31 +12,31 @@ use lib.ListN.{length, take, drop, length-drop, length-map}
 use lib.Seq.{take-all, take-at}
 use Rattle.laws.specs.Counts.{count}
 use Rattle.laws.specs.Rows.{rows, joined, along}
-use Rattle.laws.proofs.Counts.{count-all}
 use Rattle.laws.proofs.Rows.{Every, length-rows, length-joined, every-image, along-blind}
-use Rattle.wire.specs.Order.{replyData}
-use Rattle.wire.specs.Windows.{empty, enterAll}
+use Rattle.wire.specs.Order.{writePayloads, replyData}
+use Rattle.wire.specs.Windows.{empty}
 use Rattle.wire.proofs.Windows.{windows-after-write, length-enterAll, length-empty, length-drawn, left-whole}
 use Rattle.records.specs.declared.commands.Command.{Command}
 use Rattle.records.specs.declared.commands.Command.the-variants.{Reads, Writes, Bares, Unlisted}
+use Rattle.records.specs.declared.commands.Write.{Write}
 use Rattle.records.specs.declared.record.Part.{Part}
 use Rattle.records.specs.Record.{recordSize}
-use Rattle.records.specs.Commands.{isListed, payloadSize, frameLength, replyLength}
+use Rattle.records.specs.Commands.{payloadSize, widthOf, frameLength, replyLength}
 use Rattle.monitor.specs.Effects.{takes, keeps}
 use Rattle.reads.specs.Reply.{reply}
 use Rattle.reads.proofs.Showing.{length-reply}
-use Rattle.serving.specs.Served.{payloadsIn, takenBy, kept}
+use Rattle.serving.specs.Served.{takers, payloadsIn, takenBy, kept}
 use Rattle.replying.specs.Replied.{replied}
 use Rattle.serving.proofs.OwnPayload.{length-payloadsIn}
-use Rattle.serving.proofs.Taken.{taken-read, taken-bare}
 use Rattle.clocking.specs.Clock.{far, filledFor}
+use Rattle.clocking.proofs.Known.{wide-of}
 use Rattle.clocked.specs.Frames.{keptBack}
 use Rattle.clocked.proofs.Run.{windowsFor, cameFor}
 
 module _ (table frame : List ℕ) where
-  -- how many bytes come after the fourth, of a frame that has eight for each monitor
-  later-bytes : (n : ℕ) → length frame ≡ 4 + payloadSize * n → length (drop 4 frame) ≡ n * payloadSize
-  later-bytes n e = length-drop 4 frame ∙ omega arith
+  -- how many bytes come after the fourth, of a frame that has w for each monitor
+  later-bytes : (w n : ℕ) → length frame ≡ 4 + w * n → length (drop 4 frame) ≡ n * w
+  later-bytes w n e = length-drop 4 frame ∙ omega (arith, mul-comm w n)
 
   -- ---- the windows
 
@@ -48,37 +47,45 @@ module _ (table frame : List ℕ) where
       length-drawn far (length (drop 4 frame)) (map (reply part) (rows recordSize n table))
       ∙ length-map (rows recordSize n table) (reply part)
       ∙ length-rows recordSize n table
-  as-many (Writes c) n = length-enterAll payloadSize (drop 4 frame) (empty n) ∙ length-empty ℕ n
+  as-many (Writes c) n = length-enterAll (widthOf (Writes c)) (drop 4 frame) (empty n) ∙ length-empty ℕ n
   as-many (Bares c) n = length-empty ℕ n
   as-many Unlisted n = length-empty ℕ n
 
-  -- in a write each has its monitor's own eight bytes
-  own-windows : (n : ℕ) → length frame ≡ 4 + payloadSize * n → enterAll payloadSize (drop 4 frame) (empty n) ≡ payloadsIn frame n
-  unfolding payloadsIn
-  own-windows n e = windows-after-write payloadSize n (drop 4 frame) (lit< tt) (later-bytes n e)
+  -- in a write each has its monitor's own bytes
+  own-windows : (c : Write) (n : ℕ) → length frame ≡ frameLength (Writes c) n → windowsFor table frame (Writes c) n ≡ writePayloads (widthOf (Writes c)) n (drop 4 frame)
+  unfolding filledFor
+  own-windows c n e = let w : ℕ = widthOf (Writes c) in windows-after-write w n (drop 4 frame) (wide-of (Writes c) .some) (later-bytes w n e)
 
-  -- as many monitors take the frame
-  pub same-taken : (c : Command) (n : ℕ) → isListed c ≡ true → length frame ≡ frameLength c n → count (takes c) (windowsFor table frame c n) ≡ takenBy c n frame
-  unfolding filledFor takenBy
-  same-taken (Reads part) n h e = count-all (takes (Reads part)) (λ eight. refl) (windowsFor table frame (Reads part) n) ∙ as-many (Reads part) n ∙ sym (taken-read part n frame)
-  same-taken (Writes c) n h e = ap (count (takes (Writes c))) (own-windows n e)
-  same-taken (Bares c) n h e = count-all (takes (Bares c)) (λ eight. refl) (windowsFor table frame (Bares c) n) ∙ as-many (Bares c) n ∙ sym (taken-bare c n frame)
-  same-taken Unlisted n h e = absurd (false≢true h)
+  -- as many monitors take the frame; any window does where the command does not look at it
+  blind-taken : (c : Command) (n : ℕ) → ((r x y : List ℕ) → takes c x r ≡ takes c y r)
+      → takers c (rows recordSize n table) (windowsFor table frame c n) ≡ takenBy c n table frame
+  unfolding takenBy takers
+  blind-taken c n same =
+      ap (count (λ took. took)) (along-blind (λ r window. takes c window r) same (rows recordSize n table) _ _ (as-many c n ∙ sym (length-payloadsIn c n table frame)))
+
+  pub same-taken : (c : Command) (n : ℕ) → length frame ≡ frameLength c n
+      → takers c (rows recordSize n table) (windowsFor table frame c n) ≡ takenBy c n table frame
+  unfolding filledFor takenBy payloadsIn
+  same-taken (Reads part) n e = blind-taken (Reads part) n (λ r x y. refl)
+  same-taken (Writes c) n e = ap (takers (Writes c) (rows recordSize n table)) (own-windows c n e)
+  same-taken (Bares c) n e = blind-taken (Bares c) n (λ r x y. refl)
+  same-taken Unlisted n e = blind-taken Unlisted n (λ r x y. refl)
 
   -- what the monitors keep by their windows
   abbrev keptFor : Command → ℕ → List (List ℕ) → List ℕ
   keptFor c n windows = joined (along (λ r window. keeps c window r) (rows recordSize n table) windows)
 
   -- any window does where the command does not look at it
-  blind : (c : Command) (n : ℕ) → ((r x y : List ℕ) → keeps c x r ≡ keeps c y r) → keptFor c n (windowsFor table frame c n) ≡ keptFor c n (payloadsIn frame n)
+  blind : (c : Command) (n : ℕ) → ((r x y : List ℕ) → keeps c x r ≡ keeps c y r) → keptFor c n (windowsFor table frame c n) ≡ kept c n table frame
+  unfolding kept
   blind c n same = ap joined (along-blind (λ r window. keeps c window r) same (rows recordSize n table) _ _ (as-many c n ∙ sym (length-payloadsIn c n table frame)))
 
   -- each keeps the same
   pub same-kept : (c : Command) (n : ℕ) → length frame ≡ frameLength c n
       → joined (along (λ r window. keeps c window r) (rows recordSize n table) (windowsFor table frame c n)) ≡ kept c n table frame
-  unfolding filledFor kept keeps
+  unfolding filledFor kept keeps payloadsIn
   same-kept (Reads part) n e = blind (Reads part) n (λ r x y. refl)
-  same-kept (Writes c) n e = ap (keptFor (Writes c) n) (own-windows n e)
+  same-kept (Writes c) n e = ap (keptFor (Writes c) n) (own-windows c n e)
   same-kept (Bares c) n e = blind (Bares c) n (λ r x y. refl)
   same-kept Unlisted n e = blind Unlisted n (λ r x y. refl)
 
@@ -100,7 +107,7 @@ module _ (table frame : List ℕ) where
     -- of a read it is the reply
     pub came-reply : cameFor table frame (Reads part) n ≡ replyData replies
     unfolding filledFor replyData
-    came-reply = left-whole payloadSize far (length (drop 4 frame)) replies (lit< tt) each (later-bytes n e ∙ ap (λ (m : ℕ). m * payloadSize) (sym all))
+    came-reply = left-whole payloadSize far (length (drop 4 frame)) replies (lit< tt) each (later-bytes payloadSize n e ∙ ap (λ (m : ℕ). m * payloadSize) (sym all))
 
     -- eight bytes for each monitor
     pub length-came : length (cameFor table frame (Reads part) n) ≡ payloadSize * n

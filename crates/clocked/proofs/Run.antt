@@ -12,7 +12,6 @@ use lib.ListN.{length, take, drop, replicate}
 use borrow.Author.Tests.{lt-ltb, le-ltb, ne-eqb}
 use Rattle.wire.specs.Windows.{enterAll, left, drawn}
 use Rattle.records.specs.declared.commands.Command.{Command}
-use Rattle.records.specs.Commands.{payloadSize}
 use Rattle.clock_state.specs.declared.state.Kind.{Kind}
 use Rattle.clock_state.specs.declared.state.Kind.the-variants.{Fills, Drains, Still}
 use Rattle.clocking.specs.Clock.{Clock, start, far, known, kindOf, filledFor, chainedBy, fourth, early, mostSeen, oneMore, moved, later, clocked, leaving, answered}
@@ -86,20 +85,20 @@ module _ (table : List ℕ) (byte : ℕ) (c : Clock) (l : Late c) where
 
 -- what they make of the windows
 abbrev pub movedAll : Kind → List ℕ → List (List ℕ) → List (List ℕ)
-movedAll Fills bytes windows = enterAll payloadSize bytes windows
+movedAll (Fills w) bytes windows = enterAll w bytes windows
 movedAll Drains bytes windows = drawn far (length bytes) windows
 movedAll Still bytes windows = windows
 
 -- what comes back for k of them
 abbrev pub leavingAll : Kind → ℕ → List (List ℕ) → List ℕ
-leavingAll Fills k windows = replicate k far
+leavingAll (Fills w) k windows = replicate k far
 leavingAll Drains k windows = left far k windows
 leavingAll Still k windows = replicate k far
 
 -- none of them leaves the windows as they are
 moved-none : (kind : Kind) (windows : List (List ℕ)) → windows ≡ movedAll kind [] windows
 unfolding enterAll drawn
-moved-none Fills windows = refl
+moved-none (Fills w) windows = refl
 moved-none Drains windows = refl
 moved-none Still windows = refl
 
@@ -107,14 +106,14 @@ moved-none Still windows = refl
 moved-more : (kind : Kind) (byte : ℕ) (bytes : List ℕ) (windows : List (List ℕ))
     → movedAll kind bytes (moved kind byte windows) ≡ movedAll kind (byte ∷ bytes) windows
 unfolding moved enterAll drawn
-moved-more Fills byte bytes windows = refl
+moved-more (Fills w) byte bytes windows = refl
 moved-more Drains byte bytes windows = refl
 moved-more Still byte bytes windows = refl
 
 -- for none of them nothing comes back
 leaving-none : (kind : Kind) (windows : List (List ℕ)) → [] ≡ leavingAll kind 0 windows
 unfolding left
-leaving-none Fills windows = refl
+leaving-none (Fills w) windows = refl
 leaving-none Drains windows = refl
 leaving-none Still windows = refl
 
@@ -122,7 +121,7 @@ leaving-none Still windows = refl
 leaving-more : (kind : Kind) (byte k : ℕ) (windows : List (List ℕ))
     → leaving kind windows ∷ leavingAll kind k (moved kind byte windows) ≡ leavingAll kind (suc k) windows
 unfolding moved leaving left
-leaving-more Fills byte k windows = refl
+leaving-more (Fills w) byte k windows = refl
 leaving-more Drains byte k windows = refl
 leaving-more Still byte k windows = refl
 

@@ -26,7 +26,8 @@ use Rattle.judging.proofs.Soundness.{is-sound}
 use Rattle.clocking.specs.Clock.{Clock, start, mostSeen}
 use Rattle.releasing.specs.Release.{anotherCount, another, releaseRefusals}
 use Rattle.clocked.specs.Frames.{clockedAll, settleRefusals}
-use Rattle.clocking.proofs.Known.{chained-sound}
+use Rattle.clocking.proofs.Register.{register-fits}
+use Rattle.clocking.proofs.Known.{chained-sound, wide-of}
 use Rattle.clocked.proofs.Run.{seen-short, run}
 
 -- ---- what the two have in common
@@ -40,7 +41,7 @@ command-head frame =
 -- every frame that is accepted has less than the most bytes that are counted
 below-most : (c : Command) (n : ℕ) → n ≤ mostMonitors → frameLength c n < mostSeen
 below-most (Reads part) n h = omega arith
-below-most (Writes c) n h = omega arith
+below-most (Writes c) n h = omega (arith, register-fits (wide-of (Writes c)) h)
 below-most (Bares c) n h = omega arith
 below-most Unlisted n h = omega arith
 

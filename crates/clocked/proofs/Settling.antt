@@ -9,7 +9,6 @@ use native.Mathlib.Omega.{arith}
 use lib.Dec.{leb}
 use lib.ListN.{length, take, drop}
 use borrow.Author.Tests.{lt-ltb, le-ltb, leb-true}
-use Rattle.laws.specs.Counts.{count}
 use Rattle.laws.specs.Rows.{rows, joined, along}
 use Rattle.refusals.specs.declared.Refusal.{Refusal}
 use Rattle.refusals.specs.declared.Refusal.the-variants.{NoRoom}
@@ -18,7 +17,8 @@ use Rattle.refusals.proofs.Deciding.{decide-append, decide-map, holds-here, hol
 use Rattle.records.specs.declared.commands.Command.{Command}
 use Rattle.records.specs.Record.{recordSize}
 use Rattle.records.specs.Commands.{mostMonitors, payloadSize, replyLength}
-use Rattle.monitor.specs.Effects.{takes, keeps}
+use Rattle.monitor.specs.Effects.{keeps}
+use Rattle.serving.specs.Served.{takers}
 use Rattle.chain.specs.declared.frames.Answer.{Answer}
 use Rattle.chain.specs.declared.frames.Answer.the-variants.{Refused, Accepted}
 use Rattle.judging.specs.declared.heads.Judged.{Judged}
@@ -80,7 +80,7 @@ module _ {A : Type 0} (c : Clock) (table : List ℕ) (room : ℕ) (refused : Ref
 
 module _ (c : Clock) (table back buffer : List ℕ) where
   abbrev answers : Command → ℕ → Answer
-  answers command n = Accepted (count (takes command) (c .windows)) (replyLength command n)
+  answers command n = Accepted (takers command (rows recordSize n table) (c .windows)) (replyLength command n)
 
   abbrev tables : Command → ℕ → List ℕ
   tables command n = joined (along (λ r window. keeps command window r) (rows recordSize n table) (c .windows))

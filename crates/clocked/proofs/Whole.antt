@@ -11,7 +11,6 @@ use native.Mathlib.Omega.{arith}
 use lib.Dec.{lit≤}
 use lib.ListN.{length, take, drop, replicate}
 use borrow.Author.Tests.{ltb-false, le-ltb, eqb-true, not-false}
-use Rattle.laws.specs.Counts.{count}
 use Rattle.laws.specs.Rows.{rows, joined, along}
 use Rattle.wire.specs.Order.{replyData}
 use Rattle.refusals.specs.declared.Refusal.{Refusal}
@@ -22,12 +21,12 @@ use Rattle.records.specs.declared.commands.Command.the-variants.{Reads, Unliste
 use Rattle.records.specs.declared.record.Part.{Part}
 use Rattle.records.specs.Record.{recordSize}
 use Rattle.records.specs.Commands.{isListed, mostMonitors, payloadSize, frameLength, replyLength}
-use Rattle.monitor.specs.Effects.{takes, keeps}
+use Rattle.monitor.specs.Effects.{keeps}
 use Rattle.reads.specs.Reply.{reply}
 use Rattle.chain.specs.declared.frames.Answer.the-variants.{Refused, Accepted}
 use Rattle.judging.specs.Table.{monitors, sound}
 use Rattle.judging.specs.Refusals.{commandIn, roomRow}
-use Rattle.serving.specs.Served.{takenBy, kept}
+use Rattle.serving.specs.Served.{takers, takenBy, kept}
 use Rattle.replying.specs.Replied.{replied}
 use Rattle.chain.specs.Frame.{frameRefusals, answer, tableAfter, replyAfter}
 use Rattle.judging.proofs.Soundness.{is-sound}
@@ -103,9 +102,11 @@ module _ (table frame : List ℕ) where
     its-back = ap (drop 4) (back table frame long) ∙ ap₂ (cameFor table frame) its-command (chained-sound table its-sound)
 
     -- as many monitors take it
-    acts-taken : takenOf clock ≡ takenBy (commandIn frame) (monitors table) frame
+    acts-taken : takenOf clock table ≡ takenBy (commandIn frame) (monitors table) table frame
     unfolding takenOf
-    acts-taken = ap₂ (λ (c : Command) (ws : List (List ℕ)). count (takes c) ws) head-command its-windows ∙ same-taken table frame (commandIn frame) (monitors table) listed whole
+    acts-taken =
+        ap₂ (λ (c : Command) (ws : List (List ℕ)). takers c (rows recordSize (monitors table) table) ws) head-command its-windows
+        ∙ same-taken table frame (commandIn frame) (monitors table) whole
 
     -- each keeps the same
     acts-kept : keptOf clock table ≡ kept (commandIn frame) (monitors table) table frame

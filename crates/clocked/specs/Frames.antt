@@ -47,7 +47,7 @@ unfoldable pub settleRefusals : Clock → List ℕ → ℕ → List Row
 settleRefusals c table room = releaseRefusals c table ++ roomRow room (commandIn (c .head)) (monitors table) ∷ []
 
 unfoldable pub settled : Clock → List ℕ → ℕ → Answer
-settled c table room = decide (settleRefusals c table room) Refused (Accepted (takenOf c) (replyLength (commandIn (c .head)) (monitors table)))
+settled c table room = decide (settleRefusals c table room) Refused (Accepted (takenOf c table) (replyLength (commandIn (c .head)) (monitors table)))
 
 unfoldable pub tableSettled : Clock → List ℕ → ℕ → List ℕ
 tableSettled c table room = decide (settleRefusals c table room) (λ r. table) (keptOf c table)

@@ -6,6 +6,7 @@ use mathlib.Core.Path.{_≡_, refl, sym, ap, ap₂, _∙_, subst⁻¹}
 use mathlib.Core.Bool.{Bool, true, false, cond, not}
 use mathlib.Core.List.{List, [], _∷_}
 use Prim.Native.Nat.{ℕ, _*_, _≤_}
+use native.Mathlib.Nat.{mul-comm}
 use native.Mathlib.Omega.{arith}
 use lib.ListN.{length, take, drop, length-map}
 use lib.Seq.{length-take-le, take-at}
@@ -19,7 +20,8 @@ use Rattle.pec.specs.Words.{commandRight}
 use Rattle.records.specs.declared.commands.Command.{Command}
 use Rattle.records.specs.declared.commands.Command.the-variants.{Reads, Writes, Bares, Unlisted}
 use Rattle.records.specs.Record.{recordSize}
-use Rattle.records.specs.Commands.{isListed, mostMonitors, payloadSize, replyLength}
+use Rattle.records.specs.Commands.{isListed, mostMonitors, payloadSize, widthOf, replyLength}
+use Rattle.records.proofs.Widths.{width-most, width-some}
 use Rattle.reads.specs.Reply.{reply}
 use Rattle.reads.proofs.Showing.{length-reply}
 use Rattle.judging.specs.Table.{monitors, sound}
@@ -27,9 +29,11 @@ use Rattle.judging.specs.Refusals.{commandIn, listedRow}
 use Rattle.replying.specs.Replied.{replied}
 use Rattle.judging.proofs.Soundness.{is-sound}
 use Rattle.replying.proofs.Turns.{replies}
+use Rattle.clock_state.specs.State.{kindByte, kindBy, widthIn}
+use Rattle.clock_state.proofs.Widths.{Wide, fills-back}
 use Rattle.clocking.specs.Clock.{known, kindOf, filledFor, chainedBy}
 use Rattle.clocking.specs.Bytes.{windowsIn}
-use Rattle.clocking.proofs.Register.{windows-none}
+use Rattle.clocking.proofs.Register.{register-fits, windows-none}
 
 -- ---- the table, and the command
 
@@ -89,11 +93,28 @@ replies-fit table head = go (sound table) refl
     go true e = let few = is-sound table e .few in omega (arith, reply-short (known table head) (monitors table))
     go false e = subst⁻¹ (λ (c : Command). replyLength c (monitors table) ≤ payloadSize * mostMonitors) (known-unsound table head e) (omega arith)
 
+-- ---- the kind
+
+-- a command's width is one that a window can have
+pub wide-of : (c : Command) → Wide (widthOf c)
+wide-of c = record { some = omega (arith, width-some c); most = width-most c }
+
+-- the kind of a command comes back from its byte
+pub kind-back : (c : Command) → kindBy (kindByte (kindOf c)) ≡ kindOf c
+kind-back (Reads part) = refl
+kind-back (Writes c) = fills-back (widthOf (Writes c)) (omega (arith, width-some (Writes c))) (width-most (Writes c))
+kind-back (Bares c) = refl
+kind-back Unlisted = refl
+
 -- ---- the windows after byte four
+
+-- the windows by the kind of a command, after byte four, of a register that has such places
+abbrev windowsFour : Command → ℕ → List ℕ → List (List ℕ)
+windowsFour c n places = windowsIn (kindOf c) 4 n (take (widthIn (kindOf c) * n) places)
 
 -- of a known command: a read's register has the replies, a write's windows are empty whatever the register has
 filled : (c : Command) (n : ℕ) (table places : List ℕ) → n ≤ mostMonitors → length places ≡ payloadSize * mostMonitors
-    → windowsIn (kindOf c) 4 n (take (payloadSize * n) (replied c n table places)) ≡ filledFor c n table
+    → windowsFour c n (replied c n table places) ≡ filledFor c n table
 unfolding windowsIn filledFor replied
 filled (Reads part) n table places few sized =
     let each : Every payloadSize (replies part table n) = every-image payloadSize (reply part) (length-reply part) (rows recordSize n table) in
@@ -102,13 +123,16 @@ filled (Reads part) n table places few sized =
     ap₂ (replyParts payloadSize) (sym count) (take-at (replyData (replies part table n)) (drop (payloadSize * n) places) (payloadSize * n) size)
     ∙ reply-round payloadSize (replies part table n) each
 filled (Writes c) n table places few sized =
-    windows-none n (take (payloadSize * n) places) (length-take-le (payloadSize * n) places (omega arith) ∙ omega arith)
+    let w : ℕ = widthOf (Writes c) in
+    let wide : Wide w = wide-of (Writes c) in
+    let room : w * n ≤ length places = omega (arith, register-fits wide few) in
+    windows-none w n (take (w * n) places) wide (length-take-le (w * n) places room ∙ mul-comm w n)
 filled (Bares c) n table places few sized = refl
 filled Unlisted n table places few sized = refl
 
 -- of any command, by whether the table is sound
 pub filled-known : (table head places : List ℕ) → length places ≡ payloadSize * mostMonitors
-    → windowsIn (kindOf (known table head)) 4 (chainedBy table) (take (payloadSize * chainedBy table) (replied (known table head) (monitors table) table places))
+    → windowsFour (known table head) (chainedBy table) (replied (known table head) (monitors table) table places)
     ≡ filledFor (known table head) (chainedBy table) table
 unfolding windowsIn filledFor replied
 filled-known table head places sized = go (sound table) refl
@@ -117,7 +141,7 @@ filled-known table head places sized = go (sound table) refl
     n = chainedBy table
 
     from : Command → ℕ → List (List ℕ)
-    from c m = windowsIn (kindOf c) 4 n (take (payloadSize * n) (replied c m table places))
+    from c m = windowsFour c n (replied c m table places)
 
     go : (b : Bool) → sound table ≡ b → from (known table head) (monitors table) ≡ filledFor (known table head) n table
     go true e = ap (from (known table head)) (sym (chained-sound table e)) ∙ filled (known table head) n table places (chained-by-few table) sized

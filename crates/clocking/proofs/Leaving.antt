@@ -6,10 +6,11 @@ use mathlib.Core.List.{List}
 use Prim.Native.Nat.{ℕ, _<_, _≤_}
 use lib.ListN.{getD}
 use borrow.Author.Tests.{lt-ltb, le-ltb}
+use Rattle.records.specs.Commands.{payloadSize}
 use Rattle.clock_state.specs.declared.state.Kind.{Kind}
 use Rattle.clock_state.specs.declared.state.Kind.the-variants.{Fills, Drains, Still}
 use Rattle.clocking.specs.Clock.{leaving, answered, far}
-use Rattle.clock_state.specs.State.{seenIn, kindIn, chainedIn, registerIn}
+use Rattle.clock_state.specs.State.{seenIn, kindIn, chainedIn, widthIn, registerIn}
 use Rattle.clocking.specs.Bytes.{windowsIn, clockOf}
 use Rattle.clocking.proofs.Register.{leaves-first}
 
@@ -19,17 +20,17 @@ module _ (s : List ℕ) where
 
   -- by a kind that the state has
   leaving-by : Kind → ℕ
-  leaving-by kind = leaving kind (windowsIn kind (seenIn s) (chainedIn s) (registerIn (chainedIn s) s))
+  leaving-by kind = leaving kind (windowsIn kind (seenIn s) (chainedIn s) (registerIn (widthIn kind) (chainedIn s) s))
 
   by-kind : (kind : Kind) → kindIn s ≡ kind → leaving-by kind ≡ leaves-now
   unfolding clockOf leaving-by
   by-kind kind e = ap leaving-by (sym e)
 
-  pub fills-leaves : kindIn s ≡ Fills → far ≡ leaves-now
+  pub fills-leaves : {w : ℕ} → kindIn s ≡ Fills w → far ≡ leaves-now
   unfolding leaving leaving-by
-  fills-leaves e = by-kind Fills e
+  fills-leaves {w} e = by-kind (Fills w) e
 
-  pub drains-leaves : {first : ℕ} → kindIn s ≡ Drains → first ≡ getD (registerIn (chainedIn s) s) 0 far → first ≡ leaves-now
+  pub drains-leaves : {first : ℕ} → kindIn s ≡ Drains → first ≡ getD (registerIn payloadSize (chainedIn s) s) 0 far → first ≡ leaves-now
   unfolding leaving leaving-by
   drains-leaves e f = f ∙ sym (leaves-first (seenIn s) (chainedIn s) s) ∙ by-kind Drains e
 
@@ -41,8 +42,8 @@ module _ (s : List ℕ) where
 
   pub answered-early : seenIn s < 4 → far ≡ answered (clockOf s)
   unfolding answered clockOf
-  answered-early h = ap (λ (b : Bool). cond b far (leaving (kindIn s) (windowsIn (kindIn s) (seenIn s) (chainedIn s) (registerIn (chainedIn s) s)))) (sym (lt-ltb (seenIn s) 4 h))
+  answered-early h = ap (λ (b : Bool). cond b far leaves-now) (sym (lt-ltb (seenIn s) 4 h))
 
   pub answered-later : 4 ≤ seenIn s → leaves-now ≡ answered (clockOf s)
   unfolding answered clockOf
-  answered-later h = ap (λ (b : Bool). cond b far (leaving (kindIn s) (windowsIn (kindIn s) (seenIn s) (chainedIn s) (registerIn (chainedIn s) s)))) (sym (le-ltb (seenIn s) 4 h))
+  answered-later h = ap (λ (b : Bool). cond b far leaves-now) (sym (le-ltb (seenIn s) 4 h))

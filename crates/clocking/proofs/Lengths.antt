@@ -5,6 +5,7 @@ use mathlib.Core.Path.{_≡_, _∙_}
 use mathlib.Core.Bool.{Bool, true, false, cond}
 use mathlib.Core.List.{List}
 use Prim.Native.Nat.{ℕ, _*_, _≤_}
+use native.Mathlib.Nat.{mul-comm}
 use native.Mathlib.Omega.{arith}
 use lib.Dec.{eqb, ltb}
 use lib.ListN.{length, take, drop, length-append, length-drop, length-set}
@@ -15,9 +16,10 @@ use Rattle.replying.proofs.OwnReply.{length-replied}
 use Rattle.clock_state.specs.declared.state.Kind.{Kind}
 use Rattle.clock_state.specs.declared.state.Kind.the-variants.{Fills, Drains, Still}
 use Rattle.clocking.specs.Clock.{known, far}
-use Rattle.clock_state.specs.State.{windowsAt, stateSize, seenIn, kindIn, chainedIn, headIn, registerIn}
+use Rattle.clock_state.specs.State.{windowsAt, stateSize, seenIn, kindIn, chainedIn, headIn, widthIn, registerIn}
+use Rattle.clock_state.proofs.Widths.{Wide, wide-in}
 use Rattle.clocking.specs.Bytes.{counted, headed, noted, shifted, movedOn, takenIn, stateAfter}
-use Rattle.clocking.proofs.Register.{chained-few, length-register}
+use Rattle.clocking.proofs.Register.{chained-few, register-fits, length-register}
 use Rattle.clocking.proofs.Known.{replies-fit}
 
 -- the count
@@ -40,20 +42,20 @@ length-noted table s sized =
     simp (length-append, length-set) (omega arith)
 
 -- the register moved on by a byte
-pub length-shifted : (byte : ℕ) (s : List ℕ) → length s ≡ stateSize → length (shifted byte s) ≡ stateSize
+pub length-shifted : {w : ℕ} (byte : ℕ) (s : List ℕ) → Wide w → length s ≡ stateSize → length (shifted w byte s) ≡ stateSize
 unfolding shifted
-length-shifted byte s sized =
+length-shifted {w} byte s wide sized =
     let few : chainedIn s ≤ mostMonitors = chained-few s in
     let front : length (take windowsAt s) ≡ windowsAt = length-take-le windowsAt s (omega arith) in
-    let register : length (registerIn (chainedIn s) s) ≡ chainedIn s * payloadSize = length-register (chainedIn s) s few sized in
-    simp (length-append, length-drop) (omega arith)
+    let register : length (registerIn w (chainedIn s) s) ≡ chainedIn s * w = length-register w (chainedIn s) s wide few sized in
+    simp (length-append, length-drop) (omega (arith, register-fits wide few, mul-comm w (chainedIn s)))
 
 -- a later byte, by the kind
-pub length-movedOn : (kind : Kind) (byte : ℕ) (s : List ℕ) → length s ≡ stateSize → length (movedOn kind byte s) ≡ stateSize
+pub length-movedOn : (kind : Kind) (byte : ℕ) (s : List ℕ) → Wide (widthIn kind) → length s ≡ stateSize → length (movedOn kind byte s) ≡ stateSize
 unfolding movedOn
-length-movedOn Fills byte s sized = length-shifted byte s sized
-length-movedOn Drains byte s sized = length-shifted far s sized
-length-movedOn Still byte s sized = sized
+length-movedOn (Fills w) byte s wide sized = length-shifted byte s wide sized
+length-movedOn Drains byte s wide sized = length-shifted far s wide sized
+length-movedOn Still byte s wide sized = sized
 
 -- a byte by its place in the frame
 pub length-takenIn : (table : List ℕ) (byte : ℕ) (s : List ℕ) → length s ≡ stateSize → length (takenIn table byte s) ≡ stateSize
@@ -63,7 +65,7 @@ length-takenIn table byte s sized = go (ltb (seenIn s) 4) (eqb (seenIn s) 3)
     go : (a b : Bool) → length (cond a (cond b (noted table (headed byte s)) (headed byte s)) (movedOn (kindIn s) byte s)) ≡ stateSize
     go true true = length-noted table (headed byte s) (length-headed byte s sized)
     go true false = length-headed byte s sized
-    go false b = length-movedOn (kindIn s) byte s sized
+    go false b = length-movedOn (kindIn s) byte s (wide-in s) sized
 
 -- all of it
 pub length-stateAfter : (table : List ℕ) (byte : ℕ) (s : List ℕ) → length s ≡ stateSize → length (stateAfter table byte s) ≡ stateSize

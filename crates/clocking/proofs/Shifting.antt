@@ -9,7 +9,6 @@ use native.Mathlib.Omega.{arith}
 use lib.ListN.{length, getD, set, take, drop}
 use borrow.Rule.Slice.PartMut.{putMid}
 use Rattle.laws.proofs.LentParts.{part-back}
-use Rattle.records.specs.Commands.{payloadSize}
 use Rattle.clock_state.specs.State.{windowsAt, chainedIn, registerIn}
 use Rattle.clocking.specs.Bytes.{shifted}
 
@@ -57,22 +56,22 @@ module _ {A : Type 0} where
 
 -- ---- the register of a state: lent, and come back
 
-module _ (byte : ℕ) (s : List ℕ) {n : ℕ} (its : n ≡ chainedIn s) where
+module _ (w byte : ℕ) (s : List ℕ) {n : ℕ} (its : n ≡ chainedIn s) where
   -- the register, as it is lent
   abbrev pub lent : List ℕ
-  lent = take (windowsAt + payloadSize * n - windowsAt) (drop windowsAt s)
+  lent = take (windowsAt + w * n - windowsAt) (drop windowsAt s)
 
-  lent-register : lent ≡ registerIn (chainedIn s) s
+  lent-register : lent ≡ registerIn w (chainedIn s) s
   unfolding registerIn
   lent-register =
-      let size : windowsAt + payloadSize * n - windowsAt ≡ payloadSize * n = omega arith in
-      ap (λ (k : ℕ). take k (drop windowsAt s)) (size ∙ ap (λ (k : ℕ). payloadSize * k) its)
+      let size : windowsAt + w * n - windowsAt ≡ w * n = omega arith in
+      ap (λ (k : ℕ). take k (drop windowsAt s)) (size ∙ ap (λ (k : ℕ). w * k) its)
 
-  pub first-of-register : {first : ℕ} → first ≡ getD lent 0 byte → first ≡ getD (registerIn (chainedIn s) s) 0 byte
+  pub first-of-register : {first : ℕ} → first ≡ getD lent 0 byte → first ≡ getD (registerIn w (chainedIn s) s) 0 byte
   first-of-register e = e ∙ ap (λ (r : List ℕ). getD r 0 byte) lent-register
 
-  pub shifted-by : {after : List ℕ} → after ≡ drop 1 (lent ++ byte ∷ []) → putMid windowsAt (windowsAt + payloadSize * n - windowsAt) s after ≡ shifted byte s
+  pub shifted-by : {after : List ℕ} → after ≡ drop 1 (lent ++ byte ∷ []) → putMid windowsAt (windowsAt + w * n - windowsAt) s after ≡ shifted w byte s
   unfolding shifted
   shifted-by {after} e =
-      part-back windowsAt (payloadSize * n) s after
-      ∙ ap₂ (λ (x : List ℕ) (k : ℕ). take windowsAt s ++ x ++ drop (windowsAt + payloadSize * k) s) (e ∙ ap (λ (r : List ℕ). drop 1 (r ++ byte ∷ [])) lent-register) its
+      part-back windowsAt (w * n) s after
+      ∙ ap₂ (λ (x : List ℕ) (k : ℕ). take windowsAt s ++ x ++ drop (windowsAt + w * k) s) (e ∙ ap (λ (r : List ℕ). drop 1 (r ++ byte ∷ [])) lent-register) its

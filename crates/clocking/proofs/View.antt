@@ -6,7 +6,7 @@ use mathlib.Core.Path.{_≡_, refl, sym, ap, ap₂, _∙_}
 use mathlib.Core.Bool.{Bool, cond}
 use mathlib.Core.List.{List, [], _∷_, _++_, append-assoc}
 use Prim.Native.Nat.{ℕ, suc, _+_, _-_, _*_, _≤_, _<_}
-use native.Mathlib.Nat.{mod-add-div'}
+use native.Mathlib.Nat.{mod-add-div', mul-comm}
 use native.Mathlib.Decide.{decLt}
 use native.Mathlib.Omega.{arith}
 use lib.Dec.{eqb}
@@ -15,16 +15,16 @@ use lib.Seq.{length-take-le, take-at, drop-at, take-set-lt, drop-set-lt}
 use borrow.Author.Tests.{eq-eqb, ne-eqb, lt-ltb, le-ltb, le-leb}
 use Rattle.wire.specs.Windows.{empty}
 use Rattle.records.specs.declared.commands.Command.{Command}
-use Rattle.records.specs.Commands.{payloadSize}
 use Rattle.judging.specs.Table.{monitors}
 use Rattle.replying.specs.Replied.{replied}
 use Rattle.clock_state.specs.declared.state.Kind.{Kind}
 use Rattle.clock_state.specs.declared.state.Kind.the-variants.{Fills, Drains, Still}
 use Rattle.clocking.specs.Clock.{Clock, start, known, kindOf, filledFor, chainedBy, fourth, early, oneMore, moved, later, clocked, far}
-use Rattle.clock_state.specs.State.{headAt, windowsAt, stateSize, seenIn, kindIn, kindByte, chainedIn, headIn, registerIn, idle}
+use Rattle.clock_state.specs.State.{headAt, windowsAt, stateSize, seenIn, kindIn, chainedIn, headIn, widthIn, registerIn, idle}
+use Rattle.clock_state.proofs.Widths.{Wide, wide-in}
 use Rattle.clocking.specs.Bytes.{windowsIn, clockOf, counted, headed, noted, shifted, movedOn, takenIn, stateAfter}
 use Rattle.clocking.proofs.Register.{chained-few, length-register, counts-on, windows-early, fills-moved, drains-moved}
-use Rattle.clocking.proofs.Known.{chained-by-few, filled-known}
+use Rattle.clocking.proofs.Known.{chained-by-few, kind-back, filled-known}
 use Rattle.clocking.proofs.Lengths.{length-takenIn}
 
 -- ---- before a frame
@@ -86,7 +86,8 @@ module _ (table : List ℕ) (byte : ℕ) where
 -- the clock that a state stands for, where so many bytes came
 abbrev clockAt : ℕ → List ℕ → Clock
 clockAt count s =
-    record { seen = count; head = headIn s; chained = chainedIn s; kind = kindIn s; windows = windowsIn (kindIn s) count (chainedIn s) (registerIn (chainedIn s) s) }
+    let register = registerIn (widthIn (kindIn s)) (chainedIn s) s in
+    record { seen = count; head = headIn s; chained = chainedIn s; kind = kindIn s; windows = windowsIn (kindIn s) count (chainedIn s) register }
 
 -- the count's two bytes hold it, and are of no other part
 clock-counted : (s : List ℕ) → length s ≡ stateSize → clockOf (counted s) ≡ clockAt (oneMore (seenIn s)) s
@@ -96,12 +97,6 @@ clock-counted (low ∷ []) sized = absurd (omega arith)
 clock-counted (low ∷ high ∷ rest) sized = ap (λ (count : ℕ). clockAt count (low ∷ high ∷ rest)) (mod-add-div' (oneMore (seenIn (low ∷ high ∷ rest))) 256)
 
 -- ---- the other parts
-
--- a kind's byte gives it back
-kind-back : (k : Kind) → cond (eqb (kindByte k) (kindByte Fills)) Fills (cond (eqb (kindByte k) (kindByte Drains)) Drains Still) ≡ k
-kind-back Fills = refl
-kind-back Drains = refl
-kind-back Still = refl
 
 -- the clock after byte four, by the table that is lent with it
 abbrev afterFour : List ℕ → List ℕ → Clock
@@ -119,12 +114,17 @@ module _ (low high kind chained : ℕ) where
     abbrev n : ℕ
     n = chainedIn state
 
-    abbrev register : List ℕ
-    register = registerIn n state
+    -- by a kind that the state has
+    abbrev register : Kind → List ℕ
+    register k = registerIn (widthIn k) n state
+
+    -- it is of windows that can be
+    wide : (k : Kind) → kindIn state ≡ k → Wide (widthIn k)
+    wide k e = rw e at (wide-in state)
 
     -- the register is whole
-    whole : length register ≡ n * payloadSize
-    whole = length-register n state (chained-few state) (omega arith)
+    whole : (k : Kind) → kindIn state ≡ k → length (register k) ≡ n * widthIn k
+    whole k e = length-register (widthIn k) n state (wide k e) (chained-few state) (omega arith)
 
     -- and the head
     four : length (take 4 rest) ≡ 4
@@ -152,12 +152,12 @@ module _ (low high kind chained : ℕ) where
         one-more = counts-on seen (omega arith)
 
         over : List ℕ → List (List ℕ)
-        over places = windowsIn (kindIn state) (oneMore seen) n (take (payloadSize * n) places)
+        over places = windowsIn (kindIn state) (oneMore seen) n (take (widthIn (kindIn state) * n) places)
 
-        windows : over (drop 4 (set rest seen byte)) ≡ windowsIn (kindIn state) seen n register
+        windows : over (drop 4 (set rest seen byte)) ≡ windowsIn (kindIn state) seen n (register (kindIn state))
         windows =
             ap over (drop-set-lt 4 rest seen byte (omega arith))
-            ∙ windows-early (kindIn state) (oneMore seen) seen n register (omega (arith, one-more)) (omega arith)
+            ∙ windows-early (kindIn state) (oneMore seen) seen n (register (kindIn state)) (omega (arith, one-more)) (omega arith)
 
     -- the fourth: each part reads what was stored
     clock-noted : (table : List ℕ) → clockAt 4 (noted table state) ≡ afterFour table (headIn state)
@@ -172,55 +172,58 @@ module _ (low high kind chained : ℕ) where
         places = replied command (monitors table) table (drop 4 rest)
 
         kinds : kindIn (noted table state) ≡ kindOf command
-        kinds = kind-back (kindOf command)
+        kinds = kind-back command
 
         count : chainedIn (noted table state) ≡ chainedBy table
         count = ap (λ (b : Bool). cond b (chainedBy table) 0) (le-leb _ _ (chained-by-few table))
 
         windows : clockAt 4 (noted table state) .windows ≡ filledFor command (chainedBy table) table
         windows =
-            (λ j. windowsIn (kinds j) 4 (count j) (take (payloadSize * count j) (drop-at (take 4 rest) places 4 four j)))
+            (λ j. windowsIn (kinds j) 4 (count j) (take (widthIn (kinds j) * count j) (drop-at (take 4 rest) places 4 four j)))
             ∙ filled-known table (headIn state) (drop 4 rest) (length-drop 4 rest ∙ omega arith)
 
     -- the clock of the state, but for the count and the windows
     abbrev withWindows : ℕ → List (List ℕ) → Clock
     withWindows count windows = record { seen = count; head = headIn state; chained = n; kind = kindIn state; windows = windows }
 
-    -- a register that moved on by a byte
-    clock-shifted : (byte count : ℕ) → clockAt count (shifted byte state) ≡ withWindows count (windowsIn (kindIn state) count n (drop 1 (register ++ byte ∷ [])))
-    unfolding headIn chainedIn kindIn registerIn shifted
-    clock-shifted byte count =
-        ap (λ (l : List ℕ). clockAt count (low ∷ high ∷ kind ∷ chained ∷ l)) (append-assoc (take 4 rest) moved-on behind)
-        ∙ (λ i. record { seen = count; head = take-at (take 4 rest) (moved-on ++ behind) 4 four i; chained = n; kind = kindIn state; windows = windowsIn (kindIn state) count n (places i) })
-      where
-        moved-on : List ℕ
-        moved-on = drop 1 (register ++ byte ∷ [])
+    -- a register that moved on by a byte, by the kind
+    module _ (k : Kind) (its : kindIn state ≡ k) (byte count : ℕ) where
+      abbrev moved-on : List ℕ
+      moved-on = drop 1 (register k ++ byte ∷ [])
 
-        behind : List ℕ
-        behind = drop (windowsAt + payloadSize * n) state
+      clock-shifted : clockAt count (shifted (widthIn k) byte state) ≡ withWindows count (windowsIn k count n moved-on)
+      unfolding headIn chainedIn kindIn registerIn shifted
+      clock-shifted =
+          ap (λ (l : List ℕ). clockAt count (low ∷ high ∷ kind ∷ chained ∷ l)) (append-assoc (take 4 rest) moved-on behind)
+          ∙ (λ i. record { seen = count; head = take-at (take 4 rest) (moved-on ++ behind) 4 four i; chained = n; kind = kindIn state; windows = windowsIn (its i) count n (places i) })
+        where
+          behind : List ℕ
+          behind = drop (windowsAt + widthIn k * n) state
 
-        as-long : length moved-on ≡ payloadSize * n
-        as-long = simp (length-drop, length-append) (omega (arith, whole))
+          as-long : length moved-on ≡ widthIn k * n
+          as-long = simp (length-drop, length-append) (omega (arith, whole k its, mul-comm n (widthIn k)))
 
-        places : take (payloadSize * n) (drop 4 (take 4 rest ++ (moved-on ++ behind))) ≡ moved-on
-        places = ap (take (payloadSize * n)) (drop-at (take 4 rest) (moved-on ++ behind) 4 four) ∙ take-at moved-on behind (payloadSize * n) as-long
+          places : take (widthIn (kindIn state) * n) (drop 4 (take 4 rest ++ (moved-on ++ behind))) ≡ moved-on
+          places =
+              ap₂ (λ (j : Kind) (l : List ℕ). take (widthIn j * n) l) its (drop-at (take 4 rest) (moved-on ++ behind) 4 four)
+              ∙ take-at moved-on behind (widthIn k * n) as-long
 
     -- a later byte, by the kind
     clock-moved : (k : Kind) (byte : ℕ) → kindIn state ≡ k → 4 ≤ seen
-        → clockAt (oneMore seen) (movedOn k byte state) ≡ withWindows (oneMore seen) (moved k byte (windowsIn k seen n register))
+        → clockAt (oneMore seen) (movedOn k byte state) ≡ withWindows (oneMore seen) (moved k byte (windowsIn k seen n (register k)))
     unfolding movedOn moved
-    clock-moved Fills byte e h =
-        clock-shifted byte (oneMore seen)
-        ∙ ap (withWindows (oneMore seen)) (ap (λ (k : Kind). windowsIn k (oneMore seen) n (drop 1 (register ++ byte ∷ []))) e ∙ fills-moved n register whole byte seen (chained-few state) h)
+    clock-moved (Fills w) byte e h =
+        clock-shifted (Fills w) e byte (oneMore seen)
+        ∙ ap (withWindows (oneMore seen)) (fills-moved w n (register (Fills w)) (wide (Fills w) e) (whole (Fills w) e) byte seen (chained-few state) h)
     clock-moved Drains byte e h =
-        clock-shifted far (oneMore seen)
-        ∙ ap (withWindows (oneMore seen)) (ap (λ (k : Kind). windowsIn k (oneMore seen) n (drop 1 (register ++ far ∷ []))) e ∙ drains-moved n register whole seen (oneMore seen))
-    clock-moved Still byte e h = ap (λ (k : Kind). withWindows (oneMore seen) (windowsIn k (oneMore seen) n register)) e ∙ unfold windowsIn in refl
+        clock-shifted Drains e far (oneMore seen)
+        ∙ ap (withWindows (oneMore seen)) (drains-moved n (register Drains) (whole Drains e) seen (oneMore seen))
+    clock-moved Still byte e h = ap (λ (k : Kind). withWindows (oneMore seen) (windowsIn k (oneMore seen) n (register k))) e ∙ unfold windowsIn in refl
 
     -- which leaves the count
     seen-moved : (k : Kind) (byte : ℕ) → seenIn (movedOn k byte state) ≡ seen
     unfolding movedOn shifted seenIn
-    seen-moved Fills byte = refl
+    seen-moved (Fills w) byte = refl
     seen-moved Drains byte = refl
     seen-moved Still byte = refl
 

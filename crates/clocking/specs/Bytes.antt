@@ -1,5 +1,5 @@
--- The clock that the bytes of a state stand for, and what each byte of them becomes. In a write the farthest monitor's eight bytes of
--- the register come first, filled from their end; in a read the nearest monitor's come first.
+-- The clock that the bytes of a state stand for, and what each byte of them becomes. In a write the farthest monitor's bytes of
+-- the register come first, as many as a window is wide, filled from their end; in a read the nearest monitor's eight come first.
 -- Assumes nothing.
 use mathlib.Core.Bool.{cond}
 use mathlib.Core.List.{List, [], _∷_, _++_}
@@ -13,19 +13,21 @@ use Rattle.judging.specs.Table.{monitors}
 use Rattle.replying.specs.Replied.{replied}
 use Rattle.clock_state.specs.declared.state.Kind.{Kind}
 use Rattle.clock_state.specs.declared.state.Kind.the-variants.{Fills, Drains, Still}
-use Rattle.clock_state.specs.State.{seenAt, kindAt, chainedAt, headAt, windowsAt, seenIn, kindByte, kindIn, chainedIn, headIn, registerIn}
+use Rattle.clock_state.specs.State.{seenAt, kindAt, chainedAt, headAt, windowsAt, seenIn, kindByte, kindIn, chainedIn, headIn, widthIn, registerIn}
 use Rattle.clocking.specs.Clock.{Clock, known, kindOf, chainedBy, oneMore, far}
 
 -- ---- the clock that a state stands for
 
 -- the monitors' windows, nearest monitor first
 unfoldable pub windowsIn : Kind → ℕ → ℕ → List ℕ → List (List ℕ)
-windowsIn Fills seen n register = held payloadSize (seen - 4) (writePayloads payloadSize n register)
+windowsIn (Fills w) seen n register = held w (seen - 4) (writePayloads w n register)
 windowsIn Drains seen n register = replyParts payloadSize n register
 windowsIn Still seen n register = empty n
 
 unfoldable pub clockOf : List ℕ → Clock
-clockOf s = record { seen = seenIn s; head = headIn s; chained = chainedIn s; kind = kindIn s; windows = windowsIn (kindIn s) (seenIn s) (chainedIn s) (registerIn (chainedIn s) s) }
+clockOf s =
+    let register = registerIn (widthIn (kindIn s)) (chainedIn s) s in
+    record { seen = seenIn s; head = headIn s; chained = chainedIn s; kind = kindIn s; windows = windowsIn (kindIn s) (seenIn s) (chainedIn s) register }
 
 -- ---- what the bytes become
 
@@ -43,13 +45,13 @@ noted table s =
     set (set (take windowsAt s) kindAt (kindByte (kindOf (known table (headIn s))))) chainedAt (chainedBy table)
     ++ replied (known table (headIn s)) (monitors table) table (drop windowsAt s)
 
--- the register moves on by one byte
-unfoldable pub shifted : ℕ → List ℕ → List ℕ
-shifted byte s = take windowsAt s ++ drop 1 (registerIn (chainedIn s) s ++ byte ∷ []) ++ drop (windowsAt + payloadSize * chainedIn s) s
+-- the register of windows of w bytes moves on by one byte
+unfoldable pub shifted : ℕ → ℕ → List ℕ → List ℕ
+shifted w byte s = take windowsAt s ++ drop 1 (registerIn w (chainedIn s) s ++ byte ∷ []) ++ drop (windowsAt + w * chainedIn s) s
 
 unfoldable pub movedOn : Kind → ℕ → List ℕ → List ℕ
-movedOn Fills byte s = shifted byte s
-movedOn Drains byte s = shifted far s
+movedOn (Fills w) byte s = shifted w byte s
+movedOn Drains byte s = shifted payloadSize far s
 movedOn Still byte s = s
 
 -- a byte by its place in the frame

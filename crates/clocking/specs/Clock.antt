@@ -12,7 +12,7 @@ use Rattle.refusals.specs.Order.{decide}
 use Rattle.records.specs.declared.commands.Command.{Command}
 use Rattle.records.specs.declared.commands.Command.the-variants.{Reads, Writes, Bares, Unlisted}
 use Rattle.records.specs.Record.{recordSize}
-use Rattle.records.specs.Commands.{mostMonitors, payloadSize}
+use Rattle.records.specs.Commands.{mostMonitors, payloadSize, widthOf}
 use Rattle.reads.specs.Reply.{reply}
 use Rattle.judging.specs.Table.{monitors, sound}
 use Rattle.judging.specs.Refusals.{commandIn, tableRow, commandRow, listedRow}
@@ -46,9 +46,9 @@ far = 0xFF
 unfoldable pub known : List ℕ → List ℕ → Command
 known table head = decide (tableRow table ∷ commandRow head ∷ listedRow head ∷ []) (λ r. Unlisted) (commandIn head)
 
--- a known write's bytes fill the windows, a known read's drain them; in any other frame they stay empty
+-- a known write's bytes fill windows of the write's width, a known read's drain them; in any other frame they stay empty
 abbrev pub kindOf : Command → Kind
-kindOf (Writes c) = Fills
+kindOf (Writes c) = Fills (widthOf (Writes c))
 kindOf (Reads part) = Drains
 kindOf (Bares c) = Still
 kindOf Unlisted = Still
@@ -84,7 +84,7 @@ oneMore k = cond (ltb k mostSeen) (k + 1) k
 
 -- a write's byte enters monitor 1's window, and full windows pass their oldest on; in a read every window draws from the next
 unfoldable pub moved : Kind → ℕ → List (List ℕ) → List (List ℕ)
-moved Fills byte windows = enter payloadSize byte windows
+moved (Fills w) byte windows = enter w byte windows
 moved Drains byte windows = draw far windows
 moved Still byte windows = windows
 
@@ -98,7 +98,7 @@ clocked table byte c = cond (ltb (c .seen) 3) (early byte c) (cond (eqb (c .seen
 
 -- the byte that comes back: what leaves monitor 1 in a known read
 unfoldable pub leaving : Kind → List (List ℕ) → ℕ
-leaving Fills windows = far
+leaving (Fills w) windows = far
 leaving Drains windows = leaves far windows
 leaving Still windows = far
 

@@ -1,14 +1,14 @@
 // One byte clocked in.
 ghost use mathlib.Core.Path.{_≡_};
 ghost use mathlib.Core.List.{_++_, _∷_, []};
-ghost use Prim.Native.Nat.{_<_};
+ghost use Prim.Native.Nat.{_<_, _≤_};
 ghost use lib.ListN.{length, getD, drop};
+ghost use Rattle.records.specs.Commands.{payloadSize};
 ghost use Rattle.clocking.specs.Clock.{known, chainedBy, kindOf, oneMore, clocked, leaving, answered};
 ghost use Rattle.clock_state.specs.State.{stateSize, kindByte, kindIn, chainedIn, registerIn};
 ghost use Rattle.clocking.specs.Bytes.{clockOf, counted, noted, shifted, movedOn, takenIn, stateAfter};
 use clock_state::CHAINED;
 use clock_state::DRAINS;
-use clock_state::FILLS;
 use clock_state::HEAD;
 use clock_state::KIND;
 use clock_state::Kind;
@@ -45,13 +45,13 @@ fn known_command(table: &[u8], head: &[u8], count: usize) -> Command
     command
 }
 
-// What the bytes after the fourth do by the command, as the kind's byte.
+// What the bytes after the fourth do by the command, as the kind's byte: the windows of a write are as wide as its command's.
 fn kind_of(command: Command) -> u8
     ensures { λ r. ⌜ r ≡ kindByte (kindOf command) ⌝ }
 {
     match command {
         Command::Reads(_) => DRAINS,
-        Command::Writes(_) => FILLS,
+        Command::Writes(_) => records::width_of(command) as u8,
         Command::Bares(_) => STILL,
         Command::Unlisted => STILL,
     }
@@ -88,13 +88,13 @@ fn shift(register: &mut [u8], byte: u8) -> u8
     first
 }
 
-// The windows pass a byte on.
-fn shift_windows(state: &mut [u8], byte: u8) -> u8
-    requires { ⌜ length (now state) ≡ stateSize ⌝ }
-    ensures { λ r. ⌜ r ≡ getD (registerIn (chainedIn (now (state .entry))) (now (state .entry))) 0 byte ⌝ }
-    ensures { λ _. ⌜ now (state .exit) ≡ shifted byte (now (state .entry)) ⌝ }
+// The windows of so many bytes pass a byte on.
+fn shift_windows(state: &mut [u8], byte: u8, width: usize) -> u8
+    requires { ⌜ (length (now state) ≡ stateSize) × (width ≤ payloadSize) ⌝ }
+    ensures { λ r. ⌜ r ≡ getD (registerIn width (chainedIn (now (state .entry))) (now (state .entry))) 0 byte ⌝ }
+    ensures { λ _. ⌜ now (state .exit) ≡ shifted width byte (now (state .entry)) ⌝ }
 {
-    let end = WINDOWS + PAYLOAD_SIZE * chained_in(state);
+    let end = WINDOWS + width * chained_in(state);
     shift(&mut state[WINDOWS..end], byte)
 }
 
@@ -105,11 +105,11 @@ fn move_on(state: &mut [u8], byte: u8) -> u8
     ensures { λ _. ⌜ now (state .exit) ≡ movedOn (kindIn (now (state .entry))) byte (now (state .entry)) ⌝ }
 {
     match kind_in(state) {
-        Kind::Fills => {
-            shift_windows(state, byte);
+        Kind::Fills(width) => {
+            shift_windows(state, byte, width);
             FAR
         }
-        Kind::Drains => shift_windows(state, FAR),
+        Kind::Drains => shift_windows(state, FAR, PAYLOAD_SIZE),
         Kind::Still => FAR,
     }
 }

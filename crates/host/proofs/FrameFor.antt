@@ -1,5 +1,5 @@
 -- The frame for a code, n monitors and values: its length; its first four bytes are a command and its right check, and the
--- command is the code; what follows hands each monitor its own six bytes, sealed, or is filler. And what a request that is
+-- command is the code; what follows hands each monitor its own data bytes, sealed, or is filler. And what a request that is
 -- accepted or refused leaves in the buffer.
 -- Assumes nothing.
 use mathlib.Core.Path.{_≡_, refl, sym, ap, _∙_}
@@ -16,17 +16,17 @@ use Rattle.refusals.specs.declared.Refusal.{Refusal}
 use Rattle.laws.specs.Rows.{rows}
 use Rattle.laws.proofs.Lists.{getD-map}
 use Rattle.laws.proofs.Rows.{length-rows, rows-lengths}
-use Rattle.pec.specs.Words.{twoBytes, wordAt, commandCheck, commandRight, payloadRight}
+use Rattle.pec.specs.Words.{twoBytes, wordAt, commandCheck, commandRight, sealedRight}
 use Rattle.pec.proofs.CheckWords.{command-check-right}
 use Rattle.wire.specs.Order.{writePayloads}
 use Rattle.records.specs.declared.commands.Command.{Command}
 use Rattle.records.specs.declared.commands.Write.{Write}
 use Rattle.records.specs.declared.commands.Command.the-variants.{Reads, Writes, Bares, Unlisted}
 use Rattle.records.specs.declared.record.Part.{Part}
-use Rattle.records.specs.Commands.{commands, commandOf, payloadSize, frameLength}
+use Rattle.records.specs.Commands.{commands, commandOf, dataSize, payloadSize, widthOf, frameLength}
 use Rattle.host.specs.declared.frames.Built.{Built}
 use Rattle.host.specs.declared.frames.Built.the-variants.{Unbuilt, Length}
-use Rattle.host.specs.Frames.{headSize, dataSize, sealed, body, valueCount, frameFor, built, bufferAfter}
+use Rattle.host.specs.Frames.{headSize, sealed, body, valueCount, frameFor, built, bufferAfter}
 use Rattle.host.proofs.Judging.{Buildable, byJudgement, buildable-accepted, accepted-length, accepted-buildable, built-by, after-by}
 use Rattle.host.proofs.Payloads.{length-data, payloads-round, sealed-right}
 
@@ -45,7 +45,7 @@ pub length-body : (command : Command) (n : ℕ) (values : List ℕ) → length v
     → headSize + length (body command n values) ≡ frameLength command n
 unfolding body
 length-body (Reads part) n values e = ap (λ (m : ℕ). headSize + m) (length-replicate (payloadSize * n) 0xFF)
-length-body (Writes w) n values e = ap (λ (m : ℕ). headSize + m) (length-data n values e)
+length-body (Writes w) n values e = ap (λ (m : ℕ). headSize + m) (length-data (dataSize w) n values e)
 length-body (Bares b) n values e = refl
 length-body Unlisted n values e = refl
 
@@ -87,20 +87,21 @@ module _ (code n : ℕ) (values : List ℕ) where
   unfolding body
   read-filler part e = frame-body ∙ ap (λ (c : Command). body c n values) e
 
-  -- a write: each monitor gets its own six bytes, sealed
-  module _ (w : Write) (e : command ≡ Writes w) (count : length values ≡ dataSize * n) where
-    pub write-payloads : writePayloads payloadSize n (drop headSize frame) ≡ map sealed (rows dataSize n values)
+  -- a write: each monitor gets its own data bytes, sealed
+  module _ (w : Write) (e : command ≡ Writes w) (count : length values ≡ dataSize w * n) where
+    pub write-payloads : writePayloads (widthOf (Writes w)) n (drop headSize frame) ≡ map sealed (rows (dataSize w) n values)
     unfolding body
     write-payloads =
-        ap (writePayloads payloadSize n) (frame-body ∙ ap (λ (c : Command). body c n values) e) ∙ payloads-round n values count
+        ap (writePayloads (widthOf (Writes w)) n) (frame-body ∙ ap (λ (c : Command). body c n values) e) ∙ payloads-round (dataSize w) n values count
 
     -- and each finds them right
-    pub write-right : (k : ℕ) → k < n → payloadRight (getD (writePayloads payloadSize n (drop headSize frame)) k []) ≡ true
+    pub write-right : (k : ℕ) → k < n → sealedRight (dataSize w) (getD (writePayloads (widthOf (Writes w)) n (drop headSize frame)) k []) ≡ true
     write-right k h =
-        let l = length-rows dataSize n values in
-        ap (λ (rs : List (List ℕ)). payloadRight (getD rs k [])) write-payloads
-        ∙ ap payloadRight (getD-map sealed (rows dataSize n values) k [] [] (omega arith))
-        ∙ sealed-right (getD (rows dataSize n values) k []) (rows-lengths dataSize n values k [] h (omega arith))
+        let own = rows (dataSize w) n values in
+        let l = length-rows (dataSize w) n values in
+        ap (λ (rs : List (List ℕ)). sealedRight (dataSize w) (getD rs k [])) write-payloads
+        ∙ ap (sealedRight (dataSize w)) (getD-map sealed own k [] [] (omega arith))
+        ∙ sealed-right (getD own k []) (rows-lengths (dataSize w) n values k [] h (omega arith))
 
 -- ---- what comes of a request
 

@@ -13,7 +13,7 @@ use Rattle.refusals.specs.declared.Refusal.the-variants.{CodeNotListed, NoRoom,
 use Rattle.refusals.specs.Order.{Row, _gives_, decide}
 use Rattle.records.specs.declared.commands.Command.{Command}
 use Rattle.records.specs.declared.commands.Command.the-variants.{Reads, Writes, Bares, Unlisted}
-use Rattle.records.specs.Commands.{commands, commandOf, isListed, mostMonitors, payloadSize, frameLength}
+use Rattle.records.specs.Commands.{commands, commandOf, isListed, mostMonitors, dataSize, payloadSize, frameLength}
 use Rattle.host.specs.declared.frames.Built.{Built}
 use Rattle.host.specs.declared.frames.Built.the-variants.{Unbuilt, Length}
 
@@ -21,18 +21,14 @@ use Rattle.host.specs.declared.frames.Built.the-variants.{Unbuilt, Lengt
 abbrev pub headSize : ℕ
 headSize = 4
 
--- the data bytes of a payload
-abbrev pub dataSize : ℕ
-dataSize = 6
-
--- six bytes as a write sends them: with the counter 0, and the check over both
+-- a monitor's data bytes as a write sends them: with the counter 0, and the check over both
 unfoldable pub sealed : List ℕ → List ℕ
-sealed six = six ++ seal six 0
+sealed own = own ++ seal own 0
 
 -- what follows the command and its check
 unfoldable pub body : Command → ℕ → List ℕ → List ℕ
 body (Reads part) n values = replicate (payloadSize * n) 0xFF
-body (Writes c) n values = writeData (map sealed (rows dataSize n values))
+body (Writes c) n values = writeData (map sealed (rows (dataSize c) n values))
 body (Bares c) n values = []
 body Unlisted n values = []
 
@@ -40,10 +36,10 @@ body Unlisted n values = []
 unfoldable pub frameFor : ℕ → ℕ → List ℕ → List ℕ
 frameFor code n values = twoBytes code ++ commandCheck code ++ body (commandOf code commands) n values
 
--- the value bytes that a command wants: six for each monitor in a write, none otherwise
+-- the value bytes that a command wants: in a write each monitor's data bytes, none otherwise
 abbrev pub valueCount : Command → ℕ → ℕ
 valueCount (Reads part) n = 0
-valueCount (Writes c) n = dataSize * n
+valueCount (Writes c) n = dataSize c * n
 valueCount (Bares c) n = 0
 valueCount Unlisted n = 0
 

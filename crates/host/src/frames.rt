@@ -1,5 +1,6 @@
 // The frames that our host writes.
 ghost use mathlib.Core.Path.{_≡_};
+ghost use mathlib.Core.Logic.{_⊎_};
 ghost use mathlib.Core.List.{_++_, map};
 ghost use Prim.Native.Nat.{_+_, _-_, _*_, _<_, _≤_};
 ghost use lib.ListN.{length, replicate};
@@ -7,8 +8,8 @@ ghost use Rattle.laws.specs.Rows.{rows, rowAt};
 ghost use Rattle.bytes.specs.Placed.{placed};
 ghost use Rattle.pec.specs.Words.{twoBytes, commandCheck};
 ghost use Rattle.wire.specs.Order.{writeData};
-ghost use Rattle.records.specs.Commands.{mostMonitors, payloadSize, frameLength};
-ghost use Rattle.host.specs.Frames.{headSize, dataSize, sealed, body, valueCount, judged, built, bufferAfter};
+ghost use Rattle.records.specs.Commands.{mostMonitors, sealSize, payloadSize, frameLength};
+ghost use Rattle.host.specs.Frames.{headSize, sealed, body, valueCount, judged, built, bufferAfter};
 use crate::chain::is_chain;
 use records::Command;
 use refusals::Refusal;
@@ -21,9 +22,6 @@ pub enum Built {
 
 // The bytes of a command and its check.
 const HEAD_SIZE: usize = 4;
-
-// The data bytes of a payload.
-const DATA_SIZE: usize = 6;
 
 // What a reply is clocked over.
 const FILLER: u8 = 0xff;
@@ -38,7 +36,10 @@ fn value_count(command: Command, n: usize) -> usize
 {
     match command {
         Command::Reads(_) => 0,
-        Command::Writes(_) => DATA_SIZE * n,
+        Command::Writes(what) => {
+            let size = records::data_size(what);
+            size * n
+        }
         Command::Bares(_) => 0,
         Command::Unlisted => 0,
     }
@@ -77,33 +78,56 @@ fn put_head(buffer: &mut [u8], code: u16)
 
 // Six bytes of a slice.
 fn six_of(six: &[u8]) -> [u8; 6]
-    requires { ⌜ length (now six) ≡ dataSize ⌝ }
+    requires { ⌜ length (now six) ≡ 6 ⌝ }
     ensures { λ r. ⌜ r ≡ now (six .entry) ⌝ }
 {
     [six[0], six[1], six[2], six[3], six[4], six[5]]
 }
 
-// The payload at place i of a write: six bytes, and the seal over them with the counter 0. The values are nearest monitor first; the
-// farthest monitor's payload is sent first.
-fn put_payload(buffer: &mut [u8], n: usize, values: &[u8], i: usize)
-    requires { ⌜ (i < n) × (n ≤ mostMonitors) × (length (now values) ≡ dataSize * n) × (headSize + payloadSize * n ≤ length (now buffer)) ⌝ }
-    ensures { λ _. ⌜ now (buffer .exit) ≡ placed (headSize + i * payloadSize) (sealed (rowAt dataSize (n - (i + 1)) (now (values .entry)))) (now (buffer .entry)) ⌝ }
+// Two bytes of a slice.
+fn two_of(two: &[u8]) -> [u8; 2]
+    requires { ⌜ length (now two) ≡ 2 ⌝ }
+    ensures { λ r. ⌜ r ≡ now (two .entry) ⌝ }
 {
-    let from = (n - (i + 1)) * DATA_SIZE;
-    let to = from + DATA_SIZE;
-    let six = six_of(&values[from..to]);
-    let payload = check_words::sealed(&six, 0);
-    bytes::put(buffer, HEAD_SIZE + i * records::PAYLOAD_SIZE, &payload);
+    [two[0], two[1]]
+}
+
+// A monitor's data bytes, six or two, and the seal over them with the counter 0.
+fn put_sealed(buffer: &mut [u8], at: usize, own: &[u8])
+    requires { ⌜ ((length (now own) ≡ 6) ⊎ (length (now own) ≡ 2)) × (at + (length (now own) + sealSize) ≤ length (now buffer)) ⌝ }
+    ensures { λ _. ⌜ now (buffer .exit) ≡ placed at (sealed (now (own .entry))) (now (buffer .entry)) ⌝ }
+{
+    if own.len() == 6 {
+        let six = six_of(own);
+        let payload = check_words::sealed(&six, 0);
+        bytes::put(buffer, at, &payload);
+    } else {
+        let two = two_of(own);
+        let payload = check_words::sealed_two(&two, 0);
+        bytes::put(buffer, at, &payload);
+    }
+}
+
+// The payload at place i of a write that has so many data bytes for each monitor. The values are nearest monitor first; the farthest monitor's
+// payload is sent first.
+fn put_payload(buffer: &mut [u8], size: usize, n: usize, values: &[u8], i: usize)
+    requires { ⌜ (i < n) × (n ≤ mostMonitors) × ((size ≡ 6) ⊎ (size ≡ 2)) × (length (now values) ≡ size * n) × (headSize + (size + sealSize) * n ≤ length (now buffer)) ⌝ }
+    ensures { λ _. ⌜ now (buffer .exit) ≡ placed (headSize + i * (size + sealSize)) (sealed (rowAt size (n - (i + 1)) (now (values .entry)))) (now (buffer .entry)) ⌝ }
+{
+    let from = (n - (i + 1)) * size;
+    let to = from + size;
+    let at = HEAD_SIZE + i * (size + records::SEAL_SIZE);
+    put_sealed(buffer, at, &values[from..to]);
 }
 
 // The payloads of a write.
-fn put_payloads(buffer: &mut [u8], n: usize, values: &[u8])
-    requires { ⌜ (n ≤ mostMonitors) × (length (now values) ≡ dataSize * n) × (headSize + payloadSize * n ≤ length (now buffer)) ⌝ }
-    ensures { λ _. ⌜ now (buffer .exit) ≡ placed headSize (writeData (map sealed (rows dataSize n (now (values .entry))))) (now (buffer .entry)) ⌝ }
+fn put_payloads(buffer: &mut [u8], size: usize, n: usize, values: &[u8])
+    requires { ⌜ (n ≤ mostMonitors) × ((size ≡ 6) ⊎ (size ≡ 2)) × (length (now values) ≡ size * n) × (headSize + (size + sealSize) * n ≤ length (now buffer)) ⌝ }
+    ensures { λ _. ⌜ now (buffer .exit) ≡ placed headSize (writeData (map sealed (rows size n (now (values .entry))))) (now (buffer .entry)) ⌝ }
 {
     let mut i = 0;
     while i < n {
-        put_payload(buffer, n, values, i);
+        put_payload(buffer, size, n, values, i);
         i += 1;
     }
 }
@@ -124,7 +148,10 @@ fn put_body(buffer: &mut [u8], command: Command, n: usize, values: &[u8])
 {
     match command {
         Command::Reads(_) => put_filler(buffer, records::PAYLOAD_SIZE * n),
-        Command::Writes(_) => put_payloads(buffer, n, values),
+        Command::Writes(what) => {
+            let size = records::data_size(what);
+            put_payloads(buffer, size, n, values);
+        }
         Command::Bares(_) => {}
         Command::Unlisted => {}
     }

@@ -26,7 +26,7 @@ and-assoc : (a b c : Bool) → a && b && c ≡ a && (b && c)
 and-assoc true b c = refl
 and-assoc false b c = refl
 
-at-most-one : (b : Bool) → cond b 1 0 ≤ 1
+pub at-most-one : (b : Bool) → cond b 1 0 ≤ 1
 at-most-one true = lit≤ tt
 at-most-one false = lit≤ tt
 
@@ -51,6 +51,11 @@ module _ {A : Type 0} (test : A → Bool) where
   unfolding count
   count-all h [] = refl
   count-all h (x ∷ xs) = ap₂ _+_ (ap (λ (b : Bool). cond b 1 0) (h x)) (count-all h xs) ∙ one-add (length xs)
+
+  pub count-nothing : ((x : A) → test x ≡ false) → (xs : List A) → count test xs ≡ 0
+  unfolding count
+  count-nothing h [] = refl
+  count-nothing h (x ∷ xs) = omega (arith, ap {B = ℕ} (λ (b : Bool). cond b 1 0) (h x), count-nothing h xs)
 
 -- of what a function makes
 pub count-map : {A B : Type 0} (test : B → Bool) (f : A → B) (xs : List A) → count test (map f xs) ≡ count (λ x. test (f x)) xs
@@ -82,6 +87,13 @@ count-places test at d i (x ∷ xs) h =
   where
     next : (i k : ℕ) → i + suc k ≡ suc i + k
     next i k = omega arith
+
+-- where each passes, by its place
+pub count-where : {A : Type 0} (test : A → Bool) (xs : List A) (d : A) → ((k : ℕ) → k < length xs → test (getD xs k d) ≡ true) → count test xs ≡ length xs
+unfolding count
+count-where test [] d h = refl
+count-where test (x ∷ xs) d h =
+    ap₂ _+_ (ap (λ (b : Bool). cond b 1 0) (h 0 (omega arith))) (count-where test xs d (λ k l. h (suc k) (omega arith))) ∙ one-add (length xs)
 
 -- one that fails is not counted
 pub count-fails : {A : Type 0} (test : A → Bool) (xs : List A) (k : ℕ) (d : A) → k < length xs → test (getD xs k d) ≡ false → count test xs < length xs

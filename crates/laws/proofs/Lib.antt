@@ -10,6 +10,7 @@ pub mod Rows
 pub mod Filling
 pub mod LentParts
 pub mod Counts
+pub mod CountsAlong
 pub mod Same
 pub mod Or
 pub mod BitAt

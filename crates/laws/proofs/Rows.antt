@@ -417,3 +417,11 @@ module _ {A B C : Type 0} where
   every-along-parts p q f keeps [] rs e = tt
   every-along-parts p q f keeps (x ∷ xs) [] e = tt
   every-along-parts p q f keeps (x ∷ xs) (r ∷ rs) e = (keeps x r (e .0), every-along-parts p q f keeps xs rs (e .1))
+
+-- two functions that agree wherever the second list's parts have p elements
+pub along-same : {A B C : Type 0} (f g : A → List B → C) (p : ℕ) → ((a : A) (r : List B) → length r ≡ p → f a r ≡ g a r)
+    → (xs : List A) (rs : List (List B)) → Every p rs → along f xs rs ≡ along g xs rs
+unfolding along
+along-same f g p agree [] rs e = refl
+along-same f g p agree (x ∷ xs) [] e = refl
+along-same f g p agree (x ∷ xs) (r ∷ rs) e = ap₂ _∷_ (agree x r (e .0)) (along-same f g p agree xs rs (e .1))

@@ -44,25 +44,45 @@ fn came_of(c: Case, before: Bytes, sent: Bytes) -> Came {
     handled(before, sent, c.sizes)
 }
 
-// The table expected: the bytes at a place of both records, and the counter and byte 69 of both; or after a load, a store or a
-// compare the flags of one. A SNAP that finds the cells of the second monitor as they were lent copies them.
+// The cells as they were lent, those of the second monitor or of the first, copied to a place.
+fn copied(list: Bytes, at: usize, of_second: bool) -> Bytes {
+    let mut all = list;
+    if of_second {
+        bytes::put(
+            &mut all,
+            at,
+            b"\x99\x9a\x9b\x9c\x9d\x9e\x9f\xa0\xa1\xa2\xa3\xa4\xa5\xa6\xa7\xa8\
+            \xa9\xaa\xab\xac\xad\xae\xaf\xb0\xb1\xb2\xb3\xb4\xb5\xb6\xb7\xb8",
+        );
+        return all;
+    }
+    bytes::put(
+        &mut all,
+        at,
+        b"\x2d\x2e\x2f\x30\x31\x32\x33\x34\x35\x36\x37\x38\x39\x3a\x3b\x3c\
+        \x3d\x3e\x3f\x40\x41\x42\x43\x44\x45\x46\x47\x48\x49\x4a\x4b\x4c",
+    );
+    all
+}
+
+// The table expected: the bytes at a place of both records, and the counter and byte 69 of both; or after a load, a store or a compare the flags
+// of one. Where the kind says that cells are copied, SNAP's copy is at 82 and CMEN's at 138.
 fn wanted(c: Case, before: Bytes) -> Bytes {
-    let place = c.sizes / 1000 % 100;
-    let count = c.sizes / 10 % 100;
-    let mut registers = lay(
+    let kind = c.sizes / 100_000 % 10;
+    let place = c.sizes / 100 % 1000;
+    let count = c.sizes / 10 % 10 * 8;
+    let laid = lay(
         lay(before, place, count, c.at_first),
         place + RECORD,
         count,
         c.at_second,
     );
-    if c.sizes / 100_000 % 10 == 3 {
-        bytes::put(
-            &mut registers,
-            114 + 82,
-            b"\x99\x9a\x9b\x9c\x9d\x9e\x9f\xa0\xa1\xa2\xa3\xa4\xa5\xa6\xa7\xa8\
-            \xa9\xaa\xab\xac\xad\xae\xaf\xb0\xb1\xb2\xb3\xb4\xb5\xb6\xb7\xb8",
-        );
-    }
+    let registers = match kind {
+        3 => copied(laid, ONE + 82, true),
+        5 => copied(copied(laid, 138, false), ONE + 138, true),
+        6 => copied(laid, ONE + 138, true),
+        _ => laid,
+    };
     if is_load(c.given) {
         return lay(
             registers,
@@ -144,6 +164,10 @@ pub(crate) fn tried(c: Case, label: u64) -> bool {
     if kind == 2 {
         text(SENT);
         say::bytes(sent, 4, 20);
+    }
+    if kind == 4 {
+        text(SENT);
+        say::bytes(sent, 4, 12);
     }
     let told = told(c, came);
     shown(end, before, after, buffer);

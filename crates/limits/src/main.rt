@@ -42,7 +42,7 @@ fn tried(kind: u8, i: usize) -> bool {
         COMMAND => commands::command(i),
         ORDER => order::refusal(i),
         SOUND => soundness::sound(i),
-        LONGEST => longest::write(),
+        LONGEST => longest::write(i),
         BUILD => hosts::build(i),
         VOLTS => volts::read(i),
         PACK => volts::summary(i),
@@ -65,21 +65,22 @@ fn run(t: Tally, heading: u64, kind: u8, from: usize, to: usize) -> Tally {
 fn main() {
     let t = Tally { lines: 0, right: 0 };
     let t = run(t, words::TABLES, COMMAND, 0, 4);
-    let t = run(t, 0, SOUND, 0, 20);
+    let t = run(t, 0, SOUND, 0, 23);
     let t = run(t, words::ROOM, COMMAND, 4, 12);
     let t = run(t, words::COMMANDS, COMMAND, 12, 43);
     let t = run(t, words::SNAPSHOTS, COMMAND, 43, 57);
-    let t = run(t, words::LONGEST, LONGEST, 0, 1);
-    let t = run(t, words::ORDER, ORDER, 0, 31);
-    let t = run(t, 0, COMMAND, 57, 58);
-    let t = run(t, words::DAMAGE, COMMAND, 58, 69);
-    let t = run(t, words::SPIKES, COMMAND, 69, 80);
-    let t = run(t, words::COUNTERS, COMMAND, 80, 85);
-    let t = run(t, words::LOADS, COMMAND, 85, 101);
-    let t = run(t, words::STORES, COMMAND, 101, 113);
-    let t = run(t, words::COMPARES, COMMAND, 113, 128);
+    let t = run(t, words::LPCM, COMMAND, 57, 101);
+    let t = run(t, words::LONGEST, LONGEST, 0, 2);
+    let t = run(t, words::ORDER, ORDER, 0, 47);
+    let t = run(t, 0, COMMAND, 101, 102);
+    let t = run(t, words::DAMAGE, COMMAND, 102, 113);
+    let t = run(t, words::SPIKES, COMMAND, 113, 124);
+    let t = run(t, words::COUNTERS, COMMAND, 124, 129);
+    let t = run(t, words::LOADS, COMMAND, 129, 145);
+    let t = run(t, words::STORES, COMMAND, 145, 157);
+    let t = run(t, words::COMPARES, COMMAND, 157, 172);
     let t = run(t, words::OUTPUTS, OUTPUTS, 0, 51);
-    let t = run(t, words::HOSTS, BUILD, 0, 20);
+    let t = run(t, words::HOSTS, BUILD, 0, 38);
     let t = run(t, words::VOLTS, VOLTS, 0, 5);
     let t = run(t, 0, PACK, 0, 5);
     words(words::SUMMARY, t.lines, t.right, 0, 0);

@@ -9,34 +9,37 @@ use crate::words::WITH_BYTE;
 use crate::words::words;
 
 // The bytes of a table; a place and its value, the others being 0; 1 where the table is sound.
-const ROWS: [u64; 20] = [
+const ROWS: [u64; 23] = [
     0000_000_000_0,
-    // what a record was before, twice
+    // what a record was before, three times
     0070_000_000_0,
     0082_000_000_0,
-    0113_000_000_0,
-    0114_000_000_1,
-    3647_000_000_0,
-    3648_000_000_1,
-    3649_000_000_0,
-    3762_000_000_0,
+    0114_000_000_0,
+    0169_000_000_0,
+    0170_000_000_1,
+    0171_000_000_0,
+    5439_000_000_0,
+    5440_000_000_1,
+    5441_000_000_0,
+    5610_000_000_0,
     // the counter and byte 69, in the first record and in the second
-    0228_068_063_1,
-    0228_068_064_0,
-    0228_182_063_1,
-    0228_182_064_0,
-    0228_069_001_1,
-    0228_069_002_0,
-    0228_183_001_1,
-    0228_183_002_0,
-    // what lies beside them, and the last byte of the first record
-    0228_067_255_1,
-    0228_070_255_1,
-    0228_113_255_1,
+    0340_068_063_1,
+    0340_068_064_0,
+    0340_238_063_1,
+    0340_238_064_0,
+    0340_069_001_1,
+    0340_069_002_0,
+    0340_239_001_1,
+    0340_239_002_0,
+    // what lies beside them, CMF1, and the last byte of the first record
+    0340_067_255_1,
+    0340_070_255_1,
+    0340_133_255_1,
+    0340_169_255_1,
 ];
 
 pub(crate) fn sound(i: usize) -> bool {
-    let row = ROWS[i % 20];
+    let row = ROWS[i % 23];
     let size = row / 10_000_000 % 6000;
     let place = row / 10_000 % 1000;
     let value = row / 10 % 1000;

@@ -76,11 +76,21 @@ pub(crate) fn start(which: u64, eight: u64, given: u64) -> Bytes {
         18 => lay(two(), 69, 1, 1),
         19 => after(after(two(), 0x002d_d2a2, BARE, 0), 0x0711_c9c0, BARE, 0),
         20 => load_at_2(after(two(), 0x002d_d2a2, BARE, 0)),
-        _ => after(
+        21 => after(
             load_at_2(after(two(), 0x002d_d2a2, BARE, 0)),
             0x002f_4ff4,
             BARE,
             0,
         ),
+        // CMF1 has CMC_EN alone in monitor 1, and every other bit in monitor 2
+        22 => lay(
+            lay(after(two(), 0x0038_b320, BARE, 0), 133, 1, 0x80),
+            RECORD + 133,
+            1,
+            0x7f,
+        ),
+        23 => after(after(two(), 0x0041_dae4, BARE, 0), 0x0038_b320, BARE, 0),
+        24 => after(after(two(), 0x0041_dae4, BARE, 0), 0x0711_c9c0, BARE, 0),
+        _ => after(after(two(), 0x0041_dae4, BARE, 0), 0x0040_51d6, BARE, 0),
     }
 }

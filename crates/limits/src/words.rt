@@ -59,41 +59,43 @@ pub(crate) const STAYS: u64 = 28;
 
 pub(crate) const OWN: u64 = 36;
 
-pub(crate) const LOADED: u64 = 38;
+pub(crate) const LOADED: u64 = 40;
 
-pub(crate) const FLAGS: u64 = 41;
+pub(crate) const FLAGS: u64 = 43;
 
-pub(crate) const AND: u64 = 42;
+pub(crate) const AND: u64 = 44;
 
-pub(crate) const BUILDS: u64 = 43;
+pub(crate) const BUILDS: u64 = 45;
 
-pub(crate) const LENGTH: u64 = 49;
+pub(crate) const LENGTH: u64 = 56;
 
-pub(crate) const READING: u64 = 50;
+pub(crate) const READING: u64 = 57;
 
-pub(crate) const IS_CLEARED: u64 = 51;
+pub(crate) const IS_CLEARED: u64 = 58;
 
-pub(crate) const CODES: u64 = 52;
+pub(crate) const CODES: u64 = 59;
 
-pub(crate) const NONE: u64 = 53;
+pub(crate) const NONE: u64 = 60;
 
-pub(crate) const WHOLE: u64 = 54;
+pub(crate) const WHOLE: u64 = 61;
 
-pub(crate) const OUTPUTS: u64 = 55;
+pub(crate) const OUTPUTS: u64 = 62;
 
-pub(crate) const ON: u64 = 56;
+pub(crate) const ON: u64 = 63;
 
-pub(crate) const SNAPSHOTS: u64 = 57;
+pub(crate) const SNAPSHOTS: u64 = 64;
 
-pub(crate) const SPIKES: u64 = 58;
+pub(crate) const LPCM: u64 = 65;
 
-pub(crate) const MICROVOLTS: u64 = 59;
+pub(crate) const SPIKES: u64 = 66;
 
-pub(crate) const ORDERED: u64 = 69;
+pub(crate) const MICROVOLTS: u64 = 67;
 
-pub(crate) const CASES: u64 = 100;
+pub(crate) const ORDERED: u64 = 77;
 
-pub(crate) const ASKED: u64 = 228;
+pub(crate) const CASES: u64 = 124;
+
+pub(crate) const ASKED: u64 = 296;
 
 // The words of a number, with the numbers in them.
 pub(crate) fn words(k: u64, a: u64, b: u64, c: u64, d: u64) {
@@ -136,6 +138,8 @@ pub(crate) fn words(k: u64, a: u64, b: u64, c: u64, d: u64) {
     |\
     |WRCFGB: taken by #, reply #\
     |; each holds its own\
+    |CLRCMFLAG: taken by #, reply #\
+    |; each has cleared its own\
     |: loaded\
     |: stored\
     |: compared\
@@ -147,6 +151,11 @@ pub(crate) fn words(k: u64, a: u64, b: u64, c: u64, d: u64) {
     |0003, monitors #, value bytes #, room #\
     |WRPWMA, monitors #, value bytes #, room #\
     |RDPWMB, monitors #, value bytes #, room #\
+    |CLRCMFLAG, monitors #, value bytes #, room #\
+    |WRCMCFG, monitors #, value bytes #, room #\
+    |RDCMFLAG, monitors #, value bytes #, room #\
+    |CMEN, monitors #, value bytes #, room #\
+    |0043, monitors #, value bytes #, room #\
     |: length #\
     |, reading @\
     |, cleared\
@@ -156,6 +165,7 @@ pub(crate) fn words(k: u64, a: u64, b: u64, c: u64, d: u64) {
     |discharge outputs\n\
     |: on #;\
     |snapshots; monitor 1 is lent with one on\n\
+    |low power cell monitoring (LPCM); with CMF1 80 and 7f monitor 1 is in it by CMC_EN alone and monitor 2 has all the other bits, after ULRR\n\
     |spikes, after ULRR: of the bits hit, all in a row, the first and the last at least are turned over\n\
     |code -10000\
     |: microvolts 0\
@@ -179,6 +189,7 @@ pub(crate) fn words(k: u64, a: u64, b: u64, c: u64, d: u64) {
     |WRPWMA with the check 00 02\
     |SNAP with the check d2 a3\
     |UNSNAP with the check d2 a2\
+    |CLRCMFLAG with the check ce 3f\
     |0003, check wrong\
     |0003, four bytes\
     |0003, twenty bytes\
@@ -186,6 +197,12 @@ pub(crate) fn words(k: u64, a: u64, b: u64, c: u64, d: u64) {
     |001f, twenty bytes\
     |0025, twenty bytes\
     |0030, four bytes\
+    |003f, four bytes\
+    |0042, four bytes\
+    |0043, eight bytes\
+    |0043, four bytes\
+    |0057, twenty bytes\
+    |0060, twenty bytes\
     |RDCFGA, nineteen bytes\
     |RDCFGA, four bytes\
     |MUTE, five bytes\
@@ -194,9 +211,18 @@ pub(crate) fn words(k: u64, a: u64, b: u64, c: u64, d: u64) {
     |WRCFGA, twelve bytes\
     |WRPWMA, nineteen bytes\
     |WRPWMB, twenty-one bytes\
+    |CLRCMFLAG, eleven bytes\
+    |CLRCMFLAG, thirteen bytes\
+    |CLRCMFLAG, twenty bytes\
+    |CLRCMFLAG, four bytes\
+    |WRCMCFG, twelve bytes\
+    |RDCMFLAG, twelve bytes\
+    |CMEN, five bytes\
+    |CMDIS, twenty bytes\
     |RDCFGA, nineteen bytes, no room\
     |RDCFGA, room 15\
     |RDPWMB, room 15\
+    |RDCMFLAG, room 15\
     |RDCFGA, room 0\
     |MUTE, monitors #\
     |MUTE, monitors #\
@@ -255,6 +281,50 @@ pub(crate) fn words(k: u64, a: u64, b: u64, c: u64, d: u64) {
     |RDCVA, after SNAP, a load at position 2 and UNSNAP\
     |SNAP, after ULRR\
     |UNSNAP, after ULRR\
+    |RDCMCFG\
+    |RDCMCELLT\
+    |RDCMGPIOT\
+    |RDCMFLAG\
+    |WRCMCFG\
+    |WRCMCELLT\
+    |WRCMGPIOT\
+    |CLRCMFLAG\
+    |CLRCMFLAG, all ones in the second byte, and bits that are not set\
+    |CMEN\
+    |CMEN, after ULRR\
+    |CMEN, after CMEN and CLRCELL\
+    |CMEN, CMF1 80 and 7f\
+    |CMDIS, CMF1 80 and 7f\
+    |CMDIS, after CMEN and CLRCELL\
+    |CMDIS\
+    |RDCMFLAG, after CMEN and ULRR\
+    |CLRCELL, after CMEN and ULRR\
+    |WRCFGA, CMF1 80 and 7f\
+    |WRCFGB, CMF1 80 and 7f\
+    |WRRR, CMF1 80 and 7f\
+    |CLRFLAG, CMF1 80 and 7f\
+    |CLOVUV, CMF1 80 and 7f\
+    |WRPWMA, CMF1 80 and 7f\
+    |WRPWMB, CMF1 80 and 7f\
+    |WRCMCFG, CMF1 80 and 7f\
+    |WRCMCELLT, CMF1 80 and 7f\
+    |WRCMGPIOT, CMF1 80 and 7f\
+    |CLRCMFLAG, CMF1 80 and 7f\
+    |WRRR, both damaged, CMF1 80 and 7f\
+    |WRCFGB, the second monitor's data damaged, CMF1 80 and 7f\
+    |WRCFGB, after CMEN and ULRR\
+    |WRRR, after CMEN and ULRR\
+    |CLRCMFLAG, after CMEN and ULRR\
+    |WRCFGB, after CMEN and CMDIS\
+    |CLRCMFLAG, after ULRR, the second monitor's data damaged\
+    |CLRCMFLAG, after ULRR, the first monitor's check damaged\
+    |CLRCMFLAG, after ULRR, counter bits 9 and 63\
+    |CLRCMFLAG, after ULRR, ten bits for monitor 1 hit\
+    |CLRCMFLAG, after ULRR, eleven bits for monitor 1 hit, by the data polynomial\
+    |CLRCMFLAG, after ULRR, one bit for monitor 2 and nine for monitor 1 hit\
+    |CMEN, counters of 62 and 63\
+    |CMDIS, counters of 62 and 63\
+    |CLRCMFLAG, counters of 62 and 63\
     |MUTE, room 0\
     |WRCFGB, the second monitor's data damaged\
     |WRCFGB, the first monitor's check damaged\

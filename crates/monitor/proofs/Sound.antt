@@ -11,14 +11,15 @@ use lib.Dec.{leb, ltb, lit<, lit≤}
 use lib.ListN.{length, getD}
 use borrow.Author.Tests.{leb-true, le-leb, ltb-true}
 use Rattle.records.specs.declared.commands.Write.{Write}
-use Rattle.records.specs.declared.commands.Write.the-variants.{Wrcfga, Wrcfgb, Wrrr, Clrflag, Clovuv, Wrpwma, Wrpwmb}
+use Rattle.records.specs.declared.commands.Write.the-variants.{Wrcfga, Wrcfgb, Wrrr, Clrflag, Clovuv, Wrpwma, Wrpwmb, Wrcmcfg, Wrcmcellt, Wrcmgpiot, Clrcmflag}
 use Rattle.records.specs.declared.commands.Bare.{Bare}
-use Rattle.records.specs.declared.commands.Bare.the-variants.{Mute, Unmute, Rstcc, Ulrr, Clrcell, Snap, Unsnap}
+use Rattle.records.specs.declared.commands.Bare.the-variants.{Mute, Unmute, Rstcc, Ulrr, Clrcell, Snap, Unsnap, Cmen, Cmdis}
 use Rattle.records.specs.declared.commands.Command.{Command}
 use Rattle.records.specs.declared.commands.Command.the-variants.{Reads, Writes, Bares, Unlisted}
-use Rattle.records.specs.Record.{cells, counter, unlocked, snapshot, statusBits, recordSize, snapped, byteOf, Outside, anew, onBytes, recordSound}
+use Rattle.records.specs.Record.{cells, counter, unlocked, snapshot, statusBits, cmf1, lastCells, recordSize, snapped, inLpcm, byteOf, Outside, anew, onBytes, recordSound}
+use Rattle.records.specs.Commands.{dataSize}
 use Rattle.writes.specs.Writes.{rulesOf, byRules, opens, written}
-use Rattle.monitor.specs.Effects.{locked, nextCount, counted, copied, done, goodFor, keeps}
+use Rattle.monitor.specs.Effects.{locked, nextCount, counted, cellsTo, copied, enabled, done, accepts, keeps}
 use Rattle.records.proofs.Anew.{length-anew, anew-below, anew-above, anew-inside}
 use Rattle.records.proofs.Parts.{outside-byte}
 
@@ -41,8 +42,12 @@ unfolding written byRules
 length-written c was sent r = length-cond (opens (rulesOf c) was) _ r (length r) (length-anew _ _ _ r) refl
 
 length-copied : (r : List ℕ) → length (copied r) ≡ length r
-unfolding copied onBytes
+unfolding copied cellsTo onBytes
 length-copied r = length-anew _ _ _ _ ∙ length-anew _ _ _ r
+
+length-enabled : (r : List ℕ) → length (enabled r) ≡ length r
+unfolding enabled cellsTo onBytes
+length-enabled r = length-anew _ _ _ _ ∙ length-anew _ _ _ r
 
 length-done : (c : Bare) (r : List ℕ) → length (done c r) ≡ length r
 unfolding done onBytes
@@ -53,16 +58,18 @@ length-done Ulrr r = length-anew _ _ _ r
 length-done Clrcell r = length-anew _ _ _ r
 length-done Snap r = length-cond (snapped r) r _ (length r) refl (length-copied r)
 length-done Unsnap r = length-anew _ _ _ r
+length-done Cmen r = length-cond (inLpcm r) r _ (length r) refl (length-enabled r)
+length-done Cmdis r = length-anew _ _ _ r
 
-pub length-keeps : (c : Command) (eight r : List ℕ) → length (keeps c eight r) ≡ length r
+pub length-keeps : (c : Command) (own r : List ℕ) → length (keeps c own r) ≡ length r
 unfolding keeps
-length-keeps (Reads p) eight r = length-locked r
-length-keeps (Writes c) eight r =
-    length-cond (goodFor c eight) _ _ (length r)
-    (length-written c (byteOf unlocked r) eight (counted (locked r)) ∙ length-counted (locked r) ∙ length-locked r)
+length-keeps (Reads p) own r = length-locked r
+length-keeps (Writes c) own r =
+    length-cond (accepts c own r) _ _ (length r)
+    (length-written c (byteOf unlocked r) own (counted (locked r)) ∙ length-counted (locked r) ∙ length-locked r)
     (length-locked r)
-length-keeps (Bares c) eight r = length-done c (counted (locked r)) ∙ length-counted (locked r) ∙ length-locked r
-length-keeps Unlisted eight r = refl
+length-keeps (Bares c) own r = length-done c (counted (locked r)) ∙ length-counted (locked r) ∙ length-locked r
+length-keeps Unlisted own r = refl
 
 -- ---- the two bytes that make a record sound
 
@@ -121,7 +128,7 @@ before-both at n h = (inl h, inl (omega arith))
 behind-both : (at n : ℕ) → unlocked .at + 1 ≤ at → Outside counter at n × Outside unlocked at n
 behind-both at n h = (inr (omega arith), inr h)
 
-rules-elsewhere : (w : Write) → Outside counter (rulesOf w .at) 6 × Outside unlocked (rulesOf w .at) 6
+rules-elsewhere : (w : Write) → Outside counter (rulesOf w .at) (dataSize w) × Outside unlocked (rulesOf w .at) (dataSize w)
 rules-elsewhere Wrcfga = before-both _ 6 (lit≤ tt)
 rules-elsewhere Wrcfgb = before-both _ 6 (lit≤ tt)
 rules-elsewhere Wrrr = before-both _ 6 (lit≤ tt)
@@ -129,6 +136,10 @@ rules-elsewhere Clrflag = before-both _ 6 (lit≤ tt)
 rules-elsewhere Clovuv = before-both _ 6 (lit≤ tt)
 rules-elsewhere Wrpwma = behind-both _ 6 (lit≤ tt)
 rules-elsewhere Wrpwmb = behind-both _ 6 (lit≤ tt)
+rules-elsewhere Wrcmcfg = behind-both _ 6 (lit≤ tt)
+rules-elsewhere Wrcmcellt = behind-both _ 6 (lit≤ tt)
+rules-elsewhere Wrcmgpiot = behind-both _ 6 (lit≤ tt)
+rules-elsewhere Clrcmflag = behind-both _ 2 (lit≤ tt)
 
 fine-cond : (b : Bool) (xs ys : List ℕ) → Fine xs → Fine ys → Fine (cond b xs ys)
 fine-cond true xs ys h k = h
@@ -136,12 +147,17 @@ fine-cond false xs ys h k = k
 
 fine-written : (c : Write) (was : ℕ) (sent r : List ℕ) → Fine r → Fine (written c was sent r)
 unfolding written byRules
-fine-written c was sent r s = fine-cond (opens (rulesOf c) was) _ r (elsewhere _ (rulesOf c .at) 6 r (rules-elsewhere c) s) s
+fine-written c was sent r s = fine-cond (opens (rulesOf c) was) _ r (elsewhere _ (rulesOf c .at) (dataSize c) r (rules-elsewhere c) s) s
 
 fine-copied : (r : List ℕ) → Fine r → Fine (copied r)
-unfolding copied onBytes
+unfolding copied cellsTo onBytes
 fine-copied r s =
     elsewhere _ (statusBits .at) 1 _ (before-both _ 1 (lit≤ tt)) (elsewhere _ (snapshot .at) (snapshot .size) r (behind-both _ (snapshot .size) (lit≤ tt)) s)
+
+fine-enabled : (r : List ℕ) → Fine r → Fine (enabled r)
+unfolding enabled cellsTo onBytes
+fine-enabled r s =
+    elsewhere _ (cmf1 .at) 1 _ (behind-both _ 1 (lit≤ tt)) (elsewhere _ (lastCells .at) (lastCells .size) r (behind-both _ (lastCells .size) (lit≤ tt)) s)
 
 fine-done : (c : Bare) (r : List ℕ) → Fine r → Fine (done c r)
 unfolding done onBytes
@@ -152,14 +168,16 @@ fine-done Ulrr r s = fine-lock 1 r (lit≤ tt) s
 fine-done Clrcell r s = elsewhere _ (cells .at) (cells .size) r (before-both _ (cells .size) (lit≤ tt)) s
 fine-done Snap r s = fine-cond (snapped r) r (copied r) s (fine-copied r s)
 fine-done Unsnap r s = elsewhere _ (statusBits .at) 1 r (before-both _ 1 (lit≤ tt)) s
+fine-done Cmen r s = fine-cond (inLpcm r) r (enabled r) s (fine-enabled r s)
+fine-done Cmdis r s = elsewhere _ (cmf1 .at) 1 r (behind-both _ 1 (lit≤ tt)) s
 
-fine-keeps : (c : Command) (eight r : List ℕ) → Fine r → Fine (keeps c eight r)
+fine-keeps : (c : Command) (own r : List ℕ) → Fine r → Fine (keeps c own r)
 unfolding keeps
-fine-keeps (Reads p) eight r s = fine-locked r s
-fine-keeps (Writes c) eight r s =
-    fine-cond (goodFor c eight) _ _ (fine-written c (byteOf unlocked r) eight (counted (locked r)) (fine-counted r s)) (fine-locked r s)
-fine-keeps (Bares c) eight r s = fine-done c (counted (locked r)) (fine-counted r s)
-fine-keeps Unlisted eight r s = s
+fine-keeps (Reads p) own r s = fine-locked r s
+fine-keeps (Writes c) own r s =
+    fine-cond (accepts c own r) _ _ (fine-written c (byteOf unlocked r) own (counted (locked r)) (fine-counted r s)) (fine-locked r s)
+fine-keeps (Bares c) own r s = fine-done c (counted (locked r)) (fine-counted r s)
+fine-keeps Unlisted own r s = s
 
 -- ---- the test
 
@@ -177,5 +195,5 @@ from-fine : (r : List ℕ) → Fine r → recordSound r ≡ true
 unfolding recordSound
 from-fine r s = ap₂ _&&_ (le-leb _ _ (s .count)) (le-leb _ _ (s .lock))
 
-pub sound-keeps : (c : Command) (eight r : List ℕ) → length r ≡ recordSize → recordSound r ≡ true → recordSound (keeps c eight r) ≡ true
-sound-keeps c eight r w s = from-fine (keeps c eight r) (fine-keeps c eight r (to-fine r w s))
+pub sound-keeps : (c : Command) (own r : List ℕ) → length r ≡ recordSize → recordSound r ≡ true → recordSound (keeps c own r) ≡ true
+sound-keeps c own r w s = from-fine (keeps c own r) (fine-keeps c own r (to-fine r w s))

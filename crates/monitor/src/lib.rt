@@ -1,4 +1,5 @@
-// What one monitor keeps of an accepted command and its own eight bytes.
+// What one monitor keeps of an accepted command and its own bytes.
 mod effects;
 
 pub use effects::act;
+pub use effects::remember;

@@ -4,33 +4,36 @@
 -- Each is shown where no refusal holds, by what the refusals then say.
 -- Assumes nothing.
 use mathlib.Core.Path.{_≡_, refl, ap, _∙_, subst⁻¹}
-use mathlib.Core.Bool.{Bool, true, false, cond, _||_}
+use mathlib.Core.Bool.{Bool, true, false, cond, not, _||_}
 use mathlib.Core.List.{List, [], _∷_}
 use Prim.Native.Nat.{ℕ, zero, suc, _+_, _-_, _*_, _<_, _≤_}
+use native.Mathlib.Nat.{mul-le-mul-right}
 use native.Mathlib.Omega.{arith}
 use lib.Dec.{leb, ltb}
 use lib.IntN.{ℤ}
 use lib.ListN.{length, getD, take, drop, length-take}
 use lib.Seq.{getD-drop}
 use borrow.Author.Tests.{leb-true, not-false}
-use Rattle.laws.specs.Counts.{count}
-use Rattle.laws.specs.Rows.{rowAt}
+use Rattle.laws.specs.Rows.{rows, rowAt}
 use Rattle.laws.specs.Tables.{tabulate}
+use Rattle.laws.proofs.Counts.{count-most}
+use Rattle.laws.proofs.CountsAlong.{count-along-most}
+use Rattle.laws.proofs.Rows.{length-rows}
 use Rattle.refusals.specs.declared.Refusal.{Refusal}
 use Rattle.refusals.specs.declared.Refusal.the-variants.{TableNotSound, FrameShort, CommandWrong, CodeNotListed, LengthWrong, NoRoom, PositionWrong, CountWrong, CodeCleared, NeitherRight}
 use Rattle.refusals.specs.Numbers.{numberOf}
-use Rattle.wire.proofs.Order.{length-writePayloads}
 use Rattle.records.specs.declared.commands.Command.{Command}
 use Rattle.records.specs.declared.commands.Command.the-variants.{Reads, Writes, Bares, Unlisted}
 use Rattle.records.specs.Record.{recordSize}
 use Rattle.records.specs.Commands.{commands, commandOf, mostMonitors, payloadSize, frameLength}
+use Rattle.records.proofs.Widths.{width-most}
 use Rattle.monitor.specs.Effects.{takes}
 use Rattle.chain.specs.declared.frames.Answer.the-variants.{Refused}
 use Rattle.loads.specs.declared.loads.Loaded.{Loaded}
 use Rattle.loads.specs.declared.loads.Loaded.the-variants.{Unloaded, Done}
 use Rattle.judging.specs.Table.{monitors, sound}
 use Rattle.judging.specs.Refusals.{commandIn}
-use Rattle.serving.specs.Served.{payloadsIn, takenBy}
+use Rattle.serving.specs.Served.{takers, payloadsIn, takenBy}
 use Rattle.chain.specs.Frame.{frameRefusals, answer}
 use Rattle.judging.proofs.Soundness.{both, is-sound}
 use Rattle.judging.proofs.Decided.{by-passing}
@@ -44,16 +47,20 @@ use Rattle.clock_state.specs.declared.state.Kind.the-variants.{Fills, Drains, S
 use Rattle.clocking.specs.Clock.{far, leaving, answered}
 use Rattle.releasing.specs.Release.{releaseRefusals, takenOf, released}
 use Rattle.releasing.specs.Look.{windowOf, lookRefusals, looked}
-use Rattle.clock_state.specs.State.{windowsAt, seenIn, kindIn, chainedIn, registerIn}
+use Rattle.clock_state.specs.State.{windowsAt, seenIn, kindIn, chainedIn, widthIn, registerIn}
+use Rattle.clock_state.proofs.Widths.{Wide, wide-in}
 use Rattle.clocking.specs.Bytes.{windowsIn, clockOf}
 use Rattle.clocking.proofs.Known.{reply-short}
-use Rattle.clocking.proofs.Register.{come, chained-few, length-windows, leaves-first, fills-at, drains-at, still-at}
+use Rattle.clocking.proofs.Register.{come, leaves-first, fills-at, drains-at, still-at}
 use Rattle.host.specs.declared.frames.Built.the-variants.{Unbuilt}
 use Rattle.ports.specs.declared.checks.Checked.{Checked}
 use Rattle.ports.specs.declared.checks.Checked.the-variants.{Unchecked, Right, Wrong}
 use Rattle.ports.specs.declared.ports.Port.{Port}
 use Rattle.ports.specs.declared.ports.Port.the-variants.{Refused as Unported, A, B}
 use Rattle.host.specs.Frames.{buildRefusals, built}
+use Rattle.messages.specs.declared.verdicts.Verdict.the-variants.{Refused as Unjudged, Passed, Failed, Damaged, TimedOut}
+use Rattle.messages.specs.Messages.{countIn, flagsIn, messageRight, isPass}
+use Rattle.messages.specs.Verdicts.{verdictRefusals, verdictOf, verdict}
 use Rattle.ports.specs.Ports.{placeA, placeB, portOf}
 use Rattle.ports.proofs.TwoPorts.{only-a, only-b}
 use Rattle.readings.specs.declared.pack_summary.Pack.{Pack}
@@ -61,7 +68,7 @@ use Rattle.readings.specs.declared.pack_summary.Pack.the-variants.{Refused as U
 use Rattle.readings.specs.Readings.{mostCodes, measured, wholeOf, summaryOf}
 use Rattle.readings.proofs.Sizes.{cells-at-most-codes}
 use Rattle.readings.proofs.Summaries.{cellsOf}
-use Rattle.oskorbine.specs.Packed.{Fit, refused, accepted, frameParts, loadParts, dischargedParts, builtParts, checkedParts, portParts, lookedParts}
+use Rattle.oskorbine.specs.Packed.{Fit, refused, accepted, frameParts, loadParts, dischargedParts, builtParts, checkedParts, portParts, verdictParts, lookedParts}
 use Rattle.oskorbine.specs.Volts.{roomRow, summaryParts}
 
 -- ---- of any answer
@@ -87,26 +94,16 @@ refused-fits r = record { number-fits = at-most-ten r; first-fits = omega arith;
 
 -- ---- a frame and a release
 
--- no more are counted than there are
-count-most : {A : Type 0} (test : A → Bool) (xs : List A) → count test xs ≤ length xs
-unfolding count
-count-most test [] = omega arith
-count-most test (x ∷ xs) = by (test x) (count-most test xs)
-  where
-    by : (b : Bool) → count test xs ≤ length xs → cond b 1 0 + count test xs ≤ length (x ∷ xs)
-    by true h = omega arith
-    by false h = omega arith
-
-few-taken : (c : Command) (n : ℕ) (frame : List ℕ) → takenBy c n frame ≤ n
-unfolding takenBy payloadsIn
-few-taken c n frame = omega (arith, count-most (takes c) (payloadsIn frame n), length-writePayloads payloadSize n (drop 4 frame))
+few-taken : (c : Command) (n : ℕ) (table frame : List ℕ) → takenBy c n table frame ≤ n
+unfolding takenBy takers
+few-taken c n table frame = omega (arith, count-along-most (λ r own. takes c own r) (rows recordSize n table) (payloadsIn c frame n), length-rows recordSize n table)
 
 pub frame-fits : (table frame : List ℕ) (room : ℕ) → Fit (frameParts (answer table frame room))
 unfolding answer frameRefusals
 frame-fits table frame room =
     by-passing (λ x. Fit (frameParts x)) (frameRefusals table frame room) Refused _ refused-fits
     (λ none. let few = is-sound table (not-false (sound table) (none .0)) .few in
-    accepted-fits _ _ (omega (arith, few, few-taken (commandIn frame) (monitors table) frame)) (omega (arith, few, reply-short (commandIn frame) (monitors table))))
+    accepted-fits _ _ (omega (arith, few, few-taken (commandIn frame) (monitors table) table frame)) (omega (arith, few, reply-short (commandIn frame) (monitors table))))
 
 -- ---- the discharge outputs
 
@@ -126,12 +123,12 @@ neither true b e = e
 neither false b e = refl
 
 pub release-fits : (s table : List ℕ) → Fit (frameParts (released (clockOf s) table))
-unfolding released releaseRefusals takenOf clockOf
+unfolding released releaseRefusals takenOf takers
 release-fits s table =
     by-passing (λ x. Fit (frameParts x)) (releaseRefusals (clockOf s) table) Refused _ refused-fits
     (λ none. let few = is-sound table (not-false (sound table) (neither _ _ (none .0))) .few in
-    let taken = count-most (takes (commandIn (clockOf s .head))) (clockOf s .windows) in
-    accepted-fits _ _ (omega (arith, taken, chained-few s, length-windows (kindIn s) (seenIn s) (chainedIn s) (registerIn (chainedIn s) s)))
+    let taken = count-along-most (λ r own. takes (commandIn (clockOf s .head)) own r) (rows recordSize (monitors table) table) (clockOf s .windows) in
+    accepted-fits _ _ (omega (arith, taken, few, length-rows recordSize (monitors table) table))
     (omega (arith, few, reply-short (commandIn (clockOf s .head)) (monitors table))))
 
 -- ---- a load
@@ -144,7 +141,7 @@ load-fits Done = accepted-fits 0 0 (omega arith) (omega arith)
 
 long : (c : Command) (n : ℕ) → frameLength c n ≤ 4 + payloadSize * n
 long (Reads part) n = omega arith
-long (Writes c) n = omega arith
+long (Writes c) n = omega (arith, mul-le-mul-right n (width-most (Writes c)))
 long (Bares c) n = omega arith
 long Unlisted n = omega arith
 
@@ -154,6 +151,18 @@ built-fits code n values room =
     by-passing (λ x. Fit (builtParts x)) (buildRefusals code n values room) Unbuilt _ refused-fits
     (λ none. let few = leb-true n mostMonitors (both (leb 1 n) (leb n mostMonitors) (not-false _ (none .1 .0)) .1) in
     accepted-fits 0 _ (omega arith) (omega (arith, few, long (commandOf code commands) n)))
+
+-- a verdict on bytes
+pub verdict-fits : (bytes : List ℕ) (late : Bool) → ((k : ℕ) → getD bytes k 0 < 256) → Fit (verdictParts (verdict bytes late))
+unfolding verdict verdictOf countIn flagsIn
+verdict-fits bytes late small =
+    by-passing (λ x. Fit (verdictParts x)) (verdictRefusals bytes late) Unjudged _ refused-fits (λ none. each late (messageRight bytes) (isPass (getD bytes 4 0) (getD bytes 5 0)))
+  where
+    each : (l r p : Bool) → Fit (verdictParts (cond l TimedOut (cond (not r) Damaged (cond p Passed (Failed (getD bytes 4 0) (getD bytes 5 0))))))
+    each true r p = accepted-fits 4 0 (omega arith) (omega arith)
+    each false false p = accepted-fits 3 0 (omega arith) (omega arith)
+    each false true true = accepted-fits 1 0 (omega arith) (omega arith)
+    each false true false = accepted-fits 2 (256 * getD bytes 4 0 + getD bytes 5 0) (omega arith) (omega (arith, small 4, small 5))
 
 pub checked-fits : (c : Checked) → Fit (checkedParts c)
 checked-fits (Unchecked r) = refused-fits r
@@ -171,13 +180,13 @@ port-fits a b n k = by (portOf a b n k) refl
 
 -- ---- a look
 
--- a window has at most a payload's bytes
-short : (kind : Kind) (seen n k : ℕ) (s : List ℕ) → k < n → length (getD (windowsIn kind seen n (registerIn n s)) k []) ≤ payloadSize
-short Fills seen n k s h =
-    let size = come seen k in
-    omega (arith, ap length (fills-at seen n k s h) ∙ length-take size (drop (windowsAt + payloadSize * (n - k) - size) s))
-short Drains seen n k s h = omega (arith, ap length (drains-at seen n k s h) ∙ length-take payloadSize (drop (windowsAt + payloadSize * k) s))
-short Still seen n k s h = omega (arith, ap length (still-at seen n k (registerIn n s)))
+-- a window has at most a reply's bytes
+short : (kind : Kind) (seen n k : ℕ) (s : List ℕ) → Wide (widthIn kind) → k < n → length (getD (windowsIn kind seen n (registerIn (widthIn kind) n s)) k []) ≤ payloadSize
+short (Fills w) seen n k s wide h =
+    let size = come w seen k in
+    omega (arith, ap length (fills-at w seen n k s h) ∙ length-take size (drop (windowsAt + w * (n - k) - size) s))
+short Drains seen n k s wide h = omega (arith, ap length (drains-at seen n k s h) ∙ length-take payloadSize (drop (windowsAt + payloadSize * k) s))
+short Still seen n k s wide h = omega (arith, ap length (still-at seen n k (registerIn payloadSize n s)))
 
 pub look-fits : (s : List ℕ) (position room : ℕ) → Fit (lookedParts (looked (clockOf s) position room))
 unfolding looked lookRefusals windowOf clockOf
@@ -186,12 +195,12 @@ look-fits s position room =
     (λ none. let there = both (leb 1 position) (leb position (chainedIn s)) (not-false _ (none .0)) in
     let first = leb-true 1 position (there .0) in
     let last = leb-true position (chainedIn s) (there .1) in
-    accepted-fits 0 _ (omega arith) (omega (arith, short (kindIn s) (seenIn s) (chainedIn s) (position - 1) s (omega arith))))
+    accepted-fits 0 _ (omega arith) (omega (arith, short (kindIn s) (seenIn s) (chainedIn s) (position - 1) s (wide-in s) (omega arith))))
 
 -- ---- a byte clocked
 
 -- what leaves is FF, or a byte of the state
-leaves-byte : (n : ℕ) (s : List ℕ) → ((k : ℕ) → getD s k 0 < 256) → getD (registerIn n s) 0 far < 256
+leaves-byte : (n : ℕ) (s : List ℕ) → ((k : ℕ) → getD s k 0 < 256) → getD (registerIn payloadSize n s) 0 far < 256
 unfolding registerIn
 leaves-byte n s bytes = first (payloadSize * n) (drop windowsAt s) (omega (arith, getD-drop windowsAt s 0 0, bytes (windowsAt + 0)))
   where
@@ -207,9 +216,9 @@ byte-fits s bytes = accepted-fits _ 0 (by (ltb (seenIn s) 4) (kindIn s)) (omega 
     n : ℕ
     n = chainedIn s
 
-    by : (early : Bool) (kind : Kind) → cond early far (leaving kind (windowsIn kind (seenIn s) n (registerIn n s))) < 256
+    by : (early : Bool) (kind : Kind) → cond early far (leaving kind (windowsIn kind (seenIn s) n (registerIn (widthIn kind) n s))) < 256
     by true kind = omega arith
-    by false Fills = omega arith
+    by false (Fills w) = omega arith
     by false Drains = subst⁻¹ (λ (x : ℕ). x < 256) (leaves-first (seenIn s) n s) (leaves-byte n s bytes)
     by false Still = omega arith
 

@@ -24,6 +24,8 @@ use Rattle.ports.specs.declared.checks.Checked.the-variants.{Unchecked, Right, 
 use Rattle.ports.specs.declared.ports.Port.{Port}
 use Rattle.ports.specs.declared.ports.Port.the-variants.{Refused as Unported, A, B}
 use Rattle.ports.specs.Ports.{placeA, placeB}
+use Rattle.messages.specs.declared.verdicts.Verdict.{Verdict}
+use Rattle.messages.specs.declared.verdicts.Verdict.the-variants.{Refused as Unjudged, Passed, Failed, Damaged, TimedOut}
 
 -- ---- the packing
 
@@ -90,6 +92,14 @@ portParts n k B = accepted 2 (placeB n k * payloadSize)
 abbrev pub pointed : Parts → List ℕ → List ℕ → List ℕ
 pointed p a b =
     cond (eqb (p .first) 1) (take payloadSize (drop (p .second) a)) (cond (eqb (p .first) 2) (take payloadSize (drop (p .second) b)) [])
+
+-- the host's verdict on a heartbeat: 1 passed, 2 failed, with 256 times the count and the flags, 3 damaged, 4 timed out
+abbrev pub verdictParts : Verdict → Parts
+verdictParts (Unjudged r) = refused r
+verdictParts Passed = accepted 1 0
+verdictParts (Failed count flags) = accepted 2 (256 * count + flags)
+verdictParts Damaged = accepted 3 0
+verdictParts TimedOut = accepted 4 0
 
 -- a look at a window: how many bytes it holds
 abbrev pub lookedParts : Looked → Parts

@@ -6,6 +6,7 @@ mod discharges;
 mod frames;
 mod hosts;
 mod packing;
+mod verdicts;
 mod volts;
 
 pub use cells::osk_compare;
@@ -20,6 +21,7 @@ pub use frames::osk_frame;
 pub use hosts::osk_check;
 pub use hosts::osk_host_frame;
 pub use hosts::osk_two_ports;
+pub use verdicts::osk_verdict;
 pub use volts::osk_microvolts;
 pub use volts::osk_summary;
 pub use volts::osk_volts;

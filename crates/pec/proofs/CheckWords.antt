@@ -13,7 +13,7 @@ use lib.Seq.{take-at, getD-append-add, getD-append-seam}
 use borrow.Author.Tests.{eq-eqb, ne-eqb, eqb-true}
 use Rattle.laws.specs.Bits.{odd, bitsOf, bitsOfBytes}
 use Rattle.laws.proofs.Bits.{bits-mod}
-use Rattle.pec.specs.Words.{twoBytes, wordAt, polynomial15, polynomial10, pec15, commandCheck, commandRight, dataPec, seal, counterOf, payloadRight}
+use Rattle.pec.specs.Words.{twoBytes, wordAt, polynomial15, polynomial10, pec15, commandCheck, commandRight, dataPec, seal, counterOf, sealedRight, payloadRight}
 use Rattle.pec.specs.Remainder.{remainder}
 use Rattle.pec.proofs.Remainder.{remainder-below}
 
@@ -64,27 +64,38 @@ command-check-right code =
     two : length (twoBytes code) ≡ 2
     two = length-two [] code
 
-module _ (six : List ℕ) (counter : ℕ) (h : length six ≡ 6) where
+-- d bytes and the two that seal them
+module _ (own : List ℕ) (counter d : ℕ) (h : length own ≡ d) where
   sent : ℕ
-  sent = counter % 64 * 1024 + dataPec six counter
+  sent = counter % 64 * 1024 + dataPec own counter
 
-  word : wordAt (six ++ seal six counter) 6 ≡ sent
+  word : wordAt (own ++ seal own counter) d ≡ sent
   unfolding seal sent
-  word = ap (wordAt (six ++ twoBytes sent)) (sym h) ∙ word-after six sent
+  word = ap (wordAt (own ++ twoBytes sent)) (sym h) ∙ word-after own sent
 
-  pub seal-counter : counterOf (six ++ seal six counter) ≡ counter % 64
-  unfolding counterOf sent
-  seal-counter = ap (λ (n : ℕ). n / 1024) word ∙ digits-div (counter % 64) (dataPec-below six counter)
-
-  check : wordAt (six ++ seal six counter) 6 % 1024 ≡ dataPec six counter
+  counted : wordAt (own ++ seal own counter) d / 1024 ≡ counter % 64
   unfolding sent
-  check = ap (λ (n : ℕ). n % 1024) word ∙ digits-mod (counter % 64) (dataPec-below six counter)
+  counted = ap (λ (n : ℕ). n / 1024) word ∙ digits-div (counter % 64) (dataPec-below own counter)
+
+  check : wordAt (own ++ seal own counter) d % 1024 ≡ dataPec own counter
+  unfolding sent
+  check = ap (λ (n : ℕ). n % 1024) word ∙ digits-mod (counter % 64) (dataPec-below own counter)
+
+  pub own-right : sealedRight d (own ++ seal own counter) ≡ true
+  unfolding sealedRight seal sent
+  own-right =
+      ap₂ _&&_ (eq-eqb _ (d + 2) (length-two own sent ∙ ap (λ (n : ℕ). n + 2) h))
+      (eq-eqb _ _ (check ∙ sym (ap₂ dataPec (take-at own (seal own counter) d h) counted ∙ counter-bits own counter)))
+
+-- of six bytes
+module _ (six : List ℕ) (counter : ℕ) (h : length six ≡ 6) where
+  pub seal-counter : counterOf (six ++ seal six counter) ≡ counter % 64
+  unfolding counterOf
+  seal-counter = counted six counter 6 h
 
   pub seal-right : payloadRight (six ++ seal six counter) ≡ true
-  unfolding payloadRight seal sent
-  seal-right =
-      ap₂ _&&_ (eq-eqb _ 8 (length-two six sent ∙ ap (λ (n : ℕ). n + 2) h))
-      (eq-eqb _ _ (check ∙ sym (ap₂ dataPec (take-at six (seal six counter) 6 h) seal-counter ∙ counter-bits six counter)))
+  unfolding payloadRight
+  seal-right = own-right six counter 6 h
 
 -- ---- a 1 in the last place
 

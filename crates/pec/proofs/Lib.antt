@@ -5,5 +5,6 @@ pub mod Bursts
 pub mod ByShifts
 pub mod Messages
 pub mod CheckWords
+pub mod Lead
 pub mod Right
 pub mod Spikes

@@ -1,5 +1,5 @@
--- What is right leaves nothing: a byte string that ends with its own check, as a payload and a command do, leaves the remainder 0, check
--- and all. Of a payload, and of any number of bytes sealed as one is, nothing is left exactly then.
+-- What is right leaves nothing: a byte string that ends with its own check, as sealed bytes and a command do, leaves the remainder 0, check
+-- and all. Of any number of bytes and their seal nothing is left exactly then.
 -- Assumes nothing.
 use mathlib.Core.Path.{_≡_, sym, ap, _∙_}
 use mathlib.Core.Bool.{Bool, true}
@@ -16,7 +16,7 @@ use Rattle.laws.proofs.Bits.{bits-of-zero}
 use Rattle.laws.proofs.Numbers.{bits-join, bits-of-string}
 use Rattle.laws.proofs.Tests.{both-first, both-second}
 use Rattle.pec.specs.Remainder.{remainder}
-use Rattle.pec.specs.Words.{wordAt, polynomial15, pec15, commandRight, polynomial10, dataPec, counterOf, payloadRight}
+use Rattle.pec.specs.Words.{wordAt, polynomial15, pec15, commandRight, polynomial10, dataPec, sealedRight}
 use Rattle.pec.proofs.Remainder.{remainder-append}
 use Rattle.pec.proofs.ManyBits.{own-bits, remainder-of-zeros}
 use Rattle.pec.proofs.Undone.{nothing-left}
@@ -65,13 +65,13 @@ module _ (bytes : List ℕ) (h : Bytes bytes) (d : ℕ) (e : length bytes ≡ d 
       ∙ ap (remainder 15 polynomial15 0) (bits-of-zero 1)
       ∙ remainder-of-zeros 15 polynomial15 1
 
--- ---- a payload, and a command
+-- ---- sealed bytes, and a command
 
-pub payload-left : (eight : List ℕ) → Bytes eight → payloadRight eight ≡ true → remainder 10 polynomial10 16 (bitsOfBytes eight) ≡ 0
-unfolding payloadRight counterOf
-payload-left eight h right =
-    let long : length eight ≡ 8 = eqb-true (length eight) 8 (both-first (eqb (length eight) 8) _ right) in
-    eqb-true _ 0 (sealed-left eight h 6 long ∙ both-second (eqb (length eight) 8) _ right)
+pub payload-left : (d : ℕ) (own : List ℕ) → Bytes own → sealedRight d own ≡ true → remainder 10 polynomial10 16 (bitsOfBytes own) ≡ 0
+unfolding sealedRight
+payload-left d own h right =
+    let long : length own ≡ d + 2 = eqb-true (length own) (d + 2) (both-first (eqb (length own) (d + 2)) _ right) in
+    eqb-true _ 0 (sealed-left own h d long ∙ both-second (eqb (length own) (d + 2)) _ right)
 
 pub command-left : (four : List ℕ) → Bytes four → commandRight four ≡ true → remainder 15 polynomial15 16 (bitsOfBytes four) ≡ 0
 unfolding commandRight

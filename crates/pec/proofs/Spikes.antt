@@ -1,5 +1,5 @@
 -- What a spike does to a part of a byte string, and what the check words see of it. What lies of a spike in a part of the string is a spike
--- of no more places. A payload is told by its ten bits, a command by its fifteen: the widths stand here, and the law is that of bursts.
+-- of no more places. Sealed bytes are told by their ten bits, a command by its fifteen: the widths stand here, and the law is that of bursts.
 -- Assumes nothing.
 use mathlib.Core.Path.{_≡_, refl, sym, ap, _∙_}
 use mathlib.Core.Bool.{Bool, true, false}
@@ -12,7 +12,7 @@ use lib.ListN.{length, getD, take, drop, length-take, length-drop, List·getD-eq
 use lib.Seq.{getD-take, getD-drop}
 use Rattle.laws.specs.Bits.{bitsOfBytes, Bytes}
 use Rattle.laws.proofs.BitStrings.{length-bits-of-bytes, bits-take, bits-drop, bytes-told}
-use Rattle.pec.specs.Words.{polynomial15, commandRight, polynomial10, payloadRight}
+use Rattle.pec.specs.Words.{polynomial15, commandRight, polynomial10, sealedRight, payloadRight}
 use Rattle.pec.specs.Spikes.{Burst, Spike}
 use Rattle.pec.proofs.CheckWords.{ends-10, ends-15}
 use Rattle.pec.proofs.Messages.{bytes-of-take, bytes-of-drop}
@@ -129,10 +129,15 @@ fails true h = absurd (h refl)
 fails false h = refl
 
 module _ {sent came : List ℕ} where
+  pub sealed-hit : (d : ℕ) → Spike 10 sent came → sealedRight d sent ≡ true → sealedRight d came ≡ false
+  sealed-hit d s right =
+      fails (sealedRight d came)
+      (λ still. burst-seen 10 polynomial10 16 ends-10 (lit< tt) (s .burst) (payload-left d came (s .came-bytes) still ∙ sym (payload-left d sent (s .sent-bytes) right)))
+
+  -- of six bytes
   pub payload-hit : Spike 10 sent came → payloadRight sent ≡ true → payloadRight came ≡ false
-  payload-hit s right =
-      fails (payloadRight came)
-      (λ still. burst-seen 10 polynomial10 16 ends-10 (lit< tt) (s .burst) (payload-left came (s .came-bytes) still ∙ sym (payload-left sent (s .sent-bytes) right)))
+  unfolding payloadRight
+  payload-hit = sealed-hit 6
 
   pub command-hit : Spike 15 sent came → commandRight sent ≡ true → commandRight came ≡ false
   command-hit s right =

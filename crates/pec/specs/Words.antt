@@ -55,9 +55,13 @@ seal bytes counter = twoBytes (counter % 64 * 1024 + dataPec bytes counter)
 unfoldable pub counterOf : List ℕ → ℕ
 counterOf eight = wordAt eight 6 / 1024
 
--- a payload is right: its ten last bits are the check of its first six bytes and its six counter bits as they stand
+-- d data bytes and the two that seal them are right: their ten last bits are the check of the d bytes and of the six counter bits as they stand
+unfoldable pub sealedRight : ℕ → List ℕ → Bool
+sealedRight d own = eqb (length own) (d + 2) && eqb (wordAt own d % 1024) (dataPec (take d own) (wordAt own d / 1024))
+
+-- a payload of six bytes is right
 unfoldable pub payloadRight : List ℕ → Bool
-payloadRight eight = eqb (length eight) 8 && eqb (wordAt eight 6 % 1024) (dataPec (take 6 eight) (counterOf eight))
+payloadRight eight = sealedRight 6 eight
 
 -- ---- a payload as one number of 64 bits
 

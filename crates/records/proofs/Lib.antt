@@ -2,5 +2,6 @@ pub mod Anew
 pub mod Making
 pub mod Answers
 pub mod CommandList
+pub mod Widths
 pub mod Parts
-pub mod Snapped
+pub mod Modes

@@ -8,7 +8,7 @@ use mathlib.Core.Logic.{inl, inr}
 use Prim.Native.Nat.{ℕ, zero, suc, _+_, _-_, _≤_, _<_}
 use native.Mathlib.Omega.{arith}
 use lib.Dec.{leb, lit≤}
-use lib.ListN.{length, length-drop, take, drop, getD, set, List·getD-append}
+use lib.ListN.{length, length-drop, take, drop, getD, set, List·getD-append, List·getD-eq-default, length-take}
 use lib.Seq.{ext-getD, getD-take, getD-drop, length-take-le, take-take, drop-drop, take-append-le, drop-append-le, take-set-le, drop-set-lt, drop-set-add}
 use Rattle.laws.proofs.Lists.{drop-take}
 use Rattle.records.specs.declared.record.Part.{Part}
@@ -18,6 +18,10 @@ use Rattle.records.proofs.Anew.{length-anew, anew-below, anew-above, an
 pub byte-of-part : (p : Part) (r : List ℕ) {i : ℕ} → i < p .size → getD (bytesOf p r) i 0 ≡ getD r (p .at + i) 0
 unfolding bytesOf
 byte-of-part p r {i} h = getD-take (p .size) (drop (p .at) r) i 0 h ∙ getD-drop (p .at) r i 0
+
+pub past-part : (p : Part) (r : List ℕ) {i : ℕ} → p .size ≤ i → getD (bytesOf p r) i 0 ≡ 0
+unfolding bytesOf
+past-part p r {i} h = List·getD-eq-default (take (p .size) (drop (p .at) r)) 0 (omega (arith, length-take (p .size) (drop (p .at) r)))
 
 pub length-part : (p : Part) (r : List ℕ) → p .at + p .size ≤ length r → length (bytesOf p r) ≡ p .size
 unfolding bytesOf

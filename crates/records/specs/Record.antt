@@ -1,4 +1,4 @@
--- Document 01, "The table", and document 02, L2 and L6: one monitor's record, its parts by name. Sizes and offsets stand here and nowhere else.
+-- Document 01, "The table", and document 02, L2, L6 and L8: one monitor's record, its parts by name. Sizes and offsets stand here and nowhere else.
 -- Assumes nothing.
 use mathlib.Core.Bool.{Bool, _&&_}
 use mathlib.Core.List.{List}
@@ -57,8 +57,25 @@ pwmB = part 76 6
 abbrev pub snapshot : Part
 snapshot = part 82 32
 
+-- low power cell monitoring (LPCM): its configuration, the thresholds of the cells and of the GPIOs, and the flags CMF0 to CMF5
+abbrev pub lpcmConfiguration : Part
+lpcmConfiguration = part 114 6
+
+abbrev pub lpcmCellThresholds : Part
+lpcmCellThresholds = part 120 6
+
+abbrev pub lpcmGpioThresholds : Part
+lpcmGpioThresholds = part 126 6
+
+abbrev pub lpcmFlags : Part
+lpcmFlags = part 132 6
+
+-- the cells of the last measurement in LPCM
+abbrev pub lastCells : Part
+lastCells = part 138 32
+
 abbrev pub recordSize : ℕ
-recordSize = 114
+recordSize = 170
 
 -- ---- parts of parts
 
@@ -74,6 +91,14 @@ dccBits = part (configurationB .at + 4) 2
 abbrev pub flags : Part
 flags = part (statusD .at) 4
 
+-- CMF0, with a bit for each kind of violation
+abbrev pub cmf0 : Part
+cmf0 = part (lpcmFlags .at) 1
+
+-- CMF1, with CMC_EN at bit 7
+abbrev pub cmf1 : Part
+cmf1 = part (lpcmFlags .at + 1) 1
+
 -- three cells, as the sheet's registers A to E hold them; g counts from 0
 abbrev pub threeCells : ℕ → Part
 threeCells g = part (cells .at + 6 * g) 6
@@ -87,6 +112,10 @@ cell16 = part (cells .at + 30) 2
 unfoldable pub bytesOf : Part → List ℕ → List ℕ
 bytesOf p r = take (p .size) (drop (p .at) r)
 
+-- byte i of a part, and 0 past its end
+unfoldable pub byteIn : Part → List ℕ → ℕ → ℕ
+byteIn p r i = getD (bytesOf p r) i 0
+
 -- the byte of a part that has one
 unfoldable pub byteOf : Part → List ℕ → ℕ
 byteOf p r = getD r (p .at) 0
@@ -94,6 +123,10 @@ byteOf p r = getD r (p .at) 0
 -- SNAP_ST: a snapshot is on
 unfoldable pub snapped : List ℕ → Bool
 snapped r = bitAt 5 (byteOf statusBits r)
+
+-- CMC_EN: the monitor is in LPCM
+unfoldable pub inLpcm : List ℕ → Bool
+inLpcm r = bitAt 7 (byteOf cmf1 r)
 
 -- n bytes from a place on are none of a part's
 abbrev pub Outside : Part → ℕ → ℕ → Type 0

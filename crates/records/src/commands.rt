@@ -1,11 +1,16 @@
 // The list of commands: their codes, and what they do.
 ghost use mathlib.Core.Path.{_≡_};
 ghost use mathlib.Core.Bool.{cond};
+ghost use Prim.Native.Nat.{_≤_};
 ghost use lib.Dec.{leb};
-ghost use Rattle.records.specs.Commands.{commandOf, commands, isListed, mostMonitors, frameLength, replyLength};
+ghost use Rattle.records.specs.Commands.{commandOf, commands, isListed, mostMonitors, dataSize, payloadSize, widthOf, frameLength, replyLength};
 use crate::record::Part;
 use crate::record::RDCFGA;
 use crate::record::RDCFGB;
+use crate::record::RDCMCELLT;
+use crate::record::RDCMCFG;
+use crate::record::RDCMFLAG;
+use crate::record::RDCMGPIOT;
 use crate::record::RDCVA;
 use crate::record::RDCVB;
 use crate::record::RDCVC;
@@ -27,6 +32,10 @@ pub enum Write {
     Clovuv,
     Wrpwma,
     Wrpwmb,
+    Wrcmcfg,
+    Wrcmcellt,
+    Wrcmgpiot,
+    Clrcmflag,
 }
 
 pub enum Bare {
@@ -37,6 +46,8 @@ pub enum Bare {
     Clrcell,
     Snap,
     Unsnap,
+    Cmen,
+    Cmdis,
 }
 
 pub enum Command {
@@ -67,6 +78,10 @@ pub fn command_of(code: u16) -> Command
         0x003a => Command::Reads(RDRR),
         0x0022 => Command::Reads(RDPWMA),
         0x0023 => Command::Reads(RDPWMB),
+        0x0059 => Command::Reads(RDCMCFG),
+        0x005b => Command::Reads(RDCMCELLT),
+        0x005d => Command::Reads(RDCMGPIOT),
+        0x005f => Command::Reads(RDCMFLAG),
         0x0001 => Command::Writes(Write::Wrcfga),
         0x0024 => Command::Writes(Write::Wrcfgb),
         0x0039 => Command::Writes(Write::Wrrr),
@@ -74,6 +89,10 @@ pub fn command_of(code: u16) -> Command
         0x0715 => Command::Writes(Write::Clovuv),
         0x0020 => Command::Writes(Write::Wrpwma),
         0x0021 => Command::Writes(Write::Wrpwmb),
+        0x0058 => Command::Writes(Write::Wrcmcfg),
+        0x005a => Command::Writes(Write::Wrcmcellt),
+        0x005c => Command::Writes(Write::Wrcmgpiot),
+        0x005e => Command::Writes(Write::Clrcmflag),
         0x0028 => Command::Bares(Bare::Mute),
         0x0029 => Command::Bares(Bare::Unmute),
         0x002e => Command::Bares(Bare::Rstcc),
@@ -81,6 +100,8 @@ pub fn command_of(code: u16) -> Command
         0x0711 => Command::Bares(Bare::Clrcell),
         0x002d => Command::Bares(Bare::Snap),
         0x002f => Command::Bares(Bare::Unsnap),
+        0x0041 => Command::Bares(Bare::Cmen),
+        0x0040 => Command::Bares(Bare::Cmdis),
         _ => Command::Unlisted,
     }
 }
@@ -97,8 +118,47 @@ pub fn is_listed(command: Command) -> bool
 }
 
 pub const MOST_MONITORS: usize = 32;
-// The bytes of a payload or a reply of one monitor.
+// The bytes of one monitor's reply: six of data, and their seal.
 pub const PAYLOAD_SIZE: usize = 8;
+
+// The two bytes that seal data: the counter, and the check.
+pub const SEAL_SIZE: usize = 2;
+
+// The data bytes that a write sends to each monitor.
+pub fn data_size(what: Write) -> usize
+    ensures { λ r. ⌜ r ≡ dataSize what ⌝ }
+    ensures { λ r. ⌜ r ≤ 6 ⌝ }
+{
+    match what {
+        Write::Wrcfga => 6,
+        Write::Wrcfgb => 6,
+        Write::Wrrr => 6,
+        Write::Clrflag => 6,
+        Write::Clovuv => 6,
+        Write::Wrpwma => 6,
+        Write::Wrpwmb => 6,
+        Write::Wrcmcfg => 6,
+        Write::Wrcmcellt => 6,
+        Write::Wrcmgpiot => 6,
+        Write::Clrcmflag => 2,
+    }
+}
+
+// The bytes of each monitor in a frame, and of its window.
+pub fn width_of(command: Command) -> usize
+    ensures { λ r. ⌜ r ≡ widthOf command ⌝ }
+    ensures { λ r. ⌜ r ≤ payloadSize ⌝ }
+{
+    match command {
+        Command::Reads(_) => PAYLOAD_SIZE,
+        Command::Writes(what) => {
+            let data = data_size(what);
+            data + SEAL_SIZE
+        }
+        Command::Bares(_) => PAYLOAD_SIZE,
+        Command::Unlisted => PAYLOAD_SIZE,
+    }
+}
 
 // The length of the frame of a command for n monitors, and 0 for more monitors than a chain has.
 pub fn frame_length(command: Command, n: usize) -> usize
@@ -109,7 +169,10 @@ pub fn frame_length(command: Command, n: usize) -> usize
     }
     match command {
         Command::Reads(_) => 4 + PAYLOAD_SIZE * n,
-        Command::Writes(_) => 4 + PAYLOAD_SIZE * n,
+        Command::Writes(_) => {
+            let width = width_of(command);
+            4 + width * n
+        }
         Command::Bares(_) => 4,
         Command::Unlisted => 4,
     }

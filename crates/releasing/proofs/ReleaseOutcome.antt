@@ -3,11 +3,10 @@
 use mathlib.Core.Path.{_≡_, sym, ap, _∙_}
 use mathlib.Core.List.{List}
 use Prim.Native.Nat.{ℕ}
-use Rattle.laws.specs.Counts.{count}
 use Rattle.laws.specs.Rows.{rows, joined, along}
 use Rattle.refusals.proofs.Deciding.{decide-map}
 use Rattle.records.specs.Record.{recordSize}
-use Rattle.monitor.specs.Effects.{takes, keeps}
+use Rattle.monitor.specs.Effects.{keeps}
 use Rattle.records.specs.Commands.{replyLength}
 use Rattle.chain.specs.declared.frames.Answer.{Answer}
 use Rattle.chain.specs.declared.frames.Answer.the-variants.{Refused, Accepted}
@@ -15,6 +14,7 @@ use Rattle.judging.specs.Table.{monitors}
 use Rattle.judging.specs.Refusals.{commandIn}
 use Rattle.judging.specs.declared.heads.Judged.{Judged}
 use Rattle.judging.specs.declared.heads.Judged.the-variants.{Bad, Good}
+use Rattle.serving.specs.Served.{takers}
 use Rattle.clocking.specs.Clock.{Clock}
 use Rattle.releasing.specs.Release.{releaseRefusals, takenOf, keptOf, released, tableReleased}
 use Rattle.releasing.specs.Judged.{judged}
@@ -22,7 +22,7 @@ use Rattle.releasing.specs.Judged.{judged}
 module _ (c : Clock) (table : List ℕ) where
   abbrev to-answer : Judged → Answer
   to-answer (Bad r) = Refused r
-  to-answer (Good command n) = Accepted (count (takes command) (c .windows)) (replyLength command n)
+  to-answer (Good command n) = Accepted (takers command (rows recordSize n table) (c .windows)) (replyLength command n)
 
   abbrev to-table : Judged → List ℕ
   to-table (Bad r) = table

@@ -5,17 +5,17 @@ use mathlib.Core.Bool.{Bool, not, _&&_, _||_}
 use mathlib.Core.List.{List, [], _∷_}
 use Prim.Native.Nat.{ℕ}
 use lib.Dec.{eqb, leb}
-use Rattle.laws.specs.Counts.{count}
 use Rattle.laws.specs.Rows.{rows, joined, along}
 use Rattle.refusals.specs.declared.Refusal.the-variants.{TableNotSound}
 use Rattle.refusals.specs.Order.{Row, _gives_, decide}
 use Rattle.records.specs.Record.{recordSize}
-use Rattle.monitor.specs.Effects.{takes, keeps}
+use Rattle.monitor.specs.Effects.{keeps}
 use Rattle.records.specs.Commands.{replyLength}
 use Rattle.chain.specs.declared.frames.Answer.{Answer}
 use Rattle.chain.specs.declared.frames.Answer.the-variants.{Refused, Accepted}
 use Rattle.judging.specs.Table.{monitors, sound}
 use Rattle.judging.specs.Refusals.{commandIn, shortRow, commandRow, listedRow, lengthRow}
+use Rattle.serving.specs.Served.{takers}
 use Rattle.clocking.specs.Clock.{Clock}
 
 -- at byte four the count was another than n; it was 0 where the table was not sound
@@ -35,16 +35,16 @@ releaseRefusals c table =
     ∷ lengthRow (c .seen) (commandIn (c .head)) (monitors table)
     ∷ []
 
--- how many monitors took the frame, by their own windows
-unfoldable pub takenOf : Clock → ℕ
-takenOf c = count (takes (commandIn (c .head))) (c .windows)
+-- how many monitors took the frame, each by its own record and its own window
+unfoldable pub takenOf : Clock → List ℕ → ℕ
+takenOf c table = takers (commandIn (c .head)) (rows recordSize (monitors table) table) (c .windows)
 
 -- what each monitor keeps of the command, its own record and its own window
 unfoldable pub keptOf : Clock → List ℕ → List ℕ
 keptOf c table = joined (along (λ r window. keeps (commandIn (c .head)) window r) (rows recordSize (monitors table) table) (c .windows))
 
 unfoldable pub released : Clock → List ℕ → Answer
-released c table = decide (releaseRefusals c table) Refused (Accepted (takenOf c) (replyLength (commandIn (c .head)) (monitors table)))
+released c table = decide (releaseRefusals c table) Refused (Accepted (takenOf c table) (replyLength (commandIn (c .head)) (monitors table)))
 
 unfoldable pub tableReleased : Clock → List ℕ → List ℕ
 tableReleased c table = decide (releaseRefusals c table) (λ r. table) (keptOf c table)

@@ -22,21 +22,17 @@ pub enum Looked {
     Holds(usize),
 }
 
-// How many of a write's bytes the window at k, counted from 0, holds: the nearest fill first.
-fn held_by(seen: usize, k: usize) -> usize
-    requires { ⌜ k < mostMonitors ⌝ }
-    ensures { λ r. ⌜ r ≡ min payloadSize (seen - 4 - k * payloadSize) ⌝ }
+// How many of a write's bytes the window of so many bytes at k, counted from 0, holds: the nearest fill first.
+fn held_by(seen: usize, k: usize, width: usize) -> usize
+    requires { ⌜ (k < mostMonitors) × (width ≤ payloadSize) ⌝ }
+    ensures { λ r. ⌜ r ≡ min width (seen - 4 - k * width) ⌝ }
 {
-    let before = 4 + PAYLOAD_SIZE * k;
+    let before = 4 + width * k;
     if seen <= before {
         return 0;
     }
     let came = seen - before;
-    if came < PAYLOAD_SIZE {
-        came
-    } else {
-        PAYLOAD_SIZE
-    }
+    if came < width { came } else { width }
 }
 
 // The window at k, counted from 0, oldest byte first.
@@ -45,9 +41,9 @@ pub(crate) fn window_in(state: &[u8], n: usize, k: usize) -> &[u8]
     ensures { λ r. ⌜ now r ≡ getD (clockOf (now (state .entry)) .windows) k [] ⌝ }
 {
     match kind_in(state) {
-        Kind::Fills => {
-            let end = WINDOWS + PAYLOAD_SIZE * (n - k);
-            let at = end - held_by(seen_in(state), k);
+        Kind::Fills(width) => {
+            let end = WINDOWS + width * (n - k);
+            let at = end - held_by(seen_in(state), k, width);
             &state[at..end]
         }
         Kind::Drains => {

@@ -2,11 +2,11 @@
 ghost use mathlib.Core.Path.{_≡_};
 ghost use Prim.Native.Nat.{_*_, _≤_};
 ghost use lib.ListN.{length};
-ghost use Rattle.laws.specs.Counts.{count};
 ghost use Rattle.laws.specs.Rows.{rows, joined, along};
 ghost use Rattle.records.specs.Record.{recordSize};
 ghost use Rattle.records.specs.Commands.{mostMonitors};
-ghost use Rattle.monitor.specs.Effects.{takes, keeps};
+ghost use Rattle.monitor.specs.Effects.{keeps};
+ghost use Rattle.serving.specs.Served.{takers};
 ghost use Rattle.releasing.specs.Judged.{judged};
 ghost use Rattle.releasing.specs.Release.{anotherCount, released, tableReleased};
 ghost use Rattle.clock_state.specs.State.{chainedIn, idle};
@@ -48,7 +48,7 @@ pub fn judge(state: &[u8; STATE_SIZE], table: &[u8]) -> Judged
 // Every monitor acts on its own window, and those that took the command are counted.
 fn act_all(table: &mut [u8], command: Command, state: &[u8; STATE_SIZE], n: usize) -> usize
     requires { ⌜ (length (now table) ≡ n * recordSize) × (n ≡ chainedIn (now state)) × (n ≤ mostMonitors) ⌝ }
-    ensures { λ r. ⌜ r ≡ count (takes command) (clockOf (now (state .entry)) .windows) ⌝ }
+    ensures { λ r. ⌜ r ≡ takers command (rows recordSize n (now (table .entry))) (clockOf (now (state .entry)) .windows) ⌝ }
     ensures { λ _. ⌜ now (table .exit) ≡ joined (along (λ r window. keeps command window r) (rows recordSize n (now (table .entry))) (clockOf (now (state .entry)) .windows)) ⌝ }
 {
     let mut taken = 0;

@@ -22,33 +22,33 @@ use Rattle.serving.proofs.OwnPayload.{length-payloadsIn}
 
 module _ (c : Command) where
   abbrev pub act : List ℕ → List ℕ → List ℕ
-  act r eight = keeps c eight r
+  act r own = keeps c own r
 
-  every-act : (rs eights : List (List ℕ)) → Every recordSize rs → Every recordSize (along act rs eights)
+  every-act : (rs owns : List (List ℕ)) → Every recordSize rs → Every recordSize (along act rs owns)
   unfolding along
-  every-act [] eights e = tt
+  every-act [] owns e = tt
   every-act (r ∷ rs) [] e = tt
-  every-act (r ∷ rs) (eight ∷ eights) e = (length-keeps c eight r ∙ e .0, every-act rs eights (e .1))
+  every-act (r ∷ rs) (own ∷ owns) e = (length-keeps c own r ∙ e .0, every-act rs owns (e .1))
 
-  all-act : (rs eights : List (List ℕ)) → Every recordSize rs → all recordSound rs ≡ true → all recordSound (along act rs eights) ≡ true
+  all-act : (rs owns : List (List ℕ)) → Every recordSize rs → all recordSound rs ≡ true → all recordSound (along act rs owns) ≡ true
   unfolding along all
-  all-act [] eights e h = refl
+  all-act [] owns e h = refl
   all-act (r ∷ rs) [] e h = refl
-  all-act (r ∷ rs) (eight ∷ eights) e h =
+  all-act (r ∷ rs) (own ∷ owns) e h =
       let two = both (recordSound r) (all recordSound rs) h in
-      ap₂ _&&_ (sound-keeps c eight r (e .0) (two .0)) (all-act rs eights (e .1) (two .1))
+      ap₂ _&&_ (sound-keeps c own r (e .0) (two .0)) (all-act rs owns (e .1) (two .1))
 
   module _ (n : ℕ) (table frame : List ℕ) (fits : n * recordSize ≤ length table) where
     abbrev pub acted : List (List ℕ)
-    acted = along act (rows recordSize n table) (payloadsIn frame n)
+    acted = along act (rows recordSize n table) (payloadsIn c frame n)
 
     pub length-acted : length acted ≡ n
     length-acted =
-        length-along act (rows recordSize n table) (payloadsIn frame n) (length-rows recordSize n table ∙ sym (length-payloadsIn c n table frame))
+        length-along act (rows recordSize n table) (payloadsIn c frame n) (length-rows recordSize n table ∙ sym (length-payloadsIn c n table frame))
         ∙ length-rows recordSize n table
 
     pub every-acted : Every recordSize acted
-    every-acted = every-act (rows recordSize n table) (payloadsIn frame n) (every-rows recordSize n table fits)
+    every-acted = every-act (rows recordSize n table) (payloadsIn c frame n) (every-rows recordSize n table fits)
 
     pub length-kept : length (kept c n table frame) ≡ n * recordSize
     unfolding kept
@@ -59,7 +59,7 @@ module _ (c : Command) where
     rows-kept = ap (λ (m : ℕ). rows recordSize m (joined acted)) (sym length-acted) ∙ rows-joined recordSize acted every-acted
 
     all-kept : all recordSound (rows recordSize n table) ≡ true → all recordSound (rows recordSize n (kept c n table frame)) ≡ true
-    all-kept h = ap (all recordSound) rows-kept ∙ all-act (rows recordSize n table) (payloadsIn frame n) (every-rows recordSize n table fits) h
+    all-kept h = ap (all recordSound) rows-kept ∙ all-act (rows recordSize n table) (payloadsIn c frame n) (every-rows recordSize n table fits) h
 
   pub kept-keeps : (table frame : List ℕ) → sound table ≡ true → Keeps table (kept c (monitors table) table frame)
   kept-keeps table frame s =

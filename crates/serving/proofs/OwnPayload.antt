@@ -7,15 +7,15 @@ use lib.ListN.{length, drop, getD}
 use Rattle.laws.specs.Rows.{rowAt}
 use Rattle.wire.proofs.Order.{length-writePayloads, write-at}
 use Rattle.records.specs.declared.commands.Command.{Command}
-use Rattle.records.specs.Commands.{payloadSize}
+use Rattle.records.specs.Commands.{widthOf}
 use Rattle.serving.specs.Served.{payloadsIn}
 
 module _ (c : Command) (n : ℕ) (table frame : List ℕ) where
-  -- the own eight bytes of the monitor at k
-  pub own : (k : ℕ) → k < n → getD (payloadsIn frame n) k [] ≡ rowAt payloadSize (n - suc k) (drop 4 frame)
+  -- the own bytes of the monitor at k
+  pub own-bytes : (k : ℕ) → k < n → getD (payloadsIn c frame n) k [] ≡ rowAt (widthOf c) (n - suc k) (drop 4 frame)
   unfolding payloadsIn
-  own k h = write-at payloadSize n (drop 4 frame) k [] h
+  own-bytes k h = write-at (widthOf c) n (drop 4 frame) k [] h
 
-  pub length-payloadsIn : length (payloadsIn frame n) ≡ n
+  pub length-payloadsIn : length (payloadsIn c frame n) ≡ n
   unfolding payloadsIn
-  length-payloadsIn = length-writePayloads payloadSize n (drop 4 frame)
+  length-payloadsIn = length-writePayloads (widthOf c) n (drop 4 frame)

@@ -1,4 +1,4 @@
-// Every monitor of a table acts on its own eight bytes, with no frame judged.
+// Every monitor of a table acts on its own bytes, with no frame judged.
 mod served;
 
 pub use served::serve;

@@ -1,5 +1,6 @@
 // The chain of two monitors, our host's frames for it, and what comes of a frame.
 use chain::Answer;
+use records::CMF1;
 use records::COUNTER;
 use records::RECORD_SIZE;
 use records::UNLOCKED;
@@ -22,8 +23,8 @@ const LENGTH: usize = TABLE_SIZE + 18;
 // What a reply buffer holds before.
 const NO_REPLY: u8 = 0xa5;
 
-// Before any frame: but for the counters and the locks no two bytes of the table are the same. Neither monitor is muted, and the retention of
-// both is unlocked, so that a lock is seen.
+// Before any frame: but for the counters, the locks and CMF1 no two bytes of a record are the same, nor two at the same place of both. Neither
+// monitor is muted, neither is in LPCM, in which it would take no write, and the retention of both is unlocked, so that a lock is seen.
 pub(crate) fn start() -> Outcome {
     let mut all = [NO_REPLY; TABLE_SIZE + 19];
     for i in 0..TABLE_SIZE {
@@ -33,6 +34,8 @@ pub(crate) fn start() -> Outcome {
     all[UNLOCKED] = 1;
     all[RECORD_SIZE + COUNTER] = 62;
     all[RECORD_SIZE + UNLOCKED] = 1;
+    all[CMF1] = 0x7f;
+    all[RECORD_SIZE + CMF1] = 0x7f;
     all[NUMBER] = 0;
     all[TAKEN] = 0;
     all[LENGTH] = 0;

@@ -1,10 +1,11 @@
 -- What comes of a frame, a store, a compare, a load, a question about the outputs and a host's frame of which no refusal holds: the answer, each monitor's record and reply, and what our
 -- host writes. With no refusal the outcome is the accepted one; it is taken apart by the laws of `chain` and `host`.
 -- Assumes nothing.
-use mathlib.Core.Path.{_≡_, sym, ap, _∙_}
-use mathlib.Core.Bool.{Bool, true, cond}
+use mathlib.Core.Path.{_≡_, refl, sym, ap, _∙_}
+use mathlib.Core.Bool.{Bool, true, not, _&&_}
 use mathlib.Core.List.{List, _++_}
 use Prim.Native.Nat.{ℕ, suc, _-_, _*_, _<_}
+use native.Mathlib.Nat.{mul-comm}
 use native.Mathlib.Omega.{arith}
 use lib.IntN.{ℤ}
 use lib.ListN.{length, take, drop, length-drop}
@@ -12,8 +13,9 @@ use borrow.Author.Tests.{eqb-true, not-false}
 use Rattle.laws.specs.Counts.{count}
 use Rattle.laws.specs.Bits.{Bytes}
 use Rattle.laws.specs.Rows.{rowAt}
+use Rattle.laws.specs.Tables.{tabulate}
 use Rattle.laws.proofs.Rows.{length-row-at}
-use Rattle.pec.specs.Words.{commandRight, payloadRight}
+use Rattle.pec.specs.Words.{commandRight, sealedRight}
 use Rattle.pec.proofs.Messages.{bytes-of-take, bytes-of-drop}
 use Rattle.refusals.specs.declared.Refusal.{Refusal}
 use Rattle.refusals.specs.Order.{Row, decide, Passed}
@@ -24,18 +26,20 @@ use Rattle.records.specs.declared.commands.Command.the-variants.{Reads, Writes,
 use Rattle.records.specs.declared.commands.Write.{Write}
 use Rattle.records.specs.declared.commands.Write.the-variants.{Wrrr}
 use Rattle.records.specs.declared.record.Part.{Part}
-use Rattle.records.specs.Record.{cellCount, recordSize}
-use Rattle.records.specs.Commands.{payloadSize, frameLength, replyLength}
+use Rattle.records.specs.Record.{cellCount, recordSize, inLpcm}
+use Rattle.records.specs.Commands.{dataSize, payloadSize, widthOf, frameLength, replyLength}
 use Rattle.writes.proofs.Written.{needs-but-wrrr}
-use Rattle.monitor.specs.Effects.{keeps}
+use Rattle.monitor.specs.Effects.{accepts, keeps}
+use Rattle.monitor.proofs.Keeping.{good-checked}
 use Rattle.reads.specs.Reply.{reply}
 use Rattle.chain.specs.declared.frames.Answer.the-variants.{Refused, Accepted}
 use Rattle.judging.specs.Table.{monitors, sound, changedAt}
 use Rattle.judging.specs.Refusals.{commandIn}
-use Rattle.serving.specs.Served.{payloadsIn, takenBy, kept}
+use Rattle.serving.specs.Served.{Awake, awakeOf, payloadsIn, takenBy, kept}
 use Rattle.replying.specs.Replied.{replied}
 use Rattle.chain.specs.Frame.{frameRefusals, answer, tableAfter, replyAfter}
 use Rattle.serving.proofs.OwnRecord.{own-record}
+use Rattle.serving.proofs.Taken.{taken-read, taken-bare, taken-checked, taken-unchecked, taken-places}
 use Rattle.replying.proofs.OwnReply.{own-reply, past-reply}
 use Rattle.judging.proofs.Keeps.{Keeps}
 use Rattle.judging.proofs.Lent.{lent-length}
@@ -56,9 +60,7 @@ use Rattle.host.specs.declared.frames.Built.the-variants.{Unbuilt, Length}
 use Rattle.host.specs.Frames.{frameFor, buildRefusals, built, bufferAfter}
 use Rattle.host.proofs.FrameFor.{length-frame}
 use Rattle.story.specs.Numbers.{First}
-use Rattle.story.specs.Runs.{takers}
 use Rattle.story.proofs.Numbers.{first-refuses}
-use Rattle.story.proofs.Runs.{same-takers}
 
 -- ---- a frame
 
@@ -87,55 +89,63 @@ module _ (table frame : List ℕ) (room : ℕ) (none : Passed (frameRefusals tab
   frame-whole its =
       eqb-true (length frame) (frameLength (commandIn frame) n) (not-false _ (none .1 .1 .1 .1 .0)) ∙ ap (λ (x : Command). frameLength x n) its
 
-  answer-by : {c : Command} → commandIn frame ≡ c → answer table frame room ≡ Accepted (takers c n frame) (replyLength c n)
+  answer-by : {c : Command} → commandIn frame ≡ c → answer table frame room ≡ Accepted (takenBy c n table frame) (replyLength c n)
   unfolding answer
-  answer-by {c} its =
+  answer-by its =
       passes (frameRefusals table frame room) Refused _ none
-      ∙ ap (λ (x : Command). Accepted (takenBy x n frame) (replyLength x n)) its
-      ∙ ap (λ (taken : ℕ). Accepted taken (replyLength c n)) (same-takers c n frame (frame-whole its))
+      ∙ ap (λ (x : Command). Accepted (takenBy x n table frame) (replyLength x n)) its
 
-  pub write-answer : (c : Write) → (c ≡ Wrrr → ⊥) → commandIn frame ≡ Writes c → answer table frame room ≡ Accepted (count payloadRight (payloadsIn frame n)) 0
-  unfolding takers
+  -- the own bytes of the monitor at k
+  abbrev pub ownAt : Command → ℕ → List ℕ
+  ownAt c k = rowAt (widthOf c) (n - suc k) (drop 4 frame)
+
+  -- a write other than WRRR: of any chain the monitors that are not in LPCM and whose own bytes are right; of one with none in LPCM, those last
+  pub write-answer : (c : Write) → (c ≡ Wrrr → ⊥) → commandIn frame ≡ Writes c
+      → answer table frame room
+      ≡ Accepted (count (λ k. not (inLpcm (rowAt recordSize k table)) && sealedRight (dataSize c) (ownAt (Writes c) k)) (tabulate (λ k. k) 0 n)) 0
   write-answer c other its =
-      answer-by its ∙ ap (λ (needs : Bool). Accepted (cond needs (count payloadRight (payloadsIn frame n)) n) 0) (needs-but-wrrr c other)
+      answer-by its ∙ ap (λ (taken : ℕ). Accepted taken 0) (taken-places c n table frame ∙ λ j. count (λ k. by-check k j) (tabulate (λ k. k) 0 n))
+    where
+      by-check : (k : ℕ) → accepts c (ownAt (Writes c) k) (rowAt recordSize k table) ≡ not (inLpcm (rowAt recordSize k table)) && sealedRight (dataSize c) (ownAt (Writes c) k)
+      by-check k = unfold accepts in ap (λ (b : Bool). not (inLpcm (rowAt recordSize k table)) && b) (good-checked c (ownAt (Writes c) k) (needs-but-wrrr c other))
 
-  pub wrrr-answer : commandIn frame ≡ Writes Wrrr → answer table frame room ≡ Accepted n 0
-  unfolding takers
-  wrrr-answer its = answer-by its
+  pub write-answer-awake : (c : Write) → (c ≡ Wrrr → ⊥) → commandIn frame ≡ Writes c → Awake n table
+      → answer table frame room ≡ Accepted (count (sealedRight (dataSize c)) (payloadsIn (Writes c) frame n)) 0
+  write-answer-awake c other its awake = answer-by its ∙ ap (λ (taken : ℕ). Accepted taken 0) (taken-checked c n table frame (needs-but-wrrr c other) awake)
+
+  -- WRRR: those that are not in LPCM
+  pub wrrr-answer : commandIn frame ≡ Writes Wrrr → answer table frame room ≡ Accepted (awakeOf n table) 0
+  wrrr-answer its = answer-by its ∙ ap (λ (taken : ℕ). Accepted taken 0) (taken-unchecked Wrrr n table frame refl (frame-whole its))
 
   pub read-answer : (part : Part) → commandIn frame ≡ Reads part → answer table frame room ≡ Accepted n (payloadSize * n)
-  unfolding takers
-  read-answer part its = answer-by its
+  read-answer part its = answer-by its ∙ ap (λ (taken : ℕ). Accepted taken (payloadSize * n)) (taken-read part n table frame)
 
   pub bare-answer : (c : Bare) → commandIn frame ≡ Bares c → answer table frame room ≡ Accepted n 0
-  unfolding takers
-  bare-answer c its = answer-by its
+  bare-answer c its = answer-by its ∙ ap (λ (taken : ℕ). Accepted taken 0) (taken-bare c n table frame)
 
   pub record-after : (k : ℕ) → k < n
-      → rowAt recordSize k (tableAfter table frame room) ≡ keeps (commandIn frame) (rowAt payloadSize (n - suc k) (drop 4 frame)) (rowAt recordSize k table)
+      → rowAt recordSize k (tableAfter table frame room) ≡ keeps (commandIn frame) (ownAt (commandIn frame) k) (rowAt recordSize k table)
   unfolding tableAfter
   record-after k h =
       ap (rowAt recordSize k) (passes (frameRefusals table frame room) (λ r. table) (kept (commandIn frame) n table frame) none)
       ∙ own-record (commandIn frame) n table frame k h (sym (is-sound table frame-sound .whole))
 
-  -- the monitor at k: its own eight bytes, its record, and what it keeps of a command
-  abbrev pub eightAt : ℕ → List ℕ
-  eightAt k = rowAt payloadSize (n - suc k) (drop 4 frame)
+  -- the monitor at k: its own bytes, its record, and what it keeps of a command
+  pub own-long : {c : Write} → commandIn frame ≡ Writes c → (k : ℕ) → k < n → length (ownAt (Writes c) k) ≡ widthOf (Writes c)
+  own-long {c} its k h =
+      length-row-at (widthOf (Writes c)) n (drop 4 frame) (n - suc k) (omega arith) (omega (arith, length-drop 4 frame, frame-whole its, mul-comm n (widthOf (Writes c))))
 
-  pub eight-long : {c : Write} → commandIn frame ≡ Writes c → (k : ℕ) → k < n → length (eightAt k) ≡ payloadSize
-  eight-long its k h = length-row-at payloadSize n (drop 4 frame) (n - suc k) (omega arith) (omega (arith, length-drop 4 frame, frame-whole its))
-
-  pub eight-bytes : Bytes frame → (k : ℕ) → Bytes (eightAt k)
+  pub own-all-bytes : Bytes frame → (c : Command) (k : ℕ) → Bytes (ownAt c k)
   unfolding rowAt
-  eight-bytes bytes k =
-      bytes-of-take (drop ((n - suc k) * payloadSize) (drop 4 frame)) (bytes-of-drop (drop 4 frame) (bytes-of-drop frame bytes 4) ((n - suc k) * payloadSize)) payloadSize
+  own-all-bytes bytes c k =
+      bytes-of-take (drop ((n - suc k) * widthOf c) (drop 4 frame)) (bytes-of-drop (drop 4 frame) (bytes-of-drop frame bytes 4) ((n - suc k) * widthOf c)) (widthOf c)
 
   pub record-at : (k : ℕ) → k < n → length (rowAt recordSize k table) ≡ recordSize
   record-at k h = lent-length k table (omega (arith, is-sound table frame-sound .whole))
 
   pub kept-at : {c : Command} → commandIn frame ≡ c → (k : ℕ) → k < n
-      → rowAt recordSize k (tableAfter table frame room) ≡ keeps c (eightAt k) (rowAt recordSize k table)
-  kept-at its k h = record-after k h ∙ ap (λ (x : Command). keeps x (eightAt k) (rowAt recordSize k table)) its
+      → rowAt recordSize k (tableAfter table frame room) ≡ keeps c (ownAt c k) (rowAt recordSize k table)
+  kept-at its k h = record-after k h ∙ ap (λ (x : Command). keeps x (ownAt x k) (rowAt recordSize k table)) its
 
 module _ (table frame buffer : List ℕ) (none : Passed (frameRefusals table frame (length buffer))) where
   buffer-by : {c : Command} → commandIn frame ≡ c → replyAfter table frame buffer ≡ replied c (monitors table) table buffer

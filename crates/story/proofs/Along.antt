@@ -18,10 +18,11 @@ use Rattle.refusals.specs.Order.{_gives_, Passed}
 use Rattle.refusals.proofs.Deciding.{passes}
 use Rattle.records.specs.declared.commands.Bare.{Bare}
 use Rattle.records.specs.declared.commands.Command.{Command}
-use Rattle.records.specs.declared.commands.Command.the-variants.{Reads, Bares}
+use Rattle.records.specs.declared.commands.Command.the-variants.{Reads, Bares, Writes}
+use Rattle.records.specs.declared.commands.Write.{Write}
 use Rattle.records.specs.declared.record.Part.{Part}
 use Rattle.records.specs.Record.{recordSize}
-use Rattle.records.specs.Commands.{replyLength}
+use Rattle.records.specs.Commands.{registerSize, replyLength}
 use Rattle.monitor.specs.Effects.{keeps}
 use Rattle.reads.specs.Reply.{register, reply}
 use Rattle.judging.specs.Table.{monitors, sound, changedAt}
@@ -41,7 +42,6 @@ use Rattle.cells.proofs.Loaded.{length-store, length-compare}
 use Rattle.loads.specs.Load.{storeRefusals, tableAfterStore, compareRefusals, tableAfterCompare}
 use Rattle.loads.proofs.Keeps.{store-keeps, compare-keeps}
 use Rattle.loads.proofs.Place.{compare-place, store-place}
-use Rattle.host.specs.Frames.{dataSize}
 use Rattle.story.specs.Runs.{Event, Frame, Store, Compare, Step, ruleRefusals, replies, obeyed, ruled, byRules}
 use Rattle.story.specs.Snapshots.{Is, Without, replyOf, replyAt, shownAt}
 use Rattle.story.proofs.Accepted.{frame-whole, frame-right, record-at}
@@ -77,11 +77,20 @@ judged-alike table after frame s n =
 
 -- ---- one frame
 
--- a bare command has no reply, so what the rules accept is accepted whatever the room
-pub bare-passes : (table frame : List ℕ) (c : Bare) → commandIn frame ≡ Bares c → Passed (ruleRefusals table frame) → (room : ℕ) → Passed (frameRefusals table frame room)
+-- a command without a reply: what the rules accept is accepted whatever the room
+no-reply-passes : (table frame : List ℕ) (c : Command) → replyLength c (monitors table) ≡ 0 → commandIn frame ≡ c → Passed (ruleRefusals table frame) → (room : ℕ)
+    → Passed (frameRefusals table frame room)
 unfolding ruleRefusals frameRefusals
-bare-passes table frame c its p room =
-    (p .0, (p .1 .0, (p .1 .1 .0, (p .1 .1 .1 .0, (p .1 .1 .1 .1 .0, (ap (λ (k : Command). ltb room (replyLength k (monitors table))) its ∙ le-ltb room 0 (omega arith), tt))))))
+no-reply-passes table frame c none its p room = (
+  p .0,
+  (p .1 .0, (p .1 .1 .0, (p .1 .1 .1 .0, (p .1 .1 .1 .1 .0, (ap (λ (k : Command). ltb room (replyLength k (monitors table))) its ∙ le-ltb room _ (omega (arith, none)), tt))))),
+)
+
+pub bare-passes : (table frame : List ℕ) (c : Bare) → commandIn frame ≡ Bares c → Passed (ruleRefusals table frame) → (room : ℕ) → Passed (frameRefusals table frame room)
+bare-passes table frame c = no-reply-passes table frame (Bares c) refl
+
+pub write-passes : (table frame : List ℕ) (c : Write) → commandIn frame ≡ Writes c → Passed (ruleRefusals table frame) → (room : ℕ) → Passed (frameRefusals table frame room)
+write-passes table frame c = no-reply-passes table frame (Writes c) refl
 
 -- the table that a frame leaves by the rules is the one that it leaves as a whole
 pub ruled-frame : (table frame : List ℕ) → byRules table (Frame frame ∷ []) .table ≡ tableAfter table frame (length (full table))
@@ -95,8 +104,8 @@ unfolding ruled obeyed replies reply
 read-shows table frame p passed its k h =
     ap (λ (step : Step). shownAt k (replyOf (step .seen))) (passes (ruleRefusals table frame) _ _ passed)
     ∙ ap (λ (c : Command). shownAt k (replies c (monitors table) table)) its
-    ∙ ap (take dataSize) (own-part p (monitors table) table k h)
-    ∙ take-at (register p (rowAt recordSize k table)) _ dataSize (length-register p (rowAt recordSize k table))
+    ∙ ap (take registerSize) (own-part p (monitors table) table k h)
+    ∙ take-at (register p (rowAt recordSize k table)) _ registerSize (length-register p (rowAt recordSize k table))
 
 -- ---- one monitor, along a run without one bare command
 

@@ -1,6 +1,7 @@
 -- A record grows behind what it was, and the commands that were there before know nothing of it: each does to the front what it does without
--- the rest, and leaves the rest. So with the PWM groups, and with the copy of the cells. A read of the front replies from it, but for one of the
--- cells while a snapshot is on. And what stays: the PWM groups at every command but WRPWMA and WRPWMB, the copy at every command but SNAP.
+-- the rest, and leaves the rest; a write where the rest does not say that the monitor is in LPCM. A read of the front replies from it, but for one of
+-- the cells while a snapshot is on. And what stays: the PWM groups at every command but WRPWMA and WRPWMB, the copy at every command but SNAP,
+-- CMF0 at every command but CLRCMFLAG, the last measurement at every command but CMEN.
 -- Assumes nothing.
 use mathlib.Core.Path.{_≡_, refl, sym, ap, ap₂, _∙_, subst⁻¹}
 use mathlib.Core.Bool.{Bool, false, cond, _&&_}
@@ -9,69 +10,36 @@ use mathlib.Core.Logic.{inl, inr}
 use Prim.Native.Nat.{ℕ, _+_, _≤_}
 use native.Mathlib.Omega.{arith}
 use lib.Dec.{lit≤}
-use lib.ListN.{length, getD}
+use lib.ListN.{length, getD, List·getD-eq-default}
+use Rattle.laws.specs.Bits.{bitAt, odd}
 use Rattle.laws.specs.Tables.{tabulate}
 use Rattle.pec.specs.Words.{seal}
-use Rattle.records.specs.declared.commands.Bare.the-variants.{Mute, Unmute, Rstcc, Ulrr, Clrcell, Snap, Unsnap}
+use Rattle.records.specs.declared.commands.Bare.the-variants.{Mute, Unmute, Rstcc, Ulrr, Clrcell, Snap, Unsnap, Cmen, Cmdis}
 use Rattle.records.specs.declared.commands.Command.{Command}
 use Rattle.records.specs.declared.commands.Command.the-variants.{Reads, Writes, Bares, Unlisted}
-use Rattle.records.specs.declared.commands.Write.the-variants.{Wrcfga, Wrcfgb, Wrrr, Clrflag, Clovuv, Wrpwma, Wrpwmb}
+use Rattle.records.specs.declared.commands.Write.{Write}
+use Rattle.records.specs.declared.commands.Write.the-variants.{Wrcfga, Wrcfgb, Wrrr, Clrflag, Clovuv, Wrpwma, Wrpwmb, Wrcmcfg, Wrcmcellt, Wrcmgpiot, Clrcmflag}
 use Rattle.records.specs.declared.record.Part.{Part}
-use Rattle.records.specs.Record.{counter, unlocked, pwmA, pwmB, snapshot, snapped, bytesOf, byteOf}
+use Rattle.records.specs.Record.{counter, pwmA, pwmB, snapshot, lpcmFlags, cmf0, cmf1, lastCells, snapped, inLpcm, bytesOf, byteOf}
 use Rattle.records.proofs.Parts.{bytes-front, byte-front}
-use Rattle.records.proofs.Snapped.{snapped-front}
+use Rattle.records.proofs.Modes.{snapped-front}
 use Rattle.monitor.specs.Effects.{keeps}
-use Rattle.monitor.specs.Spares.{partsOf, Before, EndBefore, ApartFrom, Spares}
+use Rattle.monitor.specs.Spares.{sentTo, Before, Spares}
 use Rattle.monitor.proofs.Spares.{keeps-spares, keeps-front}
 use Rattle.reads.specs.Shown.{ofCells, copyOf, shownPart}
 use Rattle.reads.specs.Reply.{sixBytes, register, reply}
-
--- ---- where what a command may change ends
-
--- before the PWM groups, but for the writes of their own and for SNAP
-by-end : {A : Type 0} (c : Command) → (Before c (pwmA .at) → A) → (c ≡ Writes Wrpwma → A) → (c ≡ Writes Wrpwmb → A) → (c ≡ Bares Snap → A) → A
-by-end (Reads p) early a b snap = early tt
-by-end (Writes Wrcfga) early a b snap = early (lit≤ tt)
-by-end (Writes Wrcfgb) early a b snap = early (lit≤ tt)
-by-end (Writes Wrrr) early a b snap = early (lit≤ tt)
-by-end (Writes Clrflag) early a b snap = early (lit≤ tt)
-by-end (Writes Clovuv) early a b snap = early (lit≤ tt)
-by-end (Writes Wrpwma) early a b snap = a refl
-by-end (Writes Wrpwmb) early a b snap = b refl
-by-end (Bares Mute) early a b snap = early (lit≤ tt, tt)
-by-end (Bares Unmute) early a b snap = early (lit≤ tt, tt)
-by-end (Bares Rstcc) early a b snap = early (lit≤ tt, tt)
-by-end (Bares Ulrr) early a b snap = early (lit≤ tt, tt)
-by-end (Bares Clrcell) early a b snap = early (lit≤ tt, tt)
-by-end (Bares Snap) early a b snap = snap refl
-by-end (Bares Unsnap) early a b snap = early (lit≤ tt, tt)
-by-end Unlisted early a b snap = early tt
-
-end-further : (qs : List Part) {m n : ℕ} → m ≤ n → EndBefore qs m → EndBefore qs n
-end-further [] h k = tt
-end-further (q ∷ qs) h k = (omega (arith, k .0), end-further qs h (k .1))
-
-further : (c : Command) {m n : ℕ} → m ≤ n → Before c m → Before c n
-further (Reads q) h k = tt
-further (Writes c) h k = omega arith
-further (Bares c) h k = end-further (partsOf c) h k
-further Unlisted h k = tt
-
-before-copy : (c : Command) → (c ≡ Bares Snap → ⊥) → Before c (snapshot .at)
-before-copy c not-snap =
-    by-end c (further c (lit≤ tt)) (λ e. subst⁻¹ (λ (x : Command). Before x (snapshot .at)) e (lit≤ tt)) (λ e. subst⁻¹ (λ (x : Command). Before x (snapshot .at)) e (lit≤ tt))
-    (λ e. absurd (not-snap e))
+use Rattle.story.specs.Growth.{size01, sizeL2, sizeL6}
 
 -- ---- a record that goes on
 
-module _ (c : Command) (eight front rest : List ℕ) where
-  pub base-as-before : (c ≡ Writes Wrpwma → ⊥) → (c ≡ Writes Wrpwmb → ⊥) → (c ≡ Bares Snap → ⊥) → length front ≡ pwmA .at
-      → keeps c eight (front ++ rest) ≡ keeps c eight front ++ rest
-  base-as-before a b snap l =
-      keeps-front front rest (omega arith) c eight (subst⁻¹ (Before c) l (by-end c (λ h. h) (λ e. absurd (a e)) (λ e. absurd (b e)) (λ e. absurd (snap e))))
+pub as-before : (c : Command) (own front rest : List ℕ) → size01 ≤ length front → Before c (length front)
+    → ((w : Write) → c ≡ Writes w → inLpcm (front ++ rest) ≡ inLpcm front) → keeps c own (front ++ rest) ≡ keeps c own front ++ rest
+as-before c own front rest base within mode = keeps-front front rest (omega arith) c own mode within
 
-  pub copy-as-before : (c ≡ Bares Snap → ⊥) → length front ≡ snapshot .at → keeps c eight (front ++ rest) ≡ keeps c eight front ++ rest
-  copy-as-before snap l = keeps-front front rest (omega arith) c eight (subst⁻¹ (Before c) l (before-copy c snap))
+-- a front that ends before CMF1 does not tell of LPCM: a monitor that is not in LPCM does as one of that front
+pub front-awake : (front : List ℕ) → length front ≤ cmf1 .at → inLpcm front ≡ false
+unfolding inLpcm byteOf bitAt odd
+front-awake front h = ap (bitAt 7) (List·getD-eq-default front 0 h)
 
 -- what is read of the front: of the cells only where no snapshot is on
 pub reply-as-before : (p : Part) (front rest : List ℕ) → p .at + p .size ≤ length front → pwmA .at ≤ length front → ofCells p && snapped front ≡ false
@@ -86,49 +54,107 @@ reply-as-before p front rest h l live =
     sealing : List ℕ → ℕ → List ℕ
     sealing six count = six ++ seal six count
 
--- ---- the parts that are new
+-- ---- parts that stay
 
--- a part behind all that a command may change is spared by it
-apart-behind : (p : Part) (qs : List Part) {n : ℕ} → EndBefore qs n → n ≤ p .at → ApartFrom p qs
-apart-behind p [] h k = tt
-apart-behind p (q ∷ qs) h k = (inl (omega (arith, h .0)), apart-behind p qs (h .1) k)
-
-behind : (p : Part) (c : Command) {n : ℕ} → Before c n → unlocked .at + 1 ≤ n → n ≤ p .at → Spares c p
-behind p (Reads q) h u k = inl (omega arith)
-behind p (Writes c) h u k = (inl (omega arith), (inl (omega arith), inl (omega arith)))
-behind p (Bares c) h u k = (inl (omega arith), (inl (omega arith), apart-behind p (partsOf c) h k))
-behind p Unlisted h u k = tt
+-- a part between document 01's record and LPCM's, by what lies between: the PWM groups and the copy
+spares-by : {A : Type 0} (p : Part) → size01 ≤ p .at → p .at + p .size ≤ sizeL6 → (c : Command)
+    → (Spares c p → A) → (c ≡ Writes Wrpwma → A) → (c ≡ Writes Wrpwmb → A) → (c ≡ Bares Snap → A) → A
+spares-by p h k (Reads q) spared a b snap = spared (inl (omega arith))
+spares-by p h k (Writes Wrcfga) spared a b snap = spared (inl (omega arith), (inl (omega arith), inl (omega arith)))
+spares-by p h k (Writes Wrcfgb) spared a b snap = spared (inl (omega arith), (inl (omega arith), inl (omega arith)))
+spares-by p h k (Writes Wrrr) spared a b snap = spared (inl (omega arith), (inl (omega arith), inl (omega arith)))
+spares-by p h k (Writes Clrflag) spared a b snap = spared (inl (omega arith), (inl (omega arith), inl (omega arith)))
+spares-by p h k (Writes Clovuv) spared a b snap = spared (inl (omega arith), (inl (omega arith), inl (omega arith)))
+spares-by p h k (Writes Wrpwma) spared a b snap = a refl
+spares-by p h k (Writes Wrpwmb) spared a b snap = b refl
+spares-by p h k (Writes Wrcmcfg) spared a b snap = spared (inl (omega arith), (inl (omega arith), inr (omega arith)))
+spares-by p h k (Writes Wrcmcellt) spared a b snap = spared (inl (omega arith), (inl (omega arith), inr (omega arith)))
+spares-by p h k (Writes Wrcmgpiot) spared a b snap = spared (inl (omega arith), (inl (omega arith), inr (omega arith)))
+spares-by p h k (Writes Clrcmflag) spared a b snap = spared (inl (omega arith), (inl (omega arith), inr (omega arith)))
+spares-by p h k (Bares Mute) spared a b snap = spared (inl (omega arith), (inl (omega arith), (inl (omega arith), tt)))
+spares-by p h k (Bares Unmute) spared a b snap = spared (inl (omega arith), (inl (omega arith), (inl (omega arith), tt)))
+spares-by p h k (Bares Rstcc) spared a b snap = spared (inl (omega arith), (inl (omega arith), (inl (omega arith), tt)))
+spares-by p h k (Bares Ulrr) spared a b snap = spared (inl (omega arith), (inl (omega arith), (inl (omega arith), tt)))
+spares-by p h k (Bares Clrcell) spared a b snap = spared (inl (omega arith), (inl (omega arith), (inl (omega arith), tt)))
+spares-by p h k (Bares Snap) spared a b snap = snap refl
+spares-by p h k (Bares Unsnap) spared a b snap = spared (inl (omega arith), (inl (omega arith), (inl (omega arith), tt)))
+spares-by p h k (Bares Cmen) spared a b snap = spared (inl (omega arith), (inl (omega arith), (inr (omega arith), (inr (omega arith), tt))))
+spares-by p h k (Bares Cmdis) spared a b snap = spared (inl (omega arith), (inl (omega arith), (inr (omega arith), tt)))
+spares-by p h k Unlisted spared a b snap = spared tt
 
 -- the PWM groups lie between what SNAP changes
-beside-snap : (p : Part) → pwmA .at ≤ p .at → p .at + p .size ≤ snapshot .at → Spares (Bares Snap) p
+beside-snap : (p : Part) → size01 ≤ p .at → p .at + p .size ≤ sizeL2 → Spares (Bares Snap) p
 beside-snap p h k = (inl (omega arith), (inl (omega arith), (inl (omega arith), (inr k, tt))))
 
-pub pwm-stays : (c : Command) → (c ≡ Writes Wrpwma → ⊥) → (c ≡ Writes Wrpwmb → ⊥) → (eight r : List ℕ)
-    → (bytesOf pwmA (keeps c eight r) ≡ bytesOf pwmA r) × (bytesOf pwmB (keeps c eight r) ≡ bytesOf pwmB r)
-pwm-stays c a b eight r = (stays pwmA (lit≤ tt) (lit≤ tt), stays pwmB (lit≤ tt) (lit≤ tt))
+pub pwm-stays : (c : Command) → (c ≡ Writes Wrpwma → ⊥) → (c ≡ Writes Wrpwmb → ⊥) → (own r : List ℕ)
+    → (bytesOf pwmA (keeps c own r) ≡ bytesOf pwmA r) × (bytesOf pwmB (keeps c own r) ≡ bytesOf pwmB r)
+pwm-stays c a b own r = (stays pwmA (lit≤ tt) (lit≤ tt), stays pwmB (lit≤ tt) (lit≤ tt))
   where
-    stays : (p : Part) → pwmA .at ≤ p .at → p .at + p .size ≤ snapshot .at → bytesOf p (keeps c eight r) ≡ bytesOf p r
+    stays : (p : Part) → size01 ≤ p .at → p .at + p .size ≤ sizeL2 → bytesOf p (keeps c own r) ≡ bytesOf p r
     stays p h k =
-        keeps-spares p c eight r
-        (by-end c (λ early. behind p c early (lit≤ tt) h) (λ e. absurd (a e)) (λ e. absurd (b e)) (λ e. subst⁻¹ (λ (x : Command). Spares x p) e (beside-snap p h k)))
+        keeps-spares p c own r
+        (spares-by p h (omega arith) c (λ spared. spared) (λ e. absurd (a e)) (λ e. absurd (b e)) (λ e. subst⁻¹ (λ (x : Command). Spares x p) e (beside-snap p h k)))
 
 -- and each whatever the other's write does
-pub b-stays : (eight r : List ℕ) → bytesOf pwmB (keeps (Writes Wrpwma) eight r) ≡ bytesOf pwmB r
-b-stays eight r = keeps-spares pwmB (Writes Wrpwma) eight r (inl (lit≤ tt), (inl (lit≤ tt), inl (lit≤ tt)))
+pub b-stays : (own r : List ℕ) → bytesOf pwmB (keeps (Writes Wrpwma) own r) ≡ bytesOf pwmB r
+b-stays own r = keeps-spares pwmB (Writes Wrpwma) own r (inl (lit≤ tt), (inl (lit≤ tt), inl (lit≤ tt)))
 
-pub a-stays : (eight r : List ℕ) → bytesOf pwmA (keeps (Writes Wrpwmb) eight r) ≡ bytesOf pwmA r
-a-stays eight r = keeps-spares pwmA (Writes Wrpwmb) eight r (inl (lit≤ tt), (inl (lit≤ tt), inr (lit≤ tt)))
+pub a-stays : (own r : List ℕ) → bytesOf pwmA (keeps (Writes Wrpwmb) own r) ≡ bytesOf pwmA r
+a-stays own r = keeps-spares pwmA (Writes Wrpwmb) own r (inl (lit≤ tt), (inl (lit≤ tt), inr (lit≤ tt)))
 
 -- the copy, as far as SNAP leaves it
-module _ (c : Command) (eight r : List ℕ) where
-  pub copy-by : (c ≡ Bares Snap → bytesOf snapshot (keeps c eight r) ≡ bytesOf snapshot r) → bytesOf snapshot (keeps c eight r) ≡ bytesOf snapshot r
-  copy-by snap = by-end c (λ early. left (further c (lit≤ tt) early)) (λ e. left (copy-end e (lit≤ tt))) (λ e. left (copy-end e (lit≤ tt))) snap
+module _ (c : Command) (own r : List ℕ) where
+  pub copy-by : (c ≡ Bares Snap → bytesOf snapshot (keeps c own r) ≡ bytesOf snapshot r) → bytesOf snapshot (keeps c own r) ≡ bytesOf snapshot r
+  copy-by snap = spares-by snapshot (lit≤ tt) (lit≤ tt) c (keeps-spares snapshot c own r) (ends Wrpwma (lit≤ tt)) (ends Wrpwmb (lit≤ tt)) snap
     where
-      left : Before c (snapshot .at) → bytesOf snapshot (keeps c eight r) ≡ bytesOf snapshot r
-      left h = keeps-spares snapshot c eight r (behind snapshot c h (lit≤ tt) (lit≤ tt))
+      -- a write that ends before the copy
+      ends : (w : Write) → sentTo w .at + sentTo w .size ≤ snapshot .at → c ≡ Writes w → bytesOf snapshot (keeps c own r) ≡ bytesOf snapshot r
+      ends w h e = keeps-spares snapshot c own r (subst⁻¹ (λ (x : Command). Spares x snapshot) e (inl (lit≤ tt), (inl (lit≤ tt), inl h)))
 
-      copy-end : {x : Command} → c ≡ x → Before x (snapshot .at) → Before c (snapshot .at)
-      copy-end e h = subst⁻¹ (λ (y : Command). Before y (snapshot .at)) e h
-
-  pub copy-stays : (c ≡ Bares Snap → ⊥) → bytesOf snapshot (keeps c eight r) ≡ bytesOf snapshot r
+  pub copy-stays : (c ≡ Bares Snap → ⊥) → bytesOf snapshot (keeps c own r) ≡ bytesOf snapshot r
   copy-stays snap = copy-by (λ e. absurd (snap e))
+
+-- ---- LPCM's flags and last measurement
+
+-- a part of them, but for the commands that change one or the other
+lpcm-by : {A : Type 0} (p : Part) → lpcmFlags .at ≤ p .at → (c : Command)
+    → (Spares c p → A) → (c ≡ Writes Clrcmflag → A) → (c ≡ Bares Cmen → A) → (c ≡ Bares Cmdis → A) → A
+lpcm-by p h (Reads q) spared clr on off = spared (inl (omega arith))
+lpcm-by p h (Writes Wrcfga) spared clr on off = spared (inl (omega arith), (inl (omega arith), inl (omega arith)))
+lpcm-by p h (Writes Wrcfgb) spared clr on off = spared (inl (omega arith), (inl (omega arith), inl (omega arith)))
+lpcm-by p h (Writes Wrrr) spared clr on off = spared (inl (omega arith), (inl (omega arith), inl (omega arith)))
+lpcm-by p h (Writes Clrflag) spared clr on off = spared (inl (omega arith), (inl (omega arith), inl (omega arith)))
+lpcm-by p h (Writes Clovuv) spared clr on off = spared (inl (omega arith), (inl (omega arith), inl (omega arith)))
+lpcm-by p h (Writes Wrpwma) spared clr on off = spared (inl (omega arith), (inl (omega arith), inl (omega arith)))
+lpcm-by p h (Writes Wrpwmb) spared clr on off = spared (inl (omega arith), (inl (omega arith), inl (omega arith)))
+lpcm-by p h (Writes Wrcmcfg) spared clr on off = spared (inl (omega arith), (inl (omega arith), inl (omega arith)))
+lpcm-by p h (Writes Wrcmcellt) spared clr on off = spared (inl (omega arith), (inl (omega arith), inl (omega arith)))
+lpcm-by p h (Writes Wrcmgpiot) spared clr on off = spared (inl (omega arith), (inl (omega arith), inl (omega arith)))
+lpcm-by p h (Writes Clrcmflag) spared clr on off = clr refl
+lpcm-by p h (Bares Mute) spared clr on off = spared (inl (omega arith), (inl (omega arith), (inl (omega arith), tt)))
+lpcm-by p h (Bares Unmute) spared clr on off = spared (inl (omega arith), (inl (omega arith), (inl (omega arith), tt)))
+lpcm-by p h (Bares Rstcc) spared clr on off = spared (inl (omega arith), (inl (omega arith), (inl (omega arith), tt)))
+lpcm-by p h (Bares Ulrr) spared clr on off = spared (inl (omega arith), (inl (omega arith), (inl (omega arith), tt)))
+lpcm-by p h (Bares Clrcell) spared clr on off = spared (inl (omega arith), (inl (omega arith), (inl (omega arith), tt)))
+lpcm-by p h (Bares Snap) spared clr on off = spared (inl (omega arith), (inl (omega arith), (inl (omega arith), (inl (omega arith), tt))))
+lpcm-by p h (Bares Unsnap) spared clr on off = spared (inl (omega arith), (inl (omega arith), (inl (omega arith), tt)))
+lpcm-by p h (Bares Cmen) spared clr on off = on refl
+lpcm-by p h (Bares Cmdis) spared clr on off = off refl
+lpcm-by p h Unlisted spared clr on off = spared tt
+
+module _ (c : Command) (own r : List ℕ) where
+  -- CMF0 changes by CLRCMFLAG alone
+  pub cmf0-stays : (c ≡ Writes Clrcmflag → ⊥) → bytesOf cmf0 (keeps c own r) ≡ bytesOf cmf0 r
+  cmf0-stays other =
+      keeps-spares cmf0 c own r
+      (lpcm-by cmf0 (lit≤ tt) c (λ spared. spared) (λ e. absurd (other e))
+      (λ e. subst⁻¹ (λ (x : Command). Spares x cmf0) e (inl (lit≤ tt), (inl (lit≤ tt), (inr (lit≤ tt), (inr (lit≤ tt), tt)))))
+      (λ e. subst⁻¹ (λ (x : Command). Spares x cmf0) e (inl (lit≤ tt), (inl (lit≤ tt), (inr (lit≤ tt), tt)))))
+
+  -- the last measurement by CMEN alone
+  pub last-stays : (c ≡ Bares Cmen → ⊥) → bytesOf lastCells (keeps c own r) ≡ bytesOf lastCells r
+  last-stays other =
+      keeps-spares lastCells c own r
+      (lpcm-by lastCells (lit≤ tt) c (λ spared. spared)
+      (λ e. subst⁻¹ (λ (x : Command). Spares x lastCells) e (inl (lit≤ tt), (inl (lit≤ tt), inl (lit≤ tt)))) (λ e. absurd (other e))
+      (λ e. subst⁻¹ (λ (x : Command). Spares x lastCells) e (inl (lit≤ tt), (inl (lit≤ tt), (inl (lit≤ tt), tt)))))

@@ -9,12 +9,12 @@ use lib.Dec.{eqb}
 use lib.IntN.{negsuc}
 use lib.ListN.{length, getD}
 use Rattle.records.specs.declared.commands.Bare.the-variants.{Clrcell}
-use Rattle.records.specs.Record.{cells, cellCount, recordSize, bytesOf, onBytes}
+use Rattle.records.specs.Record.{cells, cellCount, recordSize, bytesOf, byteIn, onBytes}
 use Rattle.records.proofs.Anew.{anew-inside}
 use Rattle.records.proofs.Parts.{byte-of-part}
 use Rattle.thresholds.specs.Thresholds.{signed}
 use Rattle.monitor.specs.Effects.{clearedByte, done}
-use Rattle.cells.specs.Cells.{codeAt}
+use Rattle.cells.specs.Cells.{codeIn, codeAt}
 
 module _ (r : List ℕ) (whole : length r ≡ recordSize) where
   byte-cleared : (i : ℕ) → i < cells .size → getD (bytesOf cells (done Clrcell r)) i 0 ≡ clearedByte i
@@ -22,7 +22,7 @@ module _ (r : List ℕ) (whole : length r ≡ recordSize) where
   byte-cleared i h = byte-of-part cells (done Clrcell r) h ∙ anew-inside _ (cells .at) (cells .size) r i h (omega arith)
 
   pub clrcell-clears : (c : ℕ) → c < cellCount → codeAt (done Clrcell r) c ≡ record { 0 = negsuc 32767 }
-  unfolding codeAt clearedByte signed
+  unfolding codeAt codeIn byteIn clearedByte signed
   clrcell-clears c h =
       let even : 2 * c % 2 ≡ 0 = omega arith in
       let odd : (2 * c + 1) % 2 ≡ 1 = omega arith in

@@ -4,7 +4,7 @@
 -- holds; and where it refuses, every byte of a table or a buffer that it was lent stays. Each is proved where it is cited from.
 -- Assumes nothing.
 use mathlib.Core.Path.{_≡_, refl}
-use mathlib.Core.Bool.{false}
+use mathlib.Core.Bool.{Bool, false}
 use mathlib.Core.List.{List, [], _∷_}
 use mathlib.Core.Logic.{_↔_}
 use Prim.Native.Nat.{ℕ}
@@ -44,6 +44,8 @@ use Rattle.loads.specs.Load.{storeRefusals, stored, tableAfterStore, compareRef
 use Rattle.loads.specs.Numbers.{loadNumber}
 use Rattle.thresholds.proofs as thresholds
 use Rattle.cells.proofs as cells
+use Rattle.measuring.proofs as measuring
+use Rattle.heartbeats.proofs as heartbeats
 use Rattle.loads.proofs as loads
 use Rattle.priorities.proofs as priorities
 use Rattle.discharge.proofs as discharge
@@ -67,11 +69,13 @@ use Rattle.ports.specs.Ports.{portRefusals, portOf}
 use Rattle.ports.specs.Parts.{bytesOf}
 use Rattle.ports.proofs as ports
 use Rattle.host.proofs as host
+use Rattle.messages.specs.Verdicts.{verdictRefusals, verdict}
+use Rattle.messages.proofs as messages
 use Rattle.readings.specs.Readings.{summaryOf}
 use Rattle.readings.proofs as readings
-use Rattle.story.specs.Numbers.{dischargedNumbers, builtNumbers, checkedNumbers, portNumber, lookedNumbers, packNumbers, summaryRefusals, firstNumber, First, order}
+use Rattle.story.specs.Numbers.{dischargedNumbers, builtNumbers, checkedNumbers, portNumber, verdictNumbers, lookedNumbers, packNumbers, summaryRefusals, firstNumber, First, order}
 use Rattle.story.proofs.OneOutcome.{OneOutcome, one-outcomes}
-use Rattle.story.proofs.Numbers.{number-exactly, zero-exactly, frame-number, store-number, compare-number, load-number, discharge-number, release-number, look-number, built-number, checked-number, port-number, summary-number}
+use Rattle.story.proofs.Numbers.{number-exactly, zero-exactly, frame-number, store-number, compare-number, load-number, discharge-number, release-number, look-number, built-number, checked-number, port-number, verdict-number, summary-number}
 use Rattle.story.proofs.Stays.{refused-discharge, refused-release, refused-look, refused-build, refused-part}
 
 -- ---- every public function of every library
@@ -96,6 +100,8 @@ pub record Promises : Type 2 where
   number-in : Promised check_words.number_in.Statement.statement check_words.number_in.Reads.Asked
   number-right : Promised check_words.number_right.Statement.statement check_words.number_right.Reads.Asked
   payload-right : Promised check_words.payload_right.Statement.statement check_words.payload_right.Reads.Asked
+  sealed-two : Promised check_words.sealed_two.Statement.statement check_words.sealed_two.Reads.Asked
+  four-right : Promised check_words.four_right.Statement.statement check_words.four_right.Reads.Asked
   pec10-bitwise : Promised remainders.pec10_bitwise.Statement.statement remainders.pec10_bitwise.Reads.Asked
   pec10-by-table : Promised remainders.pec10_by_table.Statement.statement remainders.pec10_by_table.Reads.Asked
   pec15-bitwise : Promised remainders.pec15_bitwise.Statement.statement remainders.pec15_bitwise.Reads.Asked
@@ -109,11 +115,21 @@ pub record Promises : Type 2 where
   is-listed : Promised records.is_listed.Statement.statement records.is_listed.Reads.Asked
   record-sound : Promised records.record_sound.Statement.statement records.record_sound.Reads.Asked
   byte-at : Promised records.byte_at.Statement.statement records.byte_at.Reads.Asked
+  byte-in : Promised records.byte_in.Statement.statement records.byte_in.Reads.Asked
   is-snapped : Promised records.is_snapped.Statement.statement records.is_snapped.Reads.Asked
+  in-lpcm : Promised records.in_lpcm.Statement.statement records.in_lpcm.Reads.Asked
+  data-size : Promised records.data_size.Statement.statement records.data_size.Reads.Asked
+  width-of : Promised records.width_of.Statement.statement records.width_of.Reads.Asked
   reply-of : Promised reads.reply_of.Statement.statement reads.reply_of.Reads.Asked
   needs-check : Promised writes.needs_check.Statement.statement writes.needs_check.Reads.Asked
   write : Promised writes.write.Statement.statement writes.write.Reads.Asked
   act : Promised monitor.act.Statement.statement monitor.act.Reads.Asked
+  remember : Promised monitor.remember.Statement.statement monitor.remember.Reads.Asked
+  measure : Promised measuring.measure.Statement.statement measuring.measure.Reads.Asked
+  wake : Promised heartbeats.wake.Statement.statement heartbeats.wake.Reads.Asked
+  reach : Promised heartbeats.reach.Statement.statement heartbeats.reach.Reads.Asked
+  run-out : Promised heartbeats.run_out.Statement.statement heartbeats.run_out.Reads.Asked
+  is-towards-a : Promised heartbeats.is_towards_a.Statement.statement heartbeats.is_towards_a.Reads.Asked
   -- the chain
   sound : Promised judging.sound.Statement.statement judging.sound.Reads.Asked
   sound-count : Promised judging.sound_count.Statement.statement judging.sound_count.Reads.Asked
@@ -129,9 +145,12 @@ pub record Promises : Type 2 where
   place-of : Promised judging.place_of.Statement.statement judging.place_of.Reads.Asked
   -- store, compare and load
   codes-of : Promised thresholds.codes_of.Statement.statement thresholds.codes_of.Reads.Asked
+  lower-threshold : Promised thresholds.lower_threshold.Statement.statement thresholds.lower_threshold.Reads.Asked
+  upper-threshold : Promised thresholds.upper_threshold.Statement.statement thresholds.upper_threshold.Reads.Asked
   over-threshold : Promised thresholds.over_threshold.Statement.statement thresholds.over_threshold.Reads.Asked
   under-threshold : Promised thresholds.under_threshold.Statement.statement thresholds.under_threshold.Reads.Asked
   load-number : Promised loads.load_number.Statement.statement loads.load_number.Reads.Asked
+  code-in : Promised cells.code_in.Statement.statement cells.code_in.Reads.Asked
   store-one : Promised cells.store.Statement.statement cells.store.Reads.Asked
   compare-one : Promised cells.compare.Statement.statement cells.compare.Reads.Asked
   store : Promised loads.store.Statement.statement loads.store.Reads.Asked
@@ -155,6 +174,10 @@ pub record Promises : Type 2 where
   port-of : Promised ports.port_of.Statement.statement ports.port_of.Reads.Asked
   part-of : Promised ports.part_of.Statement.statement ports.part_of.Reads.Asked
   build : Promised host.build.Statement.statement host.build.Reads.Asked
+  -- heartbeats
+  message : Promised messages.message.Statement.statement messages.message.Reads.Asked
+  message-right : Promised messages.message_right.Statement.statement messages.message_right.Reads.Asked
+  verdict-on : Promised messages.verdict_on.Statement.statement messages.verdict_on.Reads.Asked
   -- readings
   microvolts-of : Promised readings.microvolts_of.Statement.statement readings.microvolts_of.Reads.Asked
   reading-of : Promised readings.reading_of.Statement.statement readings.reading_of.Reads.Asked
@@ -206,6 +229,9 @@ pub record Demand1 : Type 2 where
   ports : (a b : List ℕ) (n k : ℕ) → portNumber (portOf a b n k) ≡ firstNumber (portRefusals a b n k)
   ports-order : (a b : List ℕ) (n k : ℕ) → order (portRefusals a b n k) ≡ 7 ∷ 5 ∷ 10 ∷ []
   no-part : (a b : List ℕ) (n k : ℕ) (r : Refusal) → portOf a b n k ≡ Unported r → bytesOf a b n k ≡ []
+  -- the verdict on a heartbeat: `messages::verdict_on`. Nothing is lent to be changed
+  verdict : (bytes : List ℕ) (late : Bool) → verdictNumbers (verdict bytes late) .number ≡ firstNumber (verdictRefusals bytes late)
+  verdict-order : (bytes : List ℕ) (late : Bool) → order (verdictRefusals bytes late) ≡ 5 ∷ []
   -- a release: `clocked::release`, of any state. The table stays; the state goes back to its start, refused or not
   release : (c : Clock) (table : List ℕ) → numbersOf (released c table) .number ≡ firstNumber (releaseRefusals c table)
   release-order : (c : Clock) (table : List ℕ) → order (releaseRefusals c table) ≡ 1 ∷ 2 ∷ 3 ∷ 4 ∷ 5 ∷ []
@@ -236,6 +262,8 @@ proved =
       number-in = (λ M. check_words.number_in.Met.met, λ κ a. tt);
       number-right = (λ M. check_words.number_right.Met.met, λ κ a. tt);
       payload-right = (λ M. check_words.payload_right.Met.met, λ κ a. tt);
+      sealed-two = (λ M. check_words.sealed_two.Met.met, λ κ a. tt);
+      four-right = (λ M. check_words.four_right.Met.met, λ κ a. tt);
       pec10-bitwise = (λ M. remainders.pec10_bitwise.Met.met, λ κ a. tt);
       pec10-by-table = (λ M. remainders.pec10_by_table.Met.met, λ κ a. tt);
       pec15-bitwise = (λ M. remainders.pec15_bitwise.Met.met, λ κ a. tt);
@@ -248,11 +276,21 @@ proved =
       is-listed = (λ M. records.is_listed.Met.met, λ κ a. tt);
       record-sound = (λ M. records.record_sound.Met.met, λ κ a. tt);
       byte-at = (λ M. records.byte_at.Met.met, λ κ a. tt);
+      byte-in = (λ M. records.byte_in.Met.met, λ κ a. tt);
       is-snapped = (λ M. records.is_snapped.Met.met, λ κ a. tt);
+      in-lpcm = (λ M. records.in_lpcm.Met.met, λ κ a. tt);
+      data-size = (λ M. records.data_size.Met.met, λ κ a. tt);
+      width-of = (λ M. records.width_of.Met.met, λ κ a. tt);
       reply-of = (λ M. reads.reply_of.Met.met, λ κ a. tt);
       needs-check = (λ M. writes.needs_check.Met.met, λ κ a. tt);
       write = (λ M. writes.write.Met.met, λ κ a. tt);
       act = (λ M. monitor.act.Met.met, λ κ a. tt);
+      remember = (λ M. monitor.remember.Met.met, λ κ a. tt);
+      measure = (λ M. measuring.measure.Met.met, λ κ a. tt);
+      wake = (λ M. heartbeats.wake.Met.met, λ κ a. tt);
+      reach = (λ M. heartbeats.reach.Met.met, λ κ a. tt);
+      run-out = (λ M. heartbeats.run_out.Met.met, λ κ a. tt);
+      is-towards-a = (λ M. heartbeats.is_towards_a.Met.met, λ κ a. tt);
       sound = (λ M. judging.sound.Met.met, λ κ a. tt);
       sound-count = (λ M. judging.sound_count.Met.met, λ κ a. tt);
       whole-table = (λ M. judging.whole_table.Met.met, λ κ a. tt);
@@ -266,9 +304,12 @@ proved =
       handle = (λ M. chain.handle.Met.met, λ κ a. tt);
       place-of = (λ M. judging.place_of.Met.met, λ κ a. tt);
       codes-of = (λ M. thresholds.codes_of.Met.met, λ κ a. tt);
+      lower-threshold = (λ M. thresholds.lower_threshold.Met.met, λ κ a. tt);
+      upper-threshold = (λ M. thresholds.upper_threshold.Met.met, λ κ a. tt);
       over-threshold = (λ M. thresholds.over_threshold.Met.met, λ κ a. tt);
       under-threshold = (λ M. thresholds.under_threshold.Met.met, λ κ a. tt);
       load-number = (λ M. loads.load_number.Met.met, λ κ a. tt);
+      code-in = (λ M. cells.code_in.Met.met, λ κ a. tt);
       store-one = (λ M. cells.store.Met.met, λ κ a. tt);
       compare-one = (λ M. cells.compare.Met.met, λ κ a. tt);
       store = (λ M. loads.store.Met.met, λ κ a. tt);
@@ -289,13 +330,16 @@ proved =
       port-of = (λ M. ports.port_of.Met.met, λ κ a. tt);
       part-of = (λ M. ports.part_of.Met.met, λ κ a. tt);
       build = (λ M. host.build.Met.met, λ κ a. tt);
+      message = (λ M. messages.message.Met.met, λ κ a. tt);
+      message-right = (λ M. messages.message_right.Met.met, λ κ a. tt);
+      verdict-on = (λ M. messages.verdict_on.Met.met, λ κ a. tt);
       microvolts-of = (λ M. readings.microvolts_of.Met.met, λ κ a. tt);
       reading-of = (λ M. readings.reading_of.Met.met, λ κ a. tt);
       summary-of = (λ M. readings.summary_of.Met.met, λ κ a. tt);
     }
 
 pub demand-1 : Demand1
-unfolding frameRefusals storeRefusals compareRefusals loadRefusals dischargeRefusals buildRefusals checkRefusals portRefusals releaseRefusals lookRefusals
+unfolding frameRefusals storeRefusals compareRefusals loadRefusals dischargeRefusals buildRefusals checkRefusals portRefusals verdictRefusals releaseRefusals lookRefusals
 demand-1 =
     record {
       promises = proved;
@@ -327,6 +371,8 @@ demand-1 =
       ports = port-number;
       ports-order = λ a b n k. refl;
       no-part = refused-part;
+      verdict = verdict-number;
+      verdict-order = λ bytes late. refl;
       release = release-number;
       release-order = λ c table. refl;
       release-stays = refused-release;

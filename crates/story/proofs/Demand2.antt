@@ -1,60 +1,68 @@
 -- Demand 2. What the chain does with a frame is what the data sheet says as document 01 condenses it, with the requests of document 02 that
--- have landed (L1, L2, L3, L6, L7), monitor by monitor. What our host writes hands each monitor its own six bytes: nearest first in our list,
--- farthest first on the wire. Monitors are counted from 0 here: monitor 1 of the paper is k = 0. Each field is proved where it is cited from.
+-- have landed (L1, L2, L3, L6, L7, and of L8 the settings and enabling, one monitor's measurement and turn, and the host's verdict),
+-- monitor by monitor. What our host writes hands each monitor its own data bytes: nearest first in our list, farthest first on the wire. Monitors are counted from 0 here: monitor 1 of the paper is k = 0. Each field is proved where it is cited from.
 -- Assumes nothing.
 use mathlib.Core.Path.{_≡_, refl}
-use mathlib.Core.Bool.{true, false, cond, not, _&&_}
+use mathlib.Core.Bool.{Bool, true, false, cond, not, _&&_, _||_}
 use mathlib.Core.List.{List, [], _∷_, _++_, map, reverse}
-use mathlib.Core.Logic.{_⊎_}
+use mathlib.Core.Logic.{_⊎_, _↔_}
 use Prim.Native.Nat.{ℕ, suc, _+_, _-_, _*_, _/_, _%_, _^_, _≤_, _<_}
 use lib.Bits.{bitAnd, bitOr}
 use lib.Dec.{eqb, ltb, leb}
-use lib.IntN.{ℤ, pos, negsuc}
+use lib.IntN.{ℤ, pos, negsuc, _-ℤ_}
 use lib.ListN.{length, take, drop, getD, replicate}
+use lib.Signed.{ltZ}
 use mir.Syntax.{w16}
 use mir.Val.{SFits}
 use Rattle.laws.specs.Counts.{all, count}
 use Rattle.laws.specs.Bits.{bitAt, bitsOfBytes, Bytes}
 use Rattle.laws.specs.Rows.{rows, rowAt, joined}
 use Rattle.laws.specs.Tables.{tabulate}
-use Rattle.pec.specs.Words.{seal, commandRight, payloadRight}
+use Rattle.pec.specs.Words.{seal, commandRight, sealedRight, payloadRight}
+use Rattle.pec.specs.Spikes.{Spike}
 use Rattle.wire.specs.Order.{replyData}
 use Rattle.refusals.specs.declared.Refusal.{Refusal}
 use Rattle.refusals.specs.declared.Refusal.the-variants.{TableNotSound, FrameShort, CommandWrong, CodeNotListed, LengthWrong, NoRoom, PositionWrong, CountWrong, CodeCleared}
 use Rattle.refusals.specs.Order.{_gives_, Passed}
 use Rattle.records.specs.declared.commands.Bare.{Bare}
-use Rattle.records.specs.declared.commands.Bare.the-variants.{Mute, Unmute, Ulrr, Clrcell, Snap, Unsnap}
+use Rattle.records.specs.declared.commands.Bare.the-variants.{Mute, Unmute, Ulrr, Clrcell, Snap, Unsnap, Cmen, Cmdis}
 use Rattle.records.specs.declared.commands.Command.{Command}
-use Rattle.records.specs.declared.commands.Command.the-variants.{Reads, Writes, Bares}
+use Rattle.records.specs.declared.commands.Command.the-variants.{Reads, Writes, Bares, Unlisted}
 use Rattle.records.specs.declared.commands.Write.{Write}
-use Rattle.records.specs.declared.commands.Write.the-variants.{Wrcfgb, Wrrr, Wrpwma, Wrpwmb}
+use Rattle.records.specs.declared.commands.Write.the-variants.{Wrcfgb, Wrrr, Wrpwma, Wrpwmb, Wrcmcfg, Wrcmcellt, Wrcmgpiot, Clrcmflag}
 use Rattle.records.specs.declared.record.Part.{Part}
-use Rattle.records.specs.Record.{cellCount, cells, flags, snapshot, statusBits, dccBits, pwmA, pwmB, recordSize, retention, counter, unlocked, snapped, bytesOf as partOf, byteOf, onBytes}
-use Rattle.records.specs.Commands.{commands, commandOf, isListed, rdcfga, rdcfgb, rdcva, rdcvb, rdcvc, rdcvd, rdcve, rdcvf, rdstatc, rdstatd, rdsid, rdrr, rdpwma, rdpwmb, mostMonitors, payloadSize, frameLength, replyLength}
+use Rattle.records.specs.Record.{cellCount, cells, flags, snapshot, statusBits, dccBits, pwmA, pwmB, lpcmConfiguration, lpcmCellThresholds, lpcmGpioThresholds, lpcmFlags, cmf0, cmf1, lastCells, recordSize, retention, counter, unlocked, snapped, inLpcm, bytesOf as partOf, byteIn, byteOf, onBytes, recordSound}
+use Rattle.records.specs.Commands.{commands, commandOf, isListed, rdcfga, rdcfgb, rdcva, rdcvb, rdcvc, rdcvd, rdcve, rdcvf, rdstatc, rdstatd, rdsid, rdrr, rdpwma, rdpwmb, rdcmcfg, rdcmcellt, rdcmgpiot, rdcmflag, mostMonitors, dataSize, registerSize, payloadSize, widthOf, frameLength, replyLength}
+use Rattle.records.proofs.Widths.{six-but-clrcmflag}
 use Rattle.writes.specs.Writes.{written}
 use Rattle.writes.proofs.Written.{needs-but-wrrr}
 use Rattle.monitor.specs.Effects.{locked, counted, done, keeps}
 use Rattle.reads.specs.Shown.{cellReads, ofCells, shownCells}
 use Rattle.reads.specs.Reply.{sixBytes, register, reply}
-use Rattle.monitor.proofs.Keeping.{keeps-right, keeps-wrong}
+use Rattle.monitor.proofs.Keeping.{keeps-right, keeps-wrong, keeps-none}
 use Rattle.chain.specs.declared.frames.Answer.the-variants.{Refused, Accepted}
 use Rattle.judging.specs.Table.{monitors, sound, Beside}
 use Rattle.judging.specs.Refusals.{commandIn}
-use Rattle.serving.specs.Served.{payloadsIn}
+use Rattle.serving.specs.Served.{Awake, awakeOf, payloadsIn}
+use Rattle.serving.proofs.Taken.{awake-all}
 use Rattle.chain.specs.Frame.{frameRefusals, answer, tableAfter, replyAfter}
 use Rattle.judging.proofs.Keeps.{Keeps}
 use Rattle.chain.proofs.FrameKeeps.{frame-keeps}
-use Rattle.thresholds.specs.Thresholds.{vuv, vov, codesOf}
-use Rattle.cells.specs.Cells.{store, codeAt, isCleared, flagsFor, flagsOf, compare, flagsIn, load}
+use Rattle.thresholds.specs.Thresholds.{lower, upper, vuv, vov, codesOf}
+use Rattle.cells.specs.Cells.{store, codeIn, codeAt, isCleared, flagsFor, flagsOf, compare, flagsIn, load}
 use Rattle.cells.proofs.OwnFlags.{own-flags, cleared-skipped}
 use Rattle.cells.proofs.OwnCodes.{own-code, load-flags}
+use Rattle.measuring.specs.Measuring.{cuv, cov, cdv, masked, pending, measured, passes, violates}
+use Rattle.measuring.proofs.Measured.{length-measured, sound-measured, measured-spares, last-measured, flags-stay}
+use Rattle.measuring.proofs.Found.{violation-shows, pending-shows, nothing-else, passes-where, passed-clear, passed-nothing-pending, passed-nothing-violated}
+use Rattle.measuring.proofs.Examples.{Measurements, measurements}
 use Rattle.loads.specs.declared.loads.Loaded.the-variants.{Done}
 use Rattle.loads.specs.Load.{storeRefusals, stored, tableAfterStore, compareRefusals, compared, tableAfterCompare, loadRefusals, loaded, tableAfterLoad}
 use Rattle.loads.proofs.Keeps.{store-keeps, compare-keeps, load-keeps}
 use Rattle.loads.proofs.Bytes.{store-as-long, store-only-cells, compare-as-long, compare-only-flags, compare-only-sets}
 use Rattle.loads.proofs.Judging.{as-stored}
 use Rattle.loads.proofs.Halves.{compare-after-store, store-and-compare, second-judged, second-counts, second-compared, compare-again}
-use Rattle.monitor.specs.Spares.{Apart, Spares}
+use Rattle.monitor.specs.Spares.{Apart, Spares, Before}
 use Rattle.monitor.proofs.Spares.{keeps-spares}
 use Rattle.priorities.specs.declared.outputs.Events.{Events}
 use Rattle.priorities.specs.declared.outputs.Output.{Output}
@@ -69,23 +77,37 @@ use Rattle.priorities.proofs.Shown.{row-shown, on-shown, own-output, count-show
 use Rattle.discharge.specs.declared.question.Discharged.the-variants.{On}
 use Rattle.discharge.specs.Question.{dischargeRefusals, discharged, outputsAfter}
 use Rattle.host.specs.declared.frames.Built.the-variants.{Length}
-use Rattle.host.specs.Frames.{headSize, dataSize, sealed, frameFor, buildRefusals, built, bufferAfter}
+use Rattle.host.specs.Frames.{headSize, sealed, valueCount, frameFor, buildRefusals, built, bufferAfter}
 use Rattle.ports.specs.Ports.{partA}
 use Rattle.ports.specs.Parts.{bytesOf}
+use Rattle.messages.specs.declared.verdicts.Verdict.the-variants.{Refused as Unjudged, Passed as Good, Failed, Damaged, TimedOut}
+use Rattle.messages.specs.Messages.{message, countIn, flagsIn as flagsByte, messageRight, isPass}
+use Rattle.messages.specs.Verdicts.{verdictRefusals, verdict}
+use Rattle.heartbeats.specs.declared.steps.Beat.the-variants.{Silent, Sends}
+use Rattle.heartbeats.specs.Steps.{manages, isManager, isTimeout, ndev, towardsA, woken, wakes, reached, answers, late}
+use Rattle.heartbeats.proofs.Kept.{woken-spares, woken-lpcm, late-spares, late-lpcm, reached-spares, reached-lpcm, manager-left, awake-left, wrong-left}
+use Rattle.heartbeats.proofs.Examples.{Turns, turns}
+use Rattle.messages.proofs.Sent.{message-bytes, message-right}
+use Rattle.messages.proofs.Judged.{exactly, sent-passed, sent-failed}
+use Rattle.messages.proofs.Struck.{damaged-by-data, damaged-by-command, damaged-by-spike}
 use Rattle.story.specs.Numbers.{First}
 use Rattle.story.specs.Snapshots.{snappedAfter}
-use Rattle.story.specs.Spikes.{StruckData, StruckCommand, ownEight, unhit, unhitOf}
-use Rattle.story.proofs.Accepted.{frame-refused, write-answer, wrrr-answer, read-answer, bare-answer, record-after, reply-own, reply-past, write-no-reply, bare-no-reply, store-done, store-own, store-others, compare-done, compare-own, compare-others, load-done, load-own, load-others, discharge-answer, host-writes}
-use Rattle.story.proofs.OurHost.{own-six, write-taken-by-all, bare-taken-by-all, each-keeps-its-own, reply-right, read-taken-by-all, each-reply-its-own, each-reply-right}
-use Rattle.story.specs.ReadsBack.{ReadsBack, as-written, fixed-behind-two}
-use Rattle.story.proofs.ReadBack.{b-read-back, pwm-a-read-back, pwm-b-read-back}
+use Rattle.story.specs.Growth.{size01, sizeL2, sizeL6, sizeL8}
+use Rattle.story.specs.Lpcm.{enabledAfter}
+use Rattle.story.specs.Spikes.{StruckData, StruckCommand, ownIn, unhit, unhitOf, unhitAwake}
+use Rattle.story.proofs.Accepted.{frame-refused, write-answer, write-answer-awake, wrrr-answer, read-answer, bare-answer, record-after, reply-own, reply-past, write-no-reply, bare-no-reply, store-done, store-own, store-others, compare-done, compare-own, compare-others, load-done, load-own, load-others, discharge-answer, host-writes}
+use Rattle.story.proofs.OurHost.{own-data, write-taken, write-taken-by-all, bare-taken-by-all, each-keeps-its-own, reply-right, read-taken-by-all, each-reply-its-own, each-reply-right}
+use Rattle.story.specs.ReadsBack.{ReadsBack, as-written, fixed-behind-two, three-thresholds}
+use Rattle.story.proofs.ReadBack.{b-read-back, pwm-a-read-back, pwm-b-read-back, lpcm-read-back, cell-thresholds-read-back, gpio-thresholds-read-back}
 use Rattle.story.proofs.Retention.{wrrr-unlocked, wrrr-locked, ulrr-unlocks, retained, not-retained}
-use Rattle.story.proofs.AsBefore.{base-as-before, copy-as-before, reply-as-before, pwm-stays, a-stays, b-stays, copy-stays}
+use Rattle.story.proofs.AsBefore.{as-before, front-awake, cmf0-stays, last-stays, reply-as-before, pwm-stays, a-stays, b-stays, copy-stays}
 use Rattle.story.proofs.Snapshot.{snap-takes, snap-again, snap-again-shows, snap-st, snap-copies, store-snap-st, store-copy, compare-snap-st, compare-copy, shows-the-cells, shows-as-it-lies}
+use Rattle.story.proofs.Lpcm.{cmen-enables, cmen-again, enabled-after, last-cells, clrcmflag-clears}
+use Rattle.story.proofs.Beats.{manager-wakes, no-manager-sleeps, monitor-sends-on, timeout-judges, time-runs-out}
 use Rattle.story.proofs.Muting.{mute-answers, unmute-answers}
 use Rattle.story.proofs.BothEnds.{the-replies, handed-from-a, handed-from-b}
 use Rattle.story.proofs.Cleared.{clrcell-clears}
-use Rattle.story.proofs.Spikes.{hit-by-bit, unhit-by-bits, struck-answer, struck-no-reply, struck-some, struck-hit, struck-unhit, struck-wrrr-answer, struck-wrrr-stores, struck-wrrr-locked, struck-refused}
+use Rattle.story.proofs.Spikes.{hit-by-bit, unhit-by-bits, struck-answer, struck-answer-awake, awake-unhit, struck-no-reply, struck-some, struck-fewer, struck-hit, struck-lpcm, struck-unhit, struck-wrrr-answer, struck-wrrr-stores, struck-wrrr-locked, struck-refused}
 use Rattle.story.proofs.Sharp.{Sharp, sharp}
 use Rattle.story.proofs.EitherSide.{EitherSide, either-side}
 
@@ -102,59 +124,68 @@ pub record Demand2 : Type 0 where
       ∷ (ltb room (replyLength (commandIn frame) (monitors table)) gives NoRoom)
       ∷ []
   refused : (table frame : List ℕ) (room : ℕ) (r : Refusal) → First (frameRefusals table frame room) r → answer table frame room ≡ Refused r
-  -- none holds: a write other than WRRR is taken by as many monitors as find their own eight bytes right; a WRRR, which is executed whatever its
-  -- check, a read and a bare command by all N
+  -- none holds: a write other than WRRR is taken by as many monitors as are not in LPCM and find their own bytes right, in a chain with none in LPCM by as many as
+  -- find them right; a WRRR, which is executed whatever its check, by all that are not in LPCM; a read and a bare command by all N
   write-answer : (table frame : List ℕ) (room : ℕ) → Passed (frameRefusals table frame room) → (c : Write) → (c ≡ Wrrr → ⊥) → commandIn frame ≡ Writes c
-      → answer table frame room ≡ Accepted (count payloadRight (payloadsIn frame (monitors table))) 0
+      → answer table frame room
+      ≡ Accepted (count (λ k. not (inLpcm (rowAt recordSize k table)) && sealedRight (dataSize c) (ownIn (Writes c) (monitors table) frame k)) (tabulate (λ k. k) 0 (monitors table))) 0
+  write-answer-awake : (table frame : List ℕ) (room : ℕ) → Passed (frameRefusals table frame room) → (c : Write) → (c ≡ Wrrr → ⊥) → commandIn frame ≡ Writes c
+      → Awake (monitors table) table → answer table frame room ≡ Accepted (count (sealedRight (dataSize c)) (payloadsIn (Writes c) frame (monitors table))) 0
   wrrr-answer : (table frame : List ℕ) (room : ℕ) → Passed (frameRefusals table frame room) → commandIn frame ≡ Writes Wrrr
-      → answer table frame room ≡ Accepted (monitors table) 0
+      → answer table frame room ≡ Accepted (awakeOf (monitors table) table) 0
+  awake-all : (n : ℕ) (table : List ℕ) → Awake n table → awakeOf n table ≡ n
   read-answer : (table frame : List ℕ) (room : ℕ) → Passed (frameRefusals table frame room) → (part : Part) → commandIn frame ≡ Reads part
       → answer table frame room ≡ Accepted (monitors table) (payloadSize * monitors table)
   bare-answer : (table frame : List ℕ) (room : ℕ) → Passed (frameRefusals table frame room) → (c : Bare) → commandIn frame ≡ Bares c
       → answer table frame room ≡ Accepted (monitors table) 0
-  -- every monitor keeps what the command makes of its own record and its own eight bytes: monitor k's are the k-th from the end
+  -- every monitor keeps what the command makes of its own record and its own bytes: monitor k's are the k-th from the end, of the command's width
   own-record : (table frame : List ℕ) (room : ℕ) → Passed (frameRefusals table frame room) → (k : ℕ) → k < monitors table
       → rowAt recordSize k (tableAfter table frame room)
-      ≡ keeps (commandIn frame) (rowAt payloadSize (monitors table - suc k) (drop 4 frame)) (rowAt recordSize k table)
-  -- `monitor::act`: every accepted command locks the retention; a taken write or bare command counts; a wrong payload changes no more, WRRR's
-  -- excepted
-  read-keeps : (part : Part) (eight r : List ℕ) → keeps (Reads part) eight r ≡ locked r
-  bare-keeps : (c : Bare) (eight r : List ℕ) → keeps (Bares c) eight r ≡ done c (counted (locked r))
-  right-keeps : (c : Write) (eight r : List ℕ) → payloadRight eight ≡ true
-      → keeps (Writes c) eight r ≡ written c (byteOf unlocked r) eight (counted (locked r))
-  wrong-keeps : (c : Write) → (c ≡ Wrrr → ⊥) → (eight r : List ℕ) → payloadRight eight ≡ false → keeps (Writes c) eight r ≡ locked r
-  -- WRRR's own lines: whatever the last two of its eight bytes are, it counts; it stores the first six where byte 69 was 1, and nothing where it was not
-  wrrr-unlocked : (eight r : List ℕ) → length eight ≡ payloadSize → ((i : ℕ) → i < dataSize → getD eight i 0 < 256) → byteOf unlocked r ≡ 1
+      ≡ keeps (commandIn frame) (rowAt (widthOf (commandIn frame)) (monitors table - suc k) (drop 4 frame)) (rowAt recordSize k table)
+  six-data : (c : Write) → (c ≡ Clrcmflag → ⊥) → dataSize c ≡ 6
+  two-data : dataSize Clrcmflag ≡ 2
+  widths : (c : Write) → widthOf (Writes c) ≡ dataSize c + 2
+  -- `monitor::act`: every accepted command locks the retention; a taken write or bare command counts; wrong bytes change no more, WRRR's
+  -- excepted, and in LPCM no write does
+  read-keeps : (part : Part) (own r : List ℕ) → keeps (Reads part) own r ≡ locked r
+  bare-keeps : (c : Bare) (own r : List ℕ) → keeps (Bares c) own r ≡ done c (counted (locked r))
+  right-keeps : (c : Write) (own r : List ℕ) → inLpcm r ≡ false → sealedRight (dataSize c) own ≡ true
+      → keeps (Writes c) own r ≡ written c (byteOf unlocked r) own (counted (locked r))
+  wrong-keeps : (c : Write) → (c ≡ Wrrr → ⊥) → (own r : List ℕ) → sealedRight (dataSize c) own ≡ false → keeps (Writes c) own r ≡ locked r
+  lpcm-keeps : (c : Write) (own r : List ℕ) → inLpcm r ≡ true → keeps (Writes c) own r ≡ locked r
+  -- WRRR's own lines, not in LPCM: whatever the last two of its eight bytes are, it counts; it stores the first six where byte 69 was 1, and nothing where it was not
+  wrrr-unlocked : (eight r : List ℕ) → length eight ≡ payloadSize → inLpcm r ≡ false → ((i : ℕ) → i < registerSize → getD eight i 0 < 256) → byteOf unlocked r ≡ 1
       → keeps (Writes Wrrr) eight r ≡ onBytes retention (λ i old. getD eight i 0) (counted (locked r))
-  wrrr-locked : (eight r : List ℕ) → length eight ≡ payloadSize → (byteOf unlocked r ≡ 1 → ⊥) → keeps (Writes Wrrr) eight r ≡ counted (locked r)
-  -- through frames: ULRR unlocks every monitor. RDRR after a WRRR, whatever its checks, shows of a monitor that was unlocked the six bytes that the
-  -- WRRR had for it, and of any other the six that it held
+  wrrr-locked : (eight r : List ℕ) → length eight ≡ payloadSize → inLpcm r ≡ false → (byteOf unlocked r ≡ 1 → ⊥) → keeps (Writes Wrrr) eight r ≡ counted (locked r)
+  -- through frames: ULRR unlocks every monitor. RDRR after a WRRR, whatever its checks, shows of a monitor that was unlocked and not in LPCM the six bytes
+  -- that the WRRR had for it, and of any other the six that it held
   ulrr-unlocks : (table frame : List ℕ) (room : ℕ) → Passed (frameRefusals table frame room) → commandIn frame ≡ Bares Ulrr
       → (k : ℕ) → k < monitors table → byteOf unlocked (rowAt recordSize k (tableAfter table frame room)) ≡ 1
   retained : (table write read buffer : List ℕ) (room : ℕ) → Passed (frameRefusals table write room) → commandIn write ≡ Writes Wrrr
       → Passed (frameRefusals (tableAfter table write room) read (length buffer)) → commandIn read ≡ Reads rdrr
-      → (k : ℕ) → k < monitors table → byteOf unlocked (rowAt recordSize k table) ≡ 1 → ((i : ℕ) → getD write i 0 < 256)
-      → take dataSize (rowAt payloadSize k (replyAfter (tableAfter table write room) read buffer))
-      ≡ take dataSize (rowAt payloadSize (monitors table - suc k) (drop 4 write))
+      → (k : ℕ) → k < monitors table → inLpcm (rowAt recordSize k table) ≡ false → byteOf unlocked (rowAt recordSize k table) ≡ 1 → ((i : ℕ) → getD write i 0 < 256)
+      → take registerSize (rowAt payloadSize k (replyAfter (tableAfter table write room) read buffer))
+      ≡ take registerSize (rowAt payloadSize (monitors table - suc k) (drop 4 write))
   not-retained : (table write read buffer : List ℕ) (room : ℕ) → Passed (frameRefusals table write room) → commandIn write ≡ Writes Wrrr
       → Passed (frameRefusals (tableAfter table write room) read (length buffer)) → commandIn read ≡ Reads rdrr
-      → (k : ℕ) → k < monitors table → (byteOf unlocked (rowAt recordSize k table) ≡ 1 → ⊥)
-      → take dataSize (rowAt payloadSize k (replyAfter (tableAfter table write room) read buffer)) ≡ partOf retention (rowAt recordSize k table)
+      → (k : ℕ) → k < monitors table → (byteOf unlocked (rowAt recordSize k table) ≡ 1 → ⊥) ⊎ (inLpcm (rowAt recordSize k table) ≡ true)
+      → take registerSize (rowAt payloadSize k (replyAfter (tableAfter table write room) read buffer)) ≡ partOf retention (rowAt recordSize k table)
   -- a command changes no part of a record but the retention byte, the counter and the parts that are its own
-  spares : (p : Part) (c : Command) (eight r : List ℕ) → Spares c p → partOf p (keeps c eight r) ≡ partOf p r
-  -- the record has grown behind its byte 69, twice: by the PWM groups, and by the copy of the cells. Every command that was there before does to the
-  -- front what it does without the rest, and leaves the rest. A read of a part of the front replies from it, one of the cells where no snapshot is on
-  as-before : (c : Command) (eight front rest : List ℕ) → (c ≡ Writes Wrpwma → ⊥) → (c ≡ Writes Wrpwmb → ⊥) → (c ≡ Bares Snap → ⊥) → length front ≡ pwmA .at
-      → keeps c eight (front ++ rest) ≡ keeps c eight front ++ rest
-  as-before-snap : (c : Command) (eight front rest : List ℕ) → (c ≡ Bares Snap → ⊥) → length front ≡ snapshot .at
-      → keeps c eight (front ++ rest) ≡ keeps c eight front ++ rest
+  spares : (p : Part) (c : Command) (own r : List ℕ) → Spares c p → partOf p (keeps c own r) ≡ partOf p r
+  -- the record has grown behind its byte 69, three times: by the PWM groups, by the copy of the cells, and by LPCM's. Every command does to a front that has all
+  -- of the command's own parts what it does without the rest, and leaves the rest: a write where the rest does not say that the monitor is in LPCM, which a front that
+  -- ends before LPCM's flags does not say. A read of a part of the front replies from it, one of the cells where no snapshot is on
+  as-before : (c : Command) (own front rest : List ℕ) → size01 ≤ length front → Before c (length front)
+      → ((w : Write) → c ≡ Writes w → inLpcm (front ++ rest) ≡ inLpcm front) → keeps c own (front ++ rest) ≡ keeps c own front ++ rest
+  front-awake : (front : List ℕ) → length front ≤ cmf1 .at → inLpcm front ≡ false
+  sizes : (size01 ≡ 70) × (sizeL2 ≡ 82) × (sizeL6 ≡ 114) × (sizeL8 ≡ 170)
   replies-as-before : (p : Part) (front rest : List ℕ) → p .at + p .size ≤ length front → pwmA .at ≤ length front → ofCells p && snapped front ≡ false
       → reply p (front ++ rest) ≡ reply p front
   -- so both PWM groups stay, and each also where the other is written
-  pwm-stays : (c : Command) → (c ≡ Writes Wrpwma → ⊥) → (c ≡ Writes Wrpwmb → ⊥) → (eight r : List ℕ)
-      → (partOf pwmA (keeps c eight r) ≡ partOf pwmA r) × (partOf pwmB (keeps c eight r) ≡ partOf pwmB r)
-  pwm-a-stays : (eight r : List ℕ) → partOf pwmA (keeps (Writes Wrpwmb) eight r) ≡ partOf pwmA r
-  pwm-b-stays : (eight r : List ℕ) → partOf pwmB (keeps (Writes Wrpwma) eight r) ≡ partOf pwmB r
+  pwm-stays : (c : Command) → (c ≡ Writes Wrpwma → ⊥) → (c ≡ Writes Wrpwmb → ⊥) → (own r : List ℕ)
+      → (partOf pwmA (keeps c own r) ≡ partOf pwmA r) × (partOf pwmB (keeps c own r) ≡ partOf pwmB r)
+  pwm-a-stays : (own r : List ℕ) → partOf pwmA (keeps (Writes Wrpwmb) own r) ≡ partOf pwmA r
+  pwm-b-stays : (own r : List ℕ) → partOf pwmB (keeps (Writes Wrpwma) own r) ≡ partOf pwmB r
   -- a sound table stays sound, with its N monitors
   stays-sound : (table frame : List ℕ) (room : ℕ) → sound table ≡ true → Keeps table (tableAfter table frame room)
   -- every monitor replies in its own place, nearest first, and the bytes past the reply stay
@@ -171,23 +202,23 @@ pub record Demand2 : Type 0 where
   reply-is-right : (part : Part) (r : List ℕ) → payloadRight (reply part r) ≡ true
   -- ---- a snapshot
 
-  -- the copy of the cells is as long as they are, and the record's last part
+  -- the copy of the cells is as long as they are, and the last part that the record had when SNAP came
   copy-long : snapshot .size ≡ cells .size
-  copy-last : snapshot .at + snapshot .size ≡ recordSize
+  copy-last : snapshot .at + snapshot .size ≡ sizeL6
   -- SNAP where SNAP_ST, bit 5 of its byte, is clear: the copy becomes what the cells are, and SNAP_ST is set; where it is set, no more than every bare
   -- command does, which locks and counts. UNSNAP clears it. No more of the record changes: not the live cells, and at UNSNAP not the copy
   snap-st-at : (r : List ℕ) → snapped r ≡ bitAt 5 (getD r (statusBits .at) 0)
-  snap-takes : (eight r : List ℕ) → snapped r ≡ false
-      → keeps (Bares Snap) eight r ≡ onBytes statusBits (λ i old. bitOr old 0x20) (onBytes snapshot (λ i old. getD (partOf cells r) i 0) (counted (locked r)))
-  snap-again : (eight r : List ℕ) → snapped r ≡ true → keeps (Bares Snap) eight r ≡ counted (locked r)
-  unsnap : (eight r : List ℕ) → keeps (Bares Unsnap) eight r ≡ onBytes statusBits (λ i old. bitAnd old 0xDF) (counted (locked r))
+  snap-takes : (own r : List ℕ) → snapped r ≡ false
+      → keeps (Bares Snap) own r ≡ onBytes statusBits (λ i old. bitOr old 0x20) (onBytes snapshot (λ i old. getD (partOf cells r) i 0) (counted (locked r)))
+  snap-again : (own r : List ℕ) → snapped r ≡ true → keeps (Bares Snap) own r ≡ counted (locked r)
+  unsnap : (own r : List ℕ) → keeps (Bares Unsnap) own r ≡ onBytes statusBits (λ i old. bitAnd old 0xDF) (counted (locked r))
   -- so SNAP_ST after each command; the copy after SNAP, which is what the cell reads showed before it, and after every other command
-  snap-st : (eight r : List ℕ) → length r ≡ recordSize → (c : Command) → snapped (keeps c eight r) ≡ snappedAfter c (snapped r)
-  snap-copies : (eight r : List ℕ) → length r ≡ recordSize → partOf snapshot (keeps (Bares Snap) eight r) ≡ shownCells r
-  copy-stays : (c : Command) (eight r : List ℕ) → (c ≡ Bares Snap → ⊥) → partOf snapshot (keeps c eight r) ≡ partOf snapshot r
+  snap-st : (own r : List ℕ) → length r ≡ recordSize → (c : Command) → snapped (keeps c own r) ≡ snappedAfter c (snapped r)
+  snap-copies : (own r : List ℕ) → length r ≡ recordSize → partOf snapshot (keeps (Bares Snap) own r) ≡ shownCells r
+  copy-stays : (c : Command) (own r : List ℕ) → (c ≡ Bares Snap → ⊥) → partOf snapshot (keeps c own r) ≡ partOf snapshot r
   -- no read shows another register for a SNAP where SNAP_ST was set
-  snap-again-shows : (eight r : List ℕ) → snapped r ≡ true → (p : Part) → Apart p unlocked → Apart p counter
-      → register p (keeps (Bares Snap) eight r) ≡ register p r
+  snap-again-shows : (own r : List ℕ) → snapped r ≡ true → (p : Part) → Apart p unlocked → Apart p counter
+      → register p (keeps (Bares Snap) own r) ≡ register p r
   -- a store and a compare leave both
   store-snap : (codes : List ℤ) (r : List ℕ) → (snapped (store codes r) ≡ snapped r) × (partOf snapshot (store codes r) ≡ partOf snapshot r)
   compare-snap : (r : List ℕ) → (snapped (compare r) ≡ snapped r) × (partOf snapshot (compare r) ≡ partOf snapshot r)
@@ -197,7 +228,62 @@ pub record Demand2 : Type 0 where
   shown-cells : (r : List ℕ) → shownCells r ≡ cond (snapped r) (partOf snapshot r) (partOf cells r)
   cells-shown : (r : List ℕ) → length r ≡ recordSize → joined (map (λ p. register p r) cellReads) ≡ shownCells r ++ replicate 4 0xFF
   other-shown : (p : Part) (r : List ℕ) → ofCells p ≡ false → register p r ≡ sixBytes p r
-  the-others : map ofCells (rdcfga ∷ rdcfgb ∷ rdstatc ∷ rdstatd ∷ rdsid ∷ rdrr ∷ rdpwma ∷ rdpwmb ∷ []) ≡ replicate 8 false
+  the-others : map ofCells (rdcfga ∷ rdcfgb ∷ rdstatc ∷ rdstatd ∷ rdsid ∷ rdrr ∷ rdpwma ∷ rdpwmb ∷ rdcmcfg ∷ rdcmcellt ∷ rdcmgpiot ∷ rdcmflag ∷ []) ≡ replicate 12 false
+  -- ---- LPCM: its settings, and enabling it
+
+  -- where they lie: the configuration, the thresholds of the cells and of the GPIOs, the flags, six bytes each, and the cells of the last measurement, as long as the
+  -- cells are and the record's last part. CMC_EN is bit 7 of CMF1, byte 1 of the flags
+  lpcm-places : (lpcmConfiguration .at ≡ 114) × (lpcmCellThresholds .at ≡ 120) × (lpcmGpioThresholds .at ≡ 126) × (lpcmFlags .at ≡ 132) × (lastCells .at ≡ 138)
+  lpcm-at : (r : List ℕ) → inLpcm r ≡ bitAt 7 (getD r (lpcmFlags .at + 1) 0)
+  last-long : lastCells .size ≡ cells .size
+  last-last : lastCells .at + lastCells .size ≡ recordSize
+  -- a frame of CLRCMFLAG has four bytes for each monitor, and our host wants two; CMHB is sent by monitors, and is not listed
+  clrcmflag-long : (n : ℕ) → (frameLength (Writes Clrcmflag) n ≡ 4 + 4 * n) × (valueCount (Writes Clrcmflag) n ≡ 2 * n)
+  cmhb-unlisted : commandOf 0x0043 commands ≡ Unlisted
+  -- CMEN where CMC_EN is clear: CMF1 becomes 83 (hex), and the last measurement what the live cells are; where it is set, no more than every bare command does.
+  -- CMDIS clears CMC_EN alone. So CMC_EN after each command
+  cmen-enables : (own r : List ℕ) → inLpcm r ≡ false
+      → keeps (Bares Cmen) own r ≡ onBytes cmf1 (λ i old. 0x83) (onBytes lastCells (λ i old. getD (partOf cells r) i 0) (counted (locked r)))
+  cmen-again : (own r : List ℕ) → inLpcm r ≡ true → keeps (Bares Cmen) own r ≡ counted (locked r)
+  cmdis : (own r : List ℕ) → keeps (Bares Cmdis) own r ≡ onBytes cmf1 (λ i old. bitAnd old 0x7F) (counted (locked r))
+  cmc-en : (own r : List ℕ) → length r ≡ recordSize → (c : Command) → inLpcm (keeps c own r) ≡ enabledAfter c (inLpcm r)
+  -- CLRCMFLAG, its two data bytes and their check right: each bit of the first that is 1 clears that bit of CMF0, and whatever the second is CMF1, a byte, stays
+  clrcmflag-clears : (own r : List ℕ) → length r ≡ recordSize → inLpcm r ≡ false → sealedRight 2 own ≡ true → getD own 0 0 < 256 → byteOf cmf1 r < 256
+      → keeps (Writes Clrcmflag) own r ≡ onBytes cmf0 (λ i old. bitAnd old (255 - getD own 0 0)) (counted (locked r))
+  -- so CMF0 changes by CLRCMFLAG alone, and stays at CMEN and CMDIS; the last measurement changes by CMEN alone
+  cmf0-stays : (c : Command) (own r : List ℕ) → (c ≡ Writes Clrcmflag → ⊥) → partOf cmf0 (keeps c own r) ≡ partOf cmf0 r
+  last-stays : (c : Command) (own r : List ℕ) → (c ≡ Bares Cmen → ⊥) → partOf lastCells (keeps c own r) ≡ partOf lastCells r
+  last-taken : (own r : List ℕ) → length r ≡ recordSize
+      → partOf lastCells (keeps (Bares Cmen) own r) ≡ cond (inLpcm r) (partOf lastCells r) (partOf cells r)
+  -- ---- LPCM: one monitor's measurement, `measuring::measure`
+
+  -- it changes CMF0 and the last measurement alone: every part that has no byte of these stays, the counter, byte 69 and CMF1 among them, and the record is as long and
+  -- as sound as it was. The last measurement becomes what the cells are, those left out too
+  measured-as-long : (r : List ℕ) → length (measured r) ≡ length r
+  measured-sound : (r : List ℕ) → recordSound (measured r) ≡ recordSound r
+  measured-spares : (r : List ℕ) (p : Part) → Apart p cmf0 → Apart p lastCells → partOf p (measured r) ≡ partOf p r
+  measured-last : (r : List ℕ) → length r ≡ recordSize → partOf lastCells (measured r) ≡ partOf cells r
+  -- the kinds, by their bits of CMF0, with the live code and the last: below CUV, above COV, fallen and risen by more than CDV
+  cuv-kind : (r : List ℕ) (c : ℕ) → violates 0 r c ≡ ltZ (codeIn cells r c .0) (codesOf (lower lpcmCellThresholds r) .0)
+  cov-kind : (r : List ℕ) (c : ℕ) → violates 1 r c ≡ ltZ (codesOf (upper lpcmCellThresholds r) .0) (codeIn cells r c .0)
+  cdvn-kind : (r : List ℕ) (c : ℕ) → violates 2 r c ≡ ltZ (pos (8 * cdv r)) (codeIn lastCells r c .0 -ℤ codeIn cells r c .0)
+  cdvp-kind : (r : List ℕ) (c : ℕ) → violates 3 r c ≡ ltZ (pos (8 * cdv r)) (codeIn cells r c .0 -ℤ codeIn lastCells r c .0)
+  -- a flag that stands stays; a cell that is not left out and violates a kind sets its flag; a diagnostic that is pending sets all eight; nothing else sets one
+  flags-stay : (r : List ℕ) → length r ≡ recordSize → (k : ℕ) → bitAt k (byteOf cmf0 r) ≡ true → bitAt k (byteOf cmf0 (measured r)) ≡ true
+  violation-shows : (r : List ℕ) → length r ≡ recordSize → (c k : ℕ) → c < cellCount → masked r c ≡ false → violates k r c ≡ true
+      → bitAt k (byteOf cmf0 (measured r)) ≡ true
+  pending-shows : (r : List ℕ) → length r ≡ recordSize → pending r ≡ true → (k : ℕ) → k < 8 → bitAt k (byteOf cmf0 (measured r)) ≡ true
+  nothing-else : (r : List ℕ) → length r ≡ recordSize → pending r ≡ false → (k : ℕ) → bitAt k (byteOf cmf0 r) ≡ false
+      → ((c : ℕ) → c < cellCount → masked r c ≡ false → violates k r c ≡ false) → bitAt k (byteOf cmf0 (measured r)) ≡ false
+  -- so it passes exactly where no flag stood, nothing is pending and no such cell violates a kind
+  passes-where : (r : List ℕ) → length r ≡ recordSize → byteOf cmf0 r ≡ 0 → pending r ≡ false
+      → ((c : ℕ) → c < cellCount → masked r c ≡ false → (k : ℕ) → violates k r c ≡ false) → passes r ≡ true
+  passed-clear : (r : List ℕ) → length r ≡ recordSize → passes r ≡ true → byteOf cmf0 r ≡ 0
+  passed-nothing-pending : (r : List ℕ) → length r ≡ recordSize → passes r ≡ true → pending r ≡ false
+  passed-nothing-violated : (r : List ℕ) → length r ≡ recordSize → passes r ≡ true → (c : ℕ) → c < cellCount → masked r c ≡ false
+      → (k : ℕ) → violates k r c ≡ false
+  -- the sheet's two settings, and each limit one code inside and one outside
+  measurements : Measurements
   -- ---- readings: `loads::store`, `loads::compare` and `loads::load`
 
   -- the exact refusals, in their order; a load's are its store's
@@ -341,17 +427,20 @@ pub record Demand2 : Type 0 where
   host-writes : (code n : ℕ) (values buffer : List ℕ) → Passed (buildRefusals code n values (length buffer))
       → (built code n values (length buffer) ≡ Length (length (frameFor code n values)))
       × (bufferAfter code n values buffer ≡ frameFor code n values ++ drop (length (frameFor code n values)) buffer)
-  -- monitor k's eight bytes, the k-th from the end of the frame, are the k-th six of our list with their check
-  own-six : (code n : ℕ) (values : List ℕ) (c : Write) → commandOf code commands ≡ Writes c → length values ≡ dataSize * n → (k : ℕ) → k < n
-      → rowAt payloadSize (n - suc k) (drop 4 (frameFor code n values)) ≡ sealed (rowAt dataSize k values)
-  -- the chain accepts the write, all N monitors take it, and each keeps what the command makes of its own six bytes
+  -- monitor k's own bytes, the k-th from the end of the frame, are the k-th data of our list with their check
+  own-data : (code n : ℕ) (values : List ℕ) (c : Write) → commandOf code commands ≡ Writes c → length values ≡ dataSize c * n → (k : ℕ) → k < n
+      → rowAt (widthOf (Writes c)) (n - suc k) (drop 4 (frameFor code n values)) ≡ sealed (rowAt (dataSize c) k values)
+  -- the chain accepts the write, all monitors take it that are not in LPCM, all N where none is, and each keeps what the command makes of its own data
+  awake-take : (table values buffer : List ℕ) (code : ℕ) (c : Write) → commandOf code commands ≡ Writes c → sound table ≡ true
+      → length values ≡ dataSize c * monitors table
+      → answer table (frameFor code (monitors table) values) (length buffer) ≡ Accepted (awakeOf (monitors table) table) 0
   all-take : (table values buffer : List ℕ) (code : ℕ) (c : Write) → commandOf code commands ≡ Writes c → sound table ≡ true
-      → length values ≡ dataSize * monitors table
+      → length values ≡ dataSize c * monitors table → Awake (monitors table) table
       → answer table (frameFor code (monitors table) values) (length buffer) ≡ Accepted (monitors table) 0
   each-keeps : (table values buffer : List ℕ) (code : ℕ) (c : Write) → commandOf code commands ≡ Writes c → sound table ≡ true
-      → length values ≡ dataSize * monitors table → (k : ℕ) → k < monitors table
+      → length values ≡ dataSize c * monitors table → (k : ℕ) → k < monitors table
       → rowAt recordSize k (tableAfter table (frameFor code (monitors table) values) (length buffer))
-      ≡ keeps (Writes c) (sealed (rowAt dataSize k values)) (rowAt recordSize k table)
+      ≡ keeps (Writes c) (sealed (rowAt (dataSize c) k values)) (rowAt recordSize k table)
   -- the chain accepts a bare command, and all N monitors take it
   all-take-bare : (table buffer : List ℕ) (code : ℕ) (c : Bare) → commandOf code commands ≡ Bares c → sound table ≡ true
       → answer table (frameFor code (monitors table) []) (length buffer) ≡ Accepted (monitors table) 0
@@ -365,10 +454,14 @@ pub record Demand2 : Type 0 where
   each-right : (table buffer : List ℕ) (code : ℕ) (part : Part) → commandOf code commands ≡ Reads part → sound table ≡ true
       → payloadSize * monitors table ≤ length buffer → (k : ℕ) → k < monitors table
       → payloadRight (rowAt payloadSize k (replyAfter table (frameFor code (monitors table) []) buffer)) ≡ true
-  -- configuration B and PWM group A written and read back are our list; of PWM group B the first two bytes of each six, and four of FF
+  -- configuration B, PWM group A and the LPCM configuration written and read back are our list, of each monitor that is not in LPCM; of PWM group B the first two bytes
+  -- of each six, and four of FF; of LPCM's thresholds their 36 bits, and 0
   read-back : ReadsBack Wrcfgb rdcfgb as-written
   read-back-pwm-a : ReadsBack Wrpwma rdpwma as-written
   read-back-pwm-b : ReadsBack Wrpwmb rdpwmb fixed-behind-two
+  read-back-lpcm : ReadsBack Wrcmcfg rdcmcfg as-written
+  read-back-cell-thresholds : ReadsBack Wrcmcellt rdcmcellt three-thresholds
+  read-back-gpio-thresholds : ReadsBack Wrcmgpiot rdcmgpiot three-thresholds
   -- `host::part_of`: what the chain replies at port A, and from its other end at port B, hands over monitor k's own reply, k from 1
   port-a : (table buffer : List ℕ) (code : ℕ) (part : Part) → commandOf code commands ≡ Reads part → sound table ≡ true
       → length buffer ≡ payloadSize * monitors table
@@ -382,37 +475,44 @@ pub record Demand2 : Type 0 where
   -- it struck and where
 
   -- a write other than WRRR, at least one bit of it turned over, all of these within ten places in a row and none in the first four bytes: it is accepted, and
-  -- as many monitors take it as were not hit: those whose own eight bytes came as they were sent
+  -- as many monitors take it as were not hit, those whose own bytes came as they were sent, and are not in LPCM; in a chain with none in LPCM, as were not hit
   spike-answer : (table sent came buffer : List ℕ) → sound table ≡ true → (c : Write) → (c ≡ Wrrr → ⊥) → StruckData (Writes c) (monitors table) sent came
-      → (answer table came (length buffer) ≡ Accepted (unhitOf (monitors table) sent came) 0) × (replyAfter table came buffer ≡ buffer)
+      → (answer table came (length buffer) ≡ Accepted (unhitAwake (Writes c) (monitors table) table sent came) 0) × (replyAfter table came buffer ≡ buffer)
+  spike-answer-awake : (table sent came buffer : List ℕ) → sound table ≡ true → (c : Write) → (c ≡ Wrrr → ⊥) → StruckData (Writes c) (monitors table) sent came
+      → Awake (monitors table) table → answer table came (length buffer) ≡ Accepted (unhitOf (Writes c) (monitors table) sent came) 0
+  unhit-awake : (table sent came : List ℕ) → sound table ≡ true → (c : Write) → StruckData (Writes c) (monitors table) sent came → Awake (monitors table) table
+      → unhitAwake (Writes c) (monitors table) table sent came ≡ unhitOf (Writes c) (monitors table) sent came
   -- those are fewer than N
   spike-not-all : (table sent came : List ℕ) → sound table ≡ true → (c : Write) → StruckData (Writes c) (monitors table) sent came
-      → unhitOf (monitors table) sent came < monitors table
-  -- by bits: a monitor is hit by any bit of its own eight bytes, and by nothing else. So a spike with bits on both sides of a border of two payloads hits both
-  hit-by-bit : (n : ℕ) (sent came : List ℕ) (k : ℕ) → k < n → (i : ℕ) → i < 8 * payloadSize
-      → (getD (bitsOfBytes came) (8 * headSize + 8 * payloadSize * (n - suc k) + i) false ≡ getD (bitsOfBytes sent) (8 * headSize + 8 * payloadSize * (n - suc k) + i) false → ⊥)
-      → unhit n sent came k ≡ false
-  unhit-by-bits : (n : ℕ) (sent came : List ℕ) (k : ℕ) → k < n → Bytes sent → Bytes came → length came ≡ length sent
-      → ((i : ℕ) → i < 8 * payloadSize
-      → getD (bitsOfBytes came) (8 * headSize + 8 * payloadSize * (n - suc k) + i) false ≡ getD (bitsOfBytes sent) (8 * headSize + 8 * payloadSize * (n - suc k) + i) false)
-      → unhit n sent came k ≡ true
-  -- a monitor that was hit keeps its record, counter included, but for its unlock byte, which becomes 0
+      → (unhitOf (Writes c) (monitors table) sent came < monitors table) × (unhitAwake (Writes c) (monitors table) table sent came < monitors table)
+  -- by bits: a monitor is hit by any bit of its own bytes, and by nothing else. So a spike with bits on both sides of a border of two payloads hits both
+  hit-by-bit : (c : Command) (n : ℕ) (sent came : List ℕ) (k : ℕ) → k < n → (i : ℕ) → i < 8 * widthOf c
+      → (getD (bitsOfBytes came) (8 * headSize + 8 * ((n - suc k) * widthOf c) + i) false ≡ getD (bitsOfBytes sent) (8 * headSize + 8 * ((n - suc k) * widthOf c) + i) false → ⊥)
+      → unhit c n sent came k ≡ false
+  unhit-by-bits : (c : Command) (n : ℕ) (sent came : List ℕ) (k : ℕ) → k < n → Bytes sent → Bytes came → length came ≡ length sent
+      → ((i : ℕ) → i < 8 * widthOf c
+      → getD (bitsOfBytes came) (8 * headSize + 8 * ((n - suc k) * widthOf c) + i) false ≡ getD (bitsOfBytes sent) (8 * headSize + 8 * ((n - suc k) * widthOf c) + i) false)
+      → unhit c n sent came k ≡ true
+  -- a monitor that was hit keeps its record, counter included, but for its unlock byte, which becomes 0; so does one in LPCM, hit or not
   spike-hit : (table sent came : List ℕ) (room : ℕ) → sound table ≡ true → (c : Write) → (c ≡ Wrrr → ⊥) → StruckData (Writes c) (monitors table) sent came
-      → (k : ℕ) → k < monitors table → unhit (monitors table) sent came k ≡ false
+      → (k : ℕ) → k < monitors table → unhit (Writes c) (monitors table) sent came k ≡ false
       → rowAt recordSize k (tableAfter table came room) ≡ onBytes unlocked (λ i old. 0) (rowAt recordSize k table)
-  -- one that was not does as it does with the frame that was sent
+  spike-lpcm : (table sent came : List ℕ) (room : ℕ) → sound table ≡ true → (c : Write) → StruckData (Writes c) (monitors table) sent came
+      → (k : ℕ) → k < monitors table → inLpcm (rowAt recordSize k table) ≡ true
+      → rowAt recordSize k (tableAfter table came room) ≡ onBytes unlocked (λ i old. 0) (rowAt recordSize k table)
+  -- one that was not hit does as it does with the frame that was sent
   spike-unhit : (table sent came : List ℕ) (room : ℕ) → sound table ≡ true → (c : Write) → StruckData (Writes c) (monitors table) sent came
-      → (k : ℕ) → k < monitors table → unhit (monitors table) sent came k ≡ true
+      → (k : ℕ) → k < monitors table → unhit (Writes c) (monitors table) sent came k ≡ true
       → rowAt recordSize k (tableAfter table came room) ≡ rowAt recordSize k (tableAfter table sent room)
-  -- WRRR needs no check, so none protects it: all N take it and count, and one that was unlocked stores its own six bytes as they came
+  -- WRRR needs no check, so none protects it: all take it and count that are not in LPCM, and one of them that was unlocked stores its own six bytes as they came
   spike-wrrr : (table sent came buffer : List ℕ) → sound table ≡ true → StruckData (Writes Wrrr) (monitors table) sent came
-      → (answer table came (length buffer) ≡ Accepted (monitors table) 0) × (replyAfter table came buffer ≡ buffer)
+      → (answer table came (length buffer) ≡ Accepted (awakeOf (monitors table) table) 0) × (replyAfter table came buffer ≡ buffer)
   spike-wrrr-unlocked : (table sent came : List ℕ) (room : ℕ) → sound table ≡ true → StruckData (Writes Wrrr) (monitors table) sent came
-      → (k : ℕ) → k < monitors table → byteOf unlocked (rowAt recordSize k table) ≡ 1
+      → (k : ℕ) → k < monitors table → inLpcm (rowAt recordSize k table) ≡ false → byteOf unlocked (rowAt recordSize k table) ≡ 1
       → rowAt recordSize k (tableAfter table came room)
-      ≡ onBytes retention (λ i old. getD (ownEight (monitors table) came k) i 0) (counted (locked (rowAt recordSize k table)))
+      ≡ onBytes retention (λ i old. getD (ownIn (Writes Wrrr) (monitors table) came k) i 0) (counted (locked (rowAt recordSize k table)))
   spike-wrrr-locked : (table sent came : List ℕ) (room : ℕ) → sound table ≡ true → StruckData (Writes Wrrr) (monitors table) sent came
-      → (k : ℕ) → k < monitors table → (byteOf unlocked (rowAt recordSize k table) ≡ 1 → ⊥)
+      → (k : ℕ) → k < monitors table → inLpcm (rowAt recordSize k table) ≡ false → (byteOf unlocked (rowAt recordSize k table) ≡ 1 → ⊥)
       → rowAt recordSize k (tableAfter table came room) ≡ counted (locked (rowAt recordSize k table))
   -- any frame, for any number of monitors, at least one bit of its first four bytes turned over, and all that were, there or behind them, within fifteen places
   -- in a row: it is refused with 3, and nothing changes
@@ -420,33 +520,98 @@ pub record Demand2 : Type 0 where
       → (answer table came (length buffer) ≡ Refused CommandWrong) × (tableAfter table came (length buffer) ≡ table) × (replyAfter table came buffer ≡ buffer)
   -- and no further: examples of both, and eleven places behind a command and sixteen in one that get through
   sharp : Sharp
+  -- ---- LPCM: one monitor's turn in a heartbeat, `heartbeats::wake`, `heartbeats::reach` and `heartbeats::run_out`. A heartbeat is no frame
+
+  -- who manages, who is a timeout monitor, how many devices, and which way: by the configuration
+  roles : (r : List ℕ)
+      → (isManager r ≡ inLpcm r && bitAt 7 (byteIn lpcmConfiguration r 0))
+      × (isTimeout r ≡ inLpcm r && not (bitAt 7 (byteIn lpcmConfiguration r 0)) && bitAt 3 (byteIn lpcmConfiguration r 0))
+      × (ndev r ≡ byteIn lpcmConfiguration r 1)
+      × (towardsA r ≡ bitAt 5 (byteIn lpcmConfiguration r 4))
+  -- a manager that wakes measures, and starts with one less than the devices, in eight bits, if it passes, and with its own flags; no other monitor wakes
+  manager-wakes : (r : List ℕ) → isManager r ≡ true
+      → (woken r ≡ measured r) × (wakes r ≡ Sends (cond (passes r) ((ndev r + 255) % 256) (ndev r)) (byteOf cmf0 (measured r)))
+  no-manager-sleeps : (r : List ℕ) → isManager r ≡ false → (woken r ≡ r) × (wakes r ≡ Silent)
+  -- any other monitor in LPCM that a right message reaches measures, counts one down if it passes, joins its flags, and sends on
+  monitor-sends-on : (r message : List ℕ) → inLpcm r ≡ true → manages r ≡ false → messageRight message ≡ true → isTimeout r ≡ false
+      → (reached message r ≡ measured r)
+      × (answers message r ≡ Sends (cond (passes r) ((countIn message + 255) % 256) (countIn message)) (bitOr (flagsByte message) (byteOf cmf0 (measured r))))
+  -- a timeout monitor takes its own step, sends nothing on, and judges: a pass clears its two flags in CMF1, anything else sets bit 0. The time running out sets bit 1
+  timeout-judges : (r message : List ℕ) → inLpcm r ≡ true → manages r ≡ false → messageRight message ≡ true → isTimeout r ≡ true
+      → (reached message r
+      ≡ onBytes cmf1 (λ i old. cond (isPass (cond (passes r) ((countIn message + 255) % 256) (countIn message)) (bitOr (flagsByte message) (byteOf cmf0 (measured r)))) (bitAnd old 0xFC) (bitOr old 0x01)) (measured r))
+      × (answers message r ≡ Silent)
+  time-runs-out : (r : List ℕ) → (isTimeout r ≡ true → late r ≡ onBytes cmf1 (λ i old. bitOr old 0x02) r) × (isTimeout r ≡ false → late r ≡ r)
+  -- a manager takes no message in, a monitor not in LPCM stops it, and one that is not right is ignored: nothing changes, and nothing goes on
+  manager-left : (r message : List ℕ) → manages r ≡ true → (reached message r ≡ r) × (answers message r ≡ Silent)
+  awake-left : (r message : List ℕ) → inLpcm r ≡ false → (reached message r ≡ r) × (answers message r ≡ Silent)
+  wrong-left : (r message : List ℕ) → messageRight message ≡ false → (reached message r ≡ r) × (answers message r ≡ Silent)
+  -- no turn changes more than CMF0, CMF1 and the last measurement, so counter and byte 69 stay, and CMC_EN stays
+  turn-spares : (r message : List ℕ) (p : Part) → Apart p cmf0 → Apart p cmf1 → Apart p lastCells
+      → (partOf p (woken r) ≡ partOf p r) × (partOf p (reached message r) ≡ partOf p r) × (partOf p (late r) ≡ partOf p r)
+  turn-lpcm : (r message : List ℕ) → length r ≡ recordSize
+      → (inLpcm (woken r) ≡ inLpcm r) × (inLpcm (reached message r) ≡ inLpcm r) × (inLpcm (late r) ≡ inLpcm r)
+  -- the sheet's chain of six, and both ends of a timeout monitor's verdict
+  turns : Turns
+  -- ---- the host's verdict on a heartbeat: `messages::verdict_on`, of the bytes that came and whether the time ran out, yes or no
+
+  -- the exact refusal: another length than eight, but for nothing at all with the time run out
+  verdict-refusals : (bytes : List ℕ) (late : Bool) → verdictRefusals bytes late
+      ≡ (not (eqb (length bytes) 8 || (late && eqb (length bytes) 0)) gives LengthWrong) ∷ []
+  -- each verdict is given exactly where what it says is so. Count and flags are bytes four and five
+  verdict-refused : (bytes : List ℕ) (late : Bool) (r : Refusal)
+      → (verdict bytes late ≡ Unjudged r) ↔ ((r ≡ LengthWrong) × (length bytes ≡ 8 → ⊥) × ((late ≡ true) × (length bytes ≡ 0) → ⊥))
+  verdict-timed-out : (bytes : List ℕ) (late : Bool) → (verdict bytes late ≡ TimedOut) ↔ ((late ≡ true) × ((length bytes ≡ 8) ⊎ (length bytes ≡ 0)))
+  verdict-damaged : (bytes : List ℕ) (late : Bool) → (verdict bytes late ≡ Damaged) ↔ ((late ≡ false) × (length bytes ≡ 8) × (messageRight bytes ≡ false))
+  verdict-passed : (bytes : List ℕ) (late : Bool)
+      → (verdict bytes late ≡ Good) ↔ ((late ≡ false) × (messageRight bytes ≡ true) × (getD bytes 4 0 ≡ 0x42) × (getD bytes 5 0 ≡ 0))
+  verdict-failed : (bytes : List ℕ) (late : Bool) (c f : ℕ)
+      → (verdict bytes late ≡ Failed c f)
+      ↔ ((late ≡ false) × (messageRight bytes ≡ true) × (getD bytes 4 0 ≡ c) × (getD bytes 5 0 ≡ f) × ((c ≡ 0x42) × (f ≡ 0) → ⊥))
+  -- `messages::message`: the command that monitors send, its check, count and flags, and their check. It is right
+  message-sent : (c f : ℕ) → message c f ≡ 0x00 ∷ 0x43 ∷ 0x47 ∷ 0xB2 ∷ (c ∷ f ∷ []) ++ seal (c ∷ f ∷ []) 0
+  message-right : (c f : ℕ) → messageRight (message c f) ≡ true
+  message-passed : (c f : ℕ) → (verdict (message c f) false ≡ Good) ↔ ((c ≡ 0x42) × (f ≡ 0))
+  message-failed : (c f : ℕ) → ((c ≡ 0x42) × (f ≡ 0) → ⊥) → verdict (message c f) false ≡ Failed c f
+  -- a right message, at least one bit turned over, all of these within ten places in a row, or in its last four bytes, whatever came of the first: it is damaged; and
+  -- so are eight bytes of which bits of the first four were turned over within fifteen places, whatever came behind
+  message-hit : (sent came : List ℕ) → messageRight sent ≡ true → Spike 10 sent came → verdict came false ≡ Damaged
+  message-hit-data : (sent came : List ℕ) → messageRight sent ≡ true → Spike 10 (drop 4 sent) (drop 4 came) → verdict came false ≡ Damaged
+  message-hit-command : (sent came : List ℕ) → messageRight sent ≡ true → Spike 15 (take 4 sent) (take 4 came) → length came ≡ 8 → verdict came false ≡ Damaged
   -- ---- document 01's fourteen worked examples
 
   examples : EitherSide
 
 pub demand-2 : Demand2
-unfolding frameRefusals storeRefusals compareRefusals loadRefusals dischargeRefusals muted snapped byteOf locked done shownCells outputs tabulate phases table27 outputOf keeps reply
+unfolding commandOf commands ownIn frameRefusals storeRefusals compareRefusals loadRefusals dischargeRefusals muted snapped inLpcm byteOf locked done shownCells outputs tabulate phases table27 outputOf keeps reply verdictRefusals countIn flagsByte violates cuv cov manages isManager isTimeout ndev towardsA
 demand-2 =
     record {
       refusals = λ table frame room. refl;
       refused = frame-refused;
       write-answer = write-answer;
+      write-answer-awake = write-answer-awake;
       wrrr-answer = wrrr-answer;
+      awake-all = awake-all;
       read-answer = read-answer;
       bare-answer = bare-answer;
       own-record = record-after;
+      six-data = six-but-clrcmflag;
+      two-data = refl;
+      widths = λ c. refl;
       read-keeps = λ part eight r. refl;
       bare-keeps = λ c eight r. refl;
       right-keeps = keeps-right;
-      wrong-keeps = λ c other eight r wrong. keeps-wrong c eight r (needs-but-wrrr c other) wrong;
+      wrong-keeps = λ c other own r wrong. keeps-wrong c own r (needs-but-wrrr c other) wrong;
+      lpcm-keeps = keeps-none;
       wrrr-unlocked = wrrr-unlocked;
       wrrr-locked = wrrr-locked;
       ulrr-unlocks = ulrr-unlocks;
       retained = retained;
       not-retained = not-retained;
       spares = keeps-spares;
-      as-before = base-as-before;
-      as-before-snap = copy-as-before;
+      as-before = as-before;
+      front-awake = front-awake;
+      sizes = (refl, refl, refl, refl);
       replies-as-before = reply-as-before;
       pwm-stays = pwm-stays;
       pwm-a-stays = a-stays;
@@ -468,6 +633,49 @@ demand-2 =
       cells-shown = shows-the-cells;
       other-shown = shows-as-it-lies;
       the-others = refl;
+      lpcm-places = (refl, refl, refl, refl, refl);
+      lpcm-at = λ r. refl;
+      clrcmflag-long = λ n. (refl, refl);
+      cmhb-unlisted = refl;
+      last-long = refl;
+      last-last = refl;
+      cmen-enables = cmen-enables;
+      cmen-again = cmen-again;
+      cmdis = λ own r. refl;
+      cmc-en = enabled-after;
+      clrcmflag-clears = clrcmflag-clears;
+      cmf0-stays = cmf0-stays;
+      last-stays = last-stays;
+      last-taken = last-cells;
+      measured-as-long = length-measured;
+      measured-sound = sound-measured;
+      measured-spares = measured-spares;
+      measured-last = last-measured;
+      cuv-kind = λ r c. refl;
+      cov-kind = λ r c. refl;
+      cdvn-kind = λ r c. refl;
+      cdvp-kind = λ r c. refl;
+      flags-stay = flags-stay;
+      violation-shows = violation-shows;
+      pending-shows = pending-shows;
+      nothing-else = nothing-else;
+      passes-where = passes-where;
+      passed-clear = passed-clear;
+      passed-nothing-pending = passed-nothing-pending;
+      passed-nothing-violated = passed-nothing-violated;
+      measurements = measurements;
+      roles = λ r. (refl, refl, refl, refl);
+      manager-wakes = manager-wakes;
+      no-manager-sleeps = no-manager-sleeps;
+      monitor-sends-on = monitor-sends-on;
+      timeout-judges = timeout-judges;
+      time-runs-out = time-runs-out;
+      manager-left = manager-left;
+      awake-left = awake-left;
+      wrong-left = wrong-left;
+      turn-spares = λ r message p h k l. (woken-spares r p h l, reached-spares r message p h k l, late-spares r p k);
+      turn-lpcm = λ r message whole. (woken-lpcm r, reached-lpcm r message whole, late-lpcm r whole);
+      turns = turns;
       stays-sound = frame-keeps;
       own-reply = reply-own;
       past-reply = reply-past;
@@ -534,7 +742,8 @@ demand-2 =
       mute-answers = mute-answers;
       unmute-answers = unmute-answers;
       host-writes = host-writes;
-      own-six = own-six;
+      own-data = own-data;
+      awake-take = write-taken;
       all-take = write-taken-by-all;
       each-keeps = each-keeps-its-own;
       all-take-bare = bare-taken-by-all;
@@ -544,19 +753,38 @@ demand-2 =
       read-back = b-read-back;
       read-back-pwm-a = pwm-a-read-back;
       read-back-pwm-b = pwm-b-read-back;
+      read-back-lpcm = lpcm-read-back;
+      read-back-cell-thresholds = cell-thresholds-read-back;
+      read-back-gpio-thresholds = gpio-thresholds-read-back;
       port-a = the-replies;
       handed-from-a = handed-from-a;
       handed-from-b = handed-from-b;
       spike-answer = λ table sent came buffer s c other struck. (struck-answer table s c struck other (length buffer), struck-no-reply table s c struck buffer);
-      spike-not-all = λ table sent came s c struck. struck-some table s c struck;
-      hit-by-bit = λ n sent came k h. hit-by-bit n sent came k;
-      unhit-by-bits = λ n sent came k h. unhit-by-bits n sent came k;
+      spike-answer-awake = λ table sent came buffer s c other struck awake. struck-answer-awake table s c struck other awake (length buffer);
+      unhit-awake = λ table sent came s c struck. awake-unhit table s c struck;
+      spike-not-all = λ table sent came s c struck. (struck-some table s c struck, struck-fewer table s c struck);
+      hit-by-bit = λ c n sent came k h. hit-by-bit c n sent came k;
+      unhit-by-bits = λ c n sent came k h. unhit-by-bits c n sent came k;
       spike-hit = λ table sent came room s c other struck k h. struck-hit table s c struck room k h other;
+      spike-lpcm = λ table sent came room s c struck k h. struck-lpcm table s c struck room k h;
       spike-unhit = λ table sent came room s c struck k h. struck-unhit table s c struck room k h;
       spike-wrrr = λ table sent came buffer s struck. (struck-wrrr-answer table s struck (length buffer), struck-no-reply table s Wrrr struck buffer);
       spike-wrrr-unlocked = λ table sent came room s struck k h. struck-wrrr-stores table s struck room k h;
       spike-wrrr-locked = λ table sent came room s struck k h. struck-wrrr-locked table s struck room k h;
       spike-refused = λ table sent came buffer s c n struck. struck-refused struck table buffer s;
       sharp = sharp;
+      verdict-refusals = λ bytes late. refl;
+      verdict-refused = λ bytes late r. exactly bytes late (Unjudged r);
+      verdict-timed-out = λ bytes late. exactly bytes late TimedOut;
+      verdict-damaged = λ bytes late. exactly bytes late Damaged;
+      verdict-passed = λ bytes late. exactly bytes late Good;
+      verdict-failed = λ bytes late c f. exactly bytes late (Failed c f);
+      message-sent = message-bytes;
+      message-right = message-right;
+      message-passed = sent-passed;
+      message-failed = sent-failed;
+      message-hit = damaged-by-spike;
+      message-hit-data = damaged-by-data;
+      message-hit-command = damaged-by-command;
       examples = either-side;
     }

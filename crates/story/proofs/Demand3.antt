@@ -19,15 +19,16 @@ use Rattle.refusals.specs.declared.Refusal.{Refusal}
 use Rattle.refusals.specs.declared.Refusal.the-variants.{TableNotSound, CommandWrong}
 use Rattle.refusals.specs.Order.{Passed}
 use Rattle.records.specs.declared.commands.Bare.{Bare}
-use Rattle.records.specs.declared.commands.Bare.the-variants.{Mute, Unmute, Snap, Unsnap}
+use Rattle.records.specs.declared.commands.Bare.the-variants.{Mute, Unmute, Snap, Unsnap, Cmen}
 use Rattle.records.specs.declared.commands.Command.{Command}
 use Rattle.records.specs.declared.commands.Command.the-variants.{Reads, Writes, Bares}
 use Rattle.records.specs.declared.commands.Write.{Write}
 use Rattle.records.specs.declared.commands.Write.the-variants.{Wrrr}
 use Rattle.records.specs.declared.record.Part.{Part}
-use Rattle.records.specs.Record.{cellCount, cells, snapshot, recordSize, unlocked, snapped, bytesOf as partOf, onBytes}
+use Rattle.records.specs.Record.{cellCount, cells, snapshot, lastCells, recordSize, unlocked, snapped, inLpcm, bytesOf as partOf, onBytes}
 use Rattle.monitor.specs.Effects.{locked, keeps}
 use Rattle.monitor.specs.Spares.{Spares}
+use Rattle.monitor.proofs.Keeping.{keeps-none}
 use Rattle.records.specs.Commands.{mostMonitors, payloadSize}
 use Rattle.reads.specs.Shown.{ofCells, shownCells}
 use Rattle.reads.specs.Reply.{sixBytes, sixIn, reply}
@@ -35,6 +36,7 @@ use Rattle.chain.specs.declared.frames.Answer.{Answer}
 use Rattle.chain.specs.declared.frames.Answer.the-variants.{Refused, Accepted}
 use Rattle.judging.specs.Table.{monitors, sound}
 use Rattle.judging.specs.Refusals.{commandIn}
+use Rattle.serving.specs.Served.{awakeOf}
 use Rattle.chain.specs.Frame.{answer, tableAfter, replyAfter}
 use Rattle.chain.proofs.Refused.{refused-table}
 use Rattle.chain.proofs.Room.{stop-unsound}
@@ -60,13 +62,15 @@ use Rattle.clocking.specs.Bytes.{clockOf, stateAfter}
 use Rattle.clocking.proofs.View.{view}
 use Rattle.clocked.proofs.Whole.{released-read}
 use Rattle.story.specs.Runs.{Event, Frame, Store, Compare, Answered, StoreAnswered, CompareAnswered, Left, saw, replyBytes, Step, ruleRefusals, byRules, byFrames, stateAfterAll, cameBack, byBytes, Engine, WholeFrames, ClockedBytes, Ready, by}
-use Rattle.story.specs.Spikes.{StruckData, StruckCommand, ownEight, unhit, unhitOf}
+use Rattle.story.specs.Spikes.{StruckData, StruckCommand, ownIn, unhit, unhitAwake}
 use Rattle.story.specs.Snapshots.{Without, replyAt, shownAt, shownBehind, ReadIn, LongRead, longShown}
-use Rattle.story.proofs.Along.{rules-keep, bare-passes, ruled-frame}
+use Rattle.story.proofs.Along.{rules-keep, bare-passes, write-passes, ruled-frame}
+use Rattle.story.proofs.Accepted.{record-at, kept-at}
+use Rattle.story.proofs.Lpcm.{enabled-after, last-cells}
 use Rattle.story.proofs.OneMoment.{lent-read, frozen-read, one-moment, behind-front, no-unsnap, live-read, cells-left}
 use Rattle.story.proofs.ByteFour.{only-byte-four, at-byte-four, noted-stays, another-n}
 use Rattle.story.proofs.Muting.{mute-answers, unmute-answers}
-use Rattle.story.proofs.Spikes.{struck-answer, struck-some, struck-hit, struck-unhit, struck-kept, struck-wrrr-answer, struck-refused}
+use Rattle.story.proofs.Spikes.{struck-answer, struck-fewer, struck-hit, struck-unhit, struck-kept, struck-wrrr-answer, struck-refused}
 use Rattle.story.proofs.Runs.{frame-step, length-after, store-step, compare-step, full, has-room, clock-whole, back-whole, clocked-step}
 
 -- ---- the demand. It asks for a sound table; the engines agree on any: one that is not sound is refused by both
@@ -134,21 +138,30 @@ pub record Demand3 : Type 0 where
       → partOf cells (rowAt recordSize k (by engine table (Frame snap ∷ []) .table)) ≡ partOf cells (rowAt recordSize k table)
   unsnap-leaves : (engine : Engine) (table unsnap : List ℕ) → Ready engine table → Passed (ruleRefusals table unsnap) → commandIn unsnap ≡ Bares Unsnap → (k : ℕ) → k < monitors table
       → partOf cells (rowAt recordSize k (by engine table (Frame unsnap ∷ []) .table)) ≡ partOf cells (rowAt recordSize k table)
+  -- LPCM, through either engine: no write changes a monitor that is in LPCM, but for its unlock byte, which becomes 0. CMEN brings each
+  -- monitor into LPCM, and one that was not has its live cells as the last measurement
+  lpcm-no-write : (engine : Engine) (table write : List ℕ) → Ready engine table → Passed (ruleRefusals table write) → (c : Write) → commandIn write ≡ Writes c
+      → (k : ℕ) → k < monitors table → inLpcm (rowAt recordSize k table) ≡ true
+      → rowAt recordSize k (by engine table (Frame write ∷ []) .table) ≡ onBytes unlocked (λ i old. 0) (rowAt recordSize k table)
+  lpcm-enabled : (engine : Engine) (table cmen : List ℕ) → Ready engine table → Passed (ruleRefusals table cmen) → commandIn cmen ≡ Bares Cmen
+      → (k : ℕ) → k < monitors table
+      → (inLpcm (rowAt recordSize k (by engine table (Frame cmen ∷ []) .table)) ≡ true)
+      × (partOf lastCells (rowAt recordSize k (by engine table (Frame cmen ∷ []) .table)) ≡ cond (inLpcm (rowAt recordSize k table)) (partOf lastCells (rowAt recordSize k table)) (partOf cells (rowAt recordSize k table)))
   -- a spike on the wire, through either engine (a run goes on from the table that the frame leaves). A write of our host other than WRRR, struck within ten places
-  -- in a row behind its first four bytes: as many take it as were not hit, which is not all; one that was not hit is left as by the frame that was sent, and one
-  -- that was hit as it was, but for its unlock byte, which becomes 0
+  -- in a row behind its first four bytes: as many take it as were not hit and are not in LPCM, which is not all; one that was not hit is left as by the frame that
+  -- was sent, and one that was hit as it was, but for its unlock byte, which becomes 0
   spike-data : (engine : Engine) (table sent came : List ℕ) → Ready engine table → sound table ≡ true → (c : Write) → (c ≡ Wrrr → ⊥)
       → StruckData (Writes c) (monitors table) sent came
-      → (by engine table (Frame came ∷ []) .seen ≡ Answered (Accepted (unhitOf (monitors table) sent came) 0) [] ∷ [])
-      × (unhitOf (monitors table) sent came < monitors table)
+      → (by engine table (Frame came ∷ []) .seen ≡ Answered (Accepted (unhitAwake (Writes c) (monitors table) table sent came) 0) [] ∷ [])
+      × (unhitAwake (Writes c) (monitors table) table sent came < monitors table)
       × ((k : ℕ) → k < monitors table
       → rowAt recordSize k (by engine table (Frame came ∷ []) .table)
-      ≡ cond (unhit (monitors table) sent came k) (rowAt recordSize k (by engine table (Frame sent ∷ []) .table)) (onBytes unlocked (λ i old. 0) (rowAt recordSize k table)))
-  -- WRRR, so struck: all take it, and each keeps what the command makes of its own eight bytes as they came
+      ≡ cond (unhit (Writes c) (monitors table) sent came k) (rowAt recordSize k (by engine table (Frame sent ∷ []) .table)) (onBytes unlocked (λ i old. 0) (rowAt recordSize k table)))
+  -- WRRR, so struck: all take it that are not in LPCM, and each keeps what the command makes of its own eight bytes as they came
   spike-wrrr : (engine : Engine) (table sent came : List ℕ) → Ready engine table → sound table ≡ true → StruckData (Writes Wrrr) (monitors table) sent came
-      → (by engine table (Frame came ∷ []) .seen ≡ Answered (Accepted (monitors table) 0) [] ∷ [])
+      → (by engine table (Frame came ∷ []) .seen ≡ Answered (Accepted (awakeOf (monitors table) table) 0) [] ∷ [])
       × ((k : ℕ) → k < monitors table
-      → rowAt recordSize k (by engine table (Frame came ∷ []) .table) ≡ keeps (Writes Wrrr) (ownEight (monitors table) came k) (rowAt recordSize k table))
+      → rowAt recordSize k (by engine table (Frame came ∷ []) .table) ≡ keeps (Writes Wrrr) (ownIn (Writes Wrrr) (monitors table) came k) (rowAt recordSize k table))
   -- any frame of our host, its first four bytes struck within fifteen places in a row: refused with 3, and the events after it find the table as it was
   spike-command : (engine : Engine) (table sent came : List ℕ) (events : List Event) → Ready engine table → sound table ≡ true → (c : Command) (n : ℕ)
       → StruckCommand c n sent came → by engine table (Frame came ∷ events) ≡ saw (Answered (Refused CommandWrong) []) (by engine table events)
@@ -313,6 +326,27 @@ module _ (engine : Engine) (table first : List ℕ) (ready : Ready engine table)
       ap (λ (left : Left). partOf cells (rowAt recordSize k (left .table))) (either-by-rules engine table (Frame first ∷ []) ready)
       ∙ cells-left c spares table first passed its k h
 
+-- ---- LPCM, by either engine
+
+module _ (engine : Engine) (table frame : List ℕ) (ready : Ready engine table) (passed : Passed (ruleRefusals table frame)) (k : ℕ) (h : k < monitors table) where
+  abbrev before : List ℕ
+  before = rowAt recordSize k table
+
+  no-write-by : (c : Write) → commandIn frame ≡ Writes c → inLpcm before ≡ true → rowAt recordSize k (by engine table (Frame frame ∷ []) .table) ≡ locked before
+  no-write-by c its e =
+      ap (rowAt recordSize k) (one-frame engine table frame ready)
+      ∙ kept-at table frame (length (full table)) (write-passes table frame c its passed (length (full table))) its k h
+      ∙ keeps-none c _ before e
+
+  enabled-by : commandIn frame ≡ Bares Cmen
+      → (inLpcm (rowAt recordSize k (by engine table (Frame frame ∷ []) .table)) ≡ true)
+      × (partOf lastCells (rowAt recordSize k (by engine table (Frame frame ∷ []) .table)) ≡ cond (inLpcm before) (partOf lastCells before) (partOf cells before))
+  enabled-by its =
+      let none = bare-passes table frame Cmen its passed (length (full table)) in
+      let whole = record-at table frame (length (full table)) none k h in
+      let after = ap (rowAt recordSize k) (one-frame engine table frame ready) ∙ kept-at table frame (length (full table)) none its k h in
+      (ap inLpcm after ∙ enabled-after _ before whole (Bares Cmen), ap (partOf lastCells) after ∙ last-cells _ before whole)
+
 -- ---- a spike on the wire, by either engine
 
 -- what a frame shows that has no reply
@@ -334,20 +368,20 @@ seen-refused table frame events {r} e =
 
 module _ (engine : Engine) (table : List ℕ) (ready : Ready engine table) (s : sound table ≡ true) {sent came : List ℕ} where
   spike-by : (c : Write) → (c ≡ Wrrr → ⊥) → StruckData (Writes c) (monitors table) sent came
-      → (by engine table (Frame came ∷ []) .seen ≡ Answered (Accepted (unhitOf (monitors table) sent came) 0) [] ∷ [])
-      × (unhitOf (monitors table) sent came < monitors table)
+      → (by engine table (Frame came ∷ []) .seen ≡ Answered (Accepted (unhitAwake (Writes c) (monitors table) table sent came) 0) [] ∷ [])
+      × (unhitAwake (Writes c) (monitors table) table sent came < monitors table)
       × ((k : ℕ) → k < monitors table
       → rowAt recordSize k (by engine table (Frame came ∷ []) .table)
-      ≡ cond (unhit (monitors table) sent came k) (rowAt recordSize k (by engine table (Frame sent ∷ []) .table)) (locked (rowAt recordSize k table)))
+      ≡ cond (unhit (Writes c) (monitors table) sent came k) (rowAt recordSize k (by engine table (Frame sent ∷ []) .table)) (locked (rowAt recordSize k table)))
   spike-by c other struck = (
     ap (λ (left : Left). left .seen) (either-by-rules engine table (Frame came ∷ []) ready) ∙ seen-none table came (struck-answer table s c struck other (length (full table))),
-    struck-some table s c struck,
-    λ k h. ap (rowAt recordSize k) (one-frame engine table came ready) ∙ each k h (unhit (monitors table) sent came k) refl,
+    struck-fewer table s c struck,
+    λ k h. ap (rowAt recordSize k) (one-frame engine table came ready) ∙ each k h (unhit (Writes c) (monitors table) sent came k) refl,
   )
     where
-      each : (k : ℕ) → k < monitors table → (b : Bool) → unhit (monitors table) sent came k ≡ b
+      each : (k : ℕ) → k < monitors table → (b : Bool) → unhit (Writes c) (monitors table) sent came k ≡ b
           → rowAt recordSize k (tableAfter table came (length (full table)))
-          ≡ cond (unhit (monitors table) sent came k) (rowAt recordSize k (by engine table (Frame sent ∷ []) .table)) (locked (rowAt recordSize k table))
+          ≡ cond (unhit (Writes c) (monitors table) sent came k) (rowAt recordSize k (by engine table (Frame sent ∷ []) .table)) (locked (rowAt recordSize k table))
       each k h true e =
           struck-unhit table s c struck (length (full table)) k h e
           ∙ ap (rowAt recordSize k) (sym (one-frame engine table sent ready))
@@ -392,6 +426,8 @@ demand-3 =
       snap-leaves = λ engine table snap ready. left-by engine table snap ready Snap (inr (lit≤ tt), (inr (lit≤ tt), (inl (lit≤ tt), (inr (lit≤ tt), tt))));
       unsnap-leaves = λ engine table unsnap ready. left-by engine table unsnap ready Unsnap (inr (lit≤ tt), (inr (lit≤ tt), (inl (lit≤ tt), tt)));
       spike-data = λ engine table sent came ready s. spike-by engine table ready s;
+      lpcm-no-write = λ engine table write ready passed c its k h. no-write-by engine table write ready passed k h c its;
+      lpcm-enabled = λ engine table cmen ready passed its k h. enabled-by engine table cmen ready passed k h its;
       spike-wrrr = λ engine table sent came ready s struck. (
         ap (λ (left : Left). left .seen) (either-by-rules engine table (Frame came ∷ []) ready) ∙ seen-none table came (struck-wrrr-answer table s struck (length (full table))),
         λ k h. ap (rowAt recordSize k) (one-frame engine table came ready) ∙ struck-kept table s Wrrr struck (length (full table)) k h,

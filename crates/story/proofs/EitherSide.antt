@@ -19,7 +19,7 @@ use Rattle.records.specs.declared.commands.Bare.the-variants.{Mute}
 use Rattle.records.specs.declared.commands.Write.the-variants.{Wrcfga}
 use Rattle.records.specs.declared.record.Part.{Part}
 use Rattle.records.specs.Commands.{commands, commandOf, frameLength}
-use Rattle.records.specs.Record.{configurationA, configurationB, counter, recordSize, bytesOf, byteOf, anew, onBytes}
+use Rattle.records.specs.Record.{configurationA, configurationB, counter, recordSize, bytesOf, byteIn, byteOf, anew, onBytes}
 use Rattle.monitor.specs.Effects.{locked, nextCount, counted, done, keeps}
 use Rattle.reads.specs.Shown.{shownPart}
 use Rattle.reads.specs.Reply.{sixBytes, register, reply}
@@ -28,7 +28,7 @@ use Rattle.judging.specs.Table.{monitors, sound}
 use Rattle.judging.specs.Refusals.{commandIn}
 use Rattle.serving.specs.Served.{takenBy}
 use Rattle.chain.specs.Frame.{frameRefusals, answer}
-use Rattle.thresholds.specs.Thresholds.{signed, byteB, vuv, vov, codesOf}
+use Rattle.thresholds.specs.Thresholds.{signed, lower, upper, vuv, vov, codesOf}
 use Rattle.cells.specs.Cells.{flagsFor}
 use Rattle.readings.specs.Readings.{microvolts}
 
@@ -55,7 +55,7 @@ length-refused table room s one =
     decide
     ((not b gives TableNotSound) ∷ (not (eqb 4 (frameLength (Writes Wrcfga) n)) gives LengthWrong) ∷ (ltb room 0 gives NoRoom) ∷ [])
     Refused
-    (Accepted (takenBy (Writes Wrcfga) n noPayload) 0)) s one
+    (Accepted (takenBy (Writes Wrcfga) n table noPayload) 0)) s one
 
 pub record EitherSide : Type 0 where
   -- 1 and 2: what is sent after a command code
@@ -87,7 +87,7 @@ pub record EitherSide : Type 0 where
   least-volts : microvolts (record { 0 = negsuc 32_766 }) ≡ negsuc 3_415_049
 
 pub either-side : EitherSide
-unfolding once step remainder bitsOf bitsOfBytes tabulate twoBytes pec15 commandCheck pec10 dataPec seal bytesOf byteOf anew onBytes signed vuv vov codesOf flagsFor locked nextCount counted done keeps shownPart sixBytes register reply microvolts _⊕_ xor odd byteB
+unfolding once step remainder bitsOf bitsOfBytes tabulate twoBytes pec15 commandCheck pec10 dataPec seal bytesOf byteOf anew onBytes signed vuv vov codesOf flagsFor locked nextCount counted done keeps shownPart sixBytes register reply microvolts _⊕_ xor odd lower upper byteIn
 either-side =
     record {
       command-0001 = refl;

@@ -15,6 +15,9 @@ pub mod SurfaceNumbers
 pub mod Surface
 pub mod Cleared
 pub mod AsBefore
+pub mod Modes
+pub mod Lpcm
+pub mod Beats
 pub mod Muting
 pub mod Retention
 pub mod Spikes

@@ -42,7 +42,7 @@ use Rattle.priorities.proofs.Deciding.{by-switches}
 use Rattle.priorities.proofs.Shown.{mute-none}
 use Rattle.discharge.specs.declared.question.Discharged.the-variants.{Refused as Unasked, On}
 use Rattle.discharge.specs.Question.{phaseRow, outRow, dischargeRefusals, discharged, outputsAfter}
-use Rattle.story.proofs.Accepted.{frame-sound, kept-table, eightAt, kept-at, discharge-answer}
+use Rattle.story.proofs.Accepted.{frame-sound, kept-table, ownAt, kept-at, discharge-answer}
 
 -- ---- one monitor
 
@@ -137,7 +137,7 @@ mute-answers table frame room passed its position events phase out up none =
     let own : Place table position = place-before (kept-table table frame room passed) (frame-sound table frame room passed) (its-place after position phase (length out) none) in
     let is-muted : muted (rowAt recordSize k after) ≡ true =
     ap muted (kept-at table frame room passed its k (there table position own))
-    ∙ muted-by-mute (eightAt table frame room passed k) (rowAt recordSize k table) (lent-length k table (fits table position own)) in
+    ∙ muted-by-mute (ownAt table frame room passed (Bares Mute) k) (rowAt recordSize k table) (lent-length k table (fits table position own)) in
     let told = discharge-answer after position events phase out none in (
       told .0 ∙ ap On (mute-none events phase (rowAt recordSize k after) is-muted),
       told .1 ∙ ap (λ (bytes : List ℕ). bytes ++ drop cellCount out) (all-six events phase (rowAt recordSize k after) up is-muted),
@@ -174,24 +174,24 @@ module _ (table mute unmute : List ℕ) (room other : ℕ) (first : Passed (fram
     start = rowAt recordSize k table
 
     abbrev middle : List ℕ
-    middle = keeps (Bares Mute) (eightAt table mute room first k) start
+    middle = keeps (Bares Mute) (ownAt table mute room first (Bares Mute) k) start
 
-    at-the-end : rowAt recordSize k after ≡ keeps (Bares Unmute) (eightAt between unmute other second k) middle
+    at-the-end : rowAt recordSize k after ≡ keeps (Bares Unmute) (ownAt between unmute other second (Bares Unmute) k) middle
     at-the-end =
         kept-at between unmute other second its-too k (there between position (kept-place position kept-first own))
-        ∙ ap (keeps (Bares Unmute) (eightAt between unmute other second k)) (kept-at table mute room first its k (there table position own))
+        ∙ ap (keeps (Bares Unmute) (ownAt between unmute other second (Bares Unmute) k)) (kept-at table mute room first its k (there table position own))
 
     same-mute : muted (rowAt recordSize k after) ≡ muted start
     same-mute =
         ap muted at-the-end
-        ∙ clear-by-unmute (eightAt between unmute other second k) middle
-        (length-keeps (Bares Mute) (eightAt table mute room first k) start ∙ lent-length k table (fits table position own))
+        ∙ clear-by-unmute (ownAt between unmute other second (Bares Unmute) k) middle
+        (length-keeps (Bares Mute) (ownAt table mute room first (Bares Mute) k) start ∙ lent-length k table (fits table position own))
         ∙ sym was
 
     both-alike : Alike (rowAt recordSize k after) start
     both-alike =
-        let up = alike-unmute (eightAt between unmute other second k) middle in
-        let down = alike-mute (eightAt table mute room first k) start in
+        let up = alike-unmute (ownAt between unmute other second (Bares Unmute) k) middle in
+        let down = alike-mute (ownAt table mute room first (Bares Mute) k) start in
         record {
           dccs = ap (bytesOf dccBits) at-the-end ∙ up .dccs ∙ down .dccs;
           duties-a = ap (bytesOf pwmA) at-the-end ∙ up .duties-a ∙ down .duties-a;

@@ -2,7 +2,7 @@
 -- its condition is the first to hold. By going down the list of refusals; a refusal's number tells which it is.
 -- Assumes nothing.
 use mathlib.Core.Path.{_≡_, refl, sym, ap, _∙_}
-use mathlib.Core.Bool.{Bool, true, false, cond}
+use mathlib.Core.Bool.{Bool, true, false, cond, not}
 use mathlib.Core.List.{List, [], _∷_}
 use mathlib.Core.Logic.{inl, inr, _↔_}
 use lib.IntN.{ℤ}
@@ -34,9 +34,12 @@ use Rattle.ports.specs.declared.ports.Port.the-variants.{Refused, A, B}
 use Rattle.host.specs.Frames.{buildRefusals, built}
 use Rattle.ports.specs.Check.{checkRefusals, checked}
 use Rattle.ports.specs.Ports.{partA, portRefusals, portOf}
+use Rattle.messages.specs.declared.verdicts.Verdict.the-variants.{Refused as Unjudged, Passed as Good, Failed, Damaged, TimedOut}
+use Rattle.messages.specs.Messages.{countIn, flagsIn, messageRight, isPass}
+use Rattle.messages.specs.Verdicts.{verdictRefusals, verdictOf, verdict}
 use Rattle.readings.specs.declared.pack_summary.Pack.the-variants.{Refused as Unsummed}
 use Rattle.readings.specs.Readings.{measured, wholeOf, summaryOf}
-use Rattle.story.specs.Numbers.{dischargedNumbers, builtNumbers, checkedNumbers, portNumber, lookedNumbers, packNumbers, summaryRefusals, firstNumber, First}
+use Rattle.story.specs.Numbers.{dischargedNumbers, builtNumbers, checkedNumbers, portNumber, verdictNumbers, lookedNumbers, packNumbers, summaryRefusals, firstNumber, First}
 
 -- ---- which refusal it is
 
@@ -154,6 +157,17 @@ port-number a b n k = number-by portNumber (portRefusals a b n k) Refused _ (λ 
     either : (c : Bool) → portNumber (cond c A B) ≡ 0
     either true = refl
     either false = refl
+
+pub verdict-number : (bytes : List ℕ) (late : Bool) → verdictNumbers (verdict bytes late) .number ≡ firstNumber (verdictRefusals bytes late)
+unfolding verdict verdictOf
+verdict-number bytes late =
+    number-by (λ v. verdictNumbers v .number) (verdictRefusals bytes late) Unjudged _ (λ r. refl) (each late (messageRight bytes) (isPass (countIn bytes) (flagsIn bytes)))
+  where
+    each : (l r p : Bool) → verdictNumbers (cond l TimedOut (cond (not r) Damaged (cond p Good (Failed (countIn bytes) (flagsIn bytes))))) .number ≡ 0
+    each true r p = refl
+    each false false p = refl
+    each false true true = refl
+    each false true false = refl
 
 pub summary-number : (codes : List ℤ) → packNumbers (summaryOf codes) .number ≡ firstNumber (summaryRefusals codes)
 unfolding summaryOf wholeOf

@@ -12,7 +12,7 @@ use borrow.Author.Tests.{not-false}
 use Rattle.laws.specs.Rows.{rowAt, joined}
 use Rattle.refusals.specs.Order.{Passed}
 use Rattle.records.specs.declared.commands.Bare.{Bare}
-use Rattle.records.specs.declared.commands.Bare.the-variants.{Mute, Unmute, Rstcc, Ulrr, Clrcell, Snap, Unsnap}
+use Rattle.records.specs.declared.commands.Bare.the-variants.{Mute, Unmute, Rstcc, Ulrr, Clrcell, Snap, Unsnap, Cmen, Cmdis}
 use Rattle.records.specs.declared.commands.Command.{Command}
 use Rattle.records.specs.declared.commands.Command.the-variants.{Reads, Writes, Bares, Unlisted}
 use Rattle.records.specs.declared.record.Part.{Part}
@@ -30,7 +30,7 @@ use Rattle.judging.proofs.Keeps.{Keeps, stays}
 use Rattle.story.specs.Runs.{Event, Frame, ruleRefusals, byRules}
 use Rattle.story.specs.Snapshots.{snappedBy, snappedAfter, Without, replyAt, shownAt, shownBehind, ReadIn, LongRead, longShown}
 use Rattle.chain.specs.Frame.{frameRefusals}
-use Rattle.story.proofs.Accepted.{frame-sound, kept-table, eightAt, record-at, kept-at}
+use Rattle.story.proofs.Accepted.{frame-sound, kept-table, ownAt, record-at, kept-at}
 use Rattle.story.proofs.Along.{judged-alike, rules-keep, bare-passes, ruled-frame, read-shows, along-run, seen-there, without-both}
 use Rattle.story.proofs.Runs.{full}
 use Rattle.story.proofs.Snapshot.{snap-st, snap-copies, copy-kept, store-snap-st, store-copy, compare-snap-st, compare-copy, shows-its-part, together, length-shown}
@@ -51,6 +51,8 @@ by-bare-on Ulrr other = refl
 by-bare-on Clrcell other = refl
 by-bare-on Snap other = refl
 by-bare-on Unsnap other = absurd (other refl)
+by-bare-on Cmen other = refl
+by-bare-on Cmdis other = refl
 
 by-bare-off : (c : Bare) → (c ≡ Snap → ⊥) → snappedBy c false ≡ false
 by-bare-off Mute other = refl
@@ -60,26 +62,28 @@ by-bare-off Ulrr other = refl
 by-bare-off Clrcell other = refl
 by-bare-off Snap other = absurd (other refl)
 by-bare-off Unsnap other = refl
+by-bare-off Cmen other = refl
+by-bare-off Cmdis other = refl
 
-module _ (eight r : List ℕ) (whole : length r ≡ recordSize) where
-  stays-on : (c : Command) → (c ≡ Bares Unsnap → ⊥) → snapped r ≡ true → snapped (keeps c eight r) ≡ true
-  stays-on (Reads p) other on = snap-st eight r whole (Reads p) ∙ on
-  stays-on (Writes c) other on = snap-st eight r whole (Writes c) ∙ on
-  stays-on (Bares c) other on = snap-st eight r whole (Bares c) ∙ ap (snappedBy c) on ∙ by-bare-on c (λ e. other (ap Bares e))
-  stays-on Unlisted other on = snap-st eight r whole Unlisted ∙ on
+module _ (own r : List ℕ) (whole : length r ≡ recordSize) where
+  stays-on : (c : Command) → (c ≡ Bares Unsnap → ⊥) → snapped r ≡ true → snapped (keeps c own r) ≡ true
+  stays-on (Reads p) other on = snap-st own r whole (Reads p) ∙ on
+  stays-on (Writes c) other on = snap-st own r whole (Writes c) ∙ on
+  stays-on (Bares c) other on = snap-st own r whole (Bares c) ∙ ap (snappedBy c) on ∙ by-bare-on c (λ e. other (ap Bares e))
+  stays-on Unlisted other on = snap-st own r whole Unlisted ∙ on
 
-  stays-off : (c : Command) → (c ≡ Bares Snap → ⊥) → snapped r ≡ false → snapped (keeps c eight r) ≡ false
-  stays-off (Reads p) other off = snap-st eight r whole (Reads p) ∙ off
-  stays-off (Writes c) other off = snap-st eight r whole (Writes c) ∙ off
-  stays-off (Bares c) other off = snap-st eight r whole (Bares c) ∙ ap (snappedBy c) off ∙ by-bare-off c (λ e. other (ap Bares e))
-  stays-off Unlisted other off = snap-st eight r whole Unlisted ∙ off
+  stays-off : (c : Command) → (c ≡ Bares Snap → ⊥) → snapped r ≡ false → snapped (keeps c own r) ≡ false
+  stays-off (Reads p) other off = snap-st own r whole (Reads p) ∙ off
+  stays-off (Writes c) other off = snap-st own r whole (Writes c) ∙ off
+  stays-off (Bares c) other off = snap-st own r whole (Bares c) ∙ ap (snappedBy c) off ∙ by-bare-off c (λ e. other (ap Bares e))
+  stays-off Unlisted other off = snap-st own r whole Unlisted ∙ off
 
 held-along : (table : List ℕ) (events : List Event) → Without Unsnap events → sound table ≡ true → (k : ℕ) → k < monitors table
     → Held (rowAt recordSize k table) (rowAt recordSize k (byRules table events .table))
 held-along =
     along-run Unsnap Held (λ r. record { held = λ on. (on, refl) })
     (λ r s t one two. record { held = λ on. let first = one .held on in let second = two .held (first .0) in (second .0, second .1 ∙ first .1) })
-    (λ c other eight r whole. record { held = λ on. (stays-on eight r whole c other on, copy-kept eight r whole on c) })
+    (λ c other own r whole. record { held = λ on. (stays-on own r whole c other on, copy-kept own r whole on c) })
     (λ codes r. record { held = λ on. (store-snap-st codes r ∙ on, store-copy codes r) })
     (λ r. record { held = λ on. (compare-snap-st r ∙ on, compare-copy r) })
 
@@ -87,7 +91,7 @@ off-along : (table : List ℕ) (events : List Event) → Without Snap events →
     → Off (rowAt recordSize k table) (rowAt recordSize k (byRules table events .table))
 off-along =
     along-run Snap Off (λ r. record { off = λ e. e }) (λ r s t one two. record { off = λ e. two .off (one .off e) })
-    (λ c other eight r whole. record { off = stays-off eight r whole c other }) (λ codes r. record { off = λ e. store-snap-st codes r ∙ e })
+    (λ c other own r whole. record { off = stays-off own r whole c other }) (λ codes r. record { off = λ e. store-snap-st codes r ∙ e })
     (λ r. record { off = λ e. compare-snap-st r ∙ e })
 
 -- ---- the events up to a read, and the read
@@ -144,10 +148,10 @@ module _ (c : Bare) (table first : List ℕ) (passed : Passed (ruleRefusals tabl
   row-whole : length row ≡ recordSize
   row-whole = record-at table first (length (full table)) none k h
 
-  abbrev eight : List ℕ
-  eight = eightAt table first (length (full table)) none k
+  abbrev own : List ℕ
+  own = ownAt table first (length (full table)) none (Bares c) k
 
-  row-then : rowAt recordSize k then ≡ keeps (Bares c) eight row
+  row-then : rowAt recordSize k then ≡ keeps (Bares c) own row
   row-then = ap (rowAt recordSize k) (ruled-frame table first) ∙ kept-at table first (length (full table)) none its k h
 
   -- the table that a read finds which stands behind other events
@@ -175,7 +179,7 @@ module _ (table snap : List ℕ) (passed : Passed (ruleRefusals table snap)) (it
     still-held =
         let at-first = row-then Snap table snap passed its k h in
         let whole = row-whole Snap table snap passed its k h in
-        let e = eight Snap table snap passed its k h in
+        let e = own Snap table snap passed its k h in
         let on = ap snapped at-first ∙ snap-st e (rowAt recordSize k table) whole (Bares Snap) in
         let after =
         held-along (then Snap table snap passed its k h) before quiet (kept-then Snap table snap passed its k h .sound-after) k (there-then Snap table snap passed its k h) .held on in
@@ -233,7 +237,7 @@ module _ (table unsnap : List ℕ) (passed : Passed (ruleRefusals table unsnap))
   unfolding register byRules
   live-read p read =
       let at-first = row-then Unsnap table unsnap passed its k h in
-      let off = ap snapped at-first ∙ snap-st (eight Unsnap table unsnap passed its k h) (rowAt recordSize k table) (row-whole Unsnap table unsnap passed its k h) (Bares Unsnap) in
+      let off = ap snapped at-first ∙ snap-st (own Unsnap table unsnap passed its k h) (rowAt recordSize k table) (row-whole Unsnap table unsnap passed its k h) (Bares Unsnap) in
       let still = off-along (then Unsnap table unsnap passed its k h) (read .before) (read .quiet) (kept-then Unsnap table unsnap passed its k h .sound-after) k (there-then Unsnap table unsnap passed its k h) .off off in
       let now = rowAt recordSize k (found Unsnap table unsnap passed its k h (read .before)) in
       shown-there Unsnap table unsnap passed its k h Snap events p read ∙ ap (λ (q : Part). sixBytes q now) (shows-live p now still)
@@ -244,4 +248,4 @@ module _ (c : Bare) (spares : Spares (Bares c) cells) (table frame : List ℕ) (
   pub cells-left : bytesOf cells (rowAt recordSize k (byRules table (Frame frame ∷ []) .table)) ≡ bytesOf cells (rowAt recordSize k table)
   cells-left =
       ap (bytesOf cells) (row-then c table frame passed its k h)
-      ∙ keeps-spares cells (Bares c) (eight c table frame passed its k h) (rowAt recordSize k table) spares
+      ∙ keeps-spares cells (Bares c) (own c table frame passed its k h) (rowAt recordSize k table) spares

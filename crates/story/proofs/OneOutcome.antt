@@ -10,7 +10,6 @@ use Prim.Native.Nat.{ℕ}
 use denote.Ref.{now}
 use lib.Dec.{eqb, leb}
 use lib.ListN.{length, drop, getD}
-use Rattle.laws.specs.Counts.{count}
 use Rattle.laws.specs.Rows.{rows, joined, along}
 use Rattle.bytes.specs.Placed.{placed, fits}
 use Rattle.bytes.proofs as bytes
@@ -18,18 +17,18 @@ use Rattle.refusals.specs.Numbers.{numberOf}
 use Rattle.refusals.proofs as refusals
 use Rattle.laws.specs.Bits.{bitsOf}
 use Rattle.pec.specs.Remainder.{remainder}
-use Rattle.pec.specs.Words.{twoBytes, polynomial15, polynomial10, pec15, pec10, commandCheck, commandRight, dataPec, seal, payloadRight, numberIn, numberRight}
+use Rattle.pec.specs.Words.{twoBytes, polynomial15, polynomial10, pec15, pec10, commandCheck, commandRight, dataPec, seal, sealedRight, payloadRight, numberIn, numberRight}
 use Rattle.pec.proofs as pec
 use Rattle.check_words.proofs as check_words
 use Rattle.remainders.proofs as remainders
 use Rattle.wire.specs.Order.{writePayloads}
-use Rattle.records.specs.Commands.{commands, commandOf, isListed, frameLength, mostMonitors, replyLength, payloadSize}
-use Rattle.records.specs.Record.{cellCount, snapped, isRecord, recordSound, recordSize}
+use Rattle.records.specs.Commands.{commands, commandOf, isListed, frameLength, mostMonitors, replyLength, dataSize, widthOf}
+use Rattle.records.specs.Record.{cellCount, lastCells, byteIn, snapped, inLpcm, isRecord, recordSound, recordSize}
 use Rattle.reads.specs.Reply.{reply}
 use Rattle.writes.specs.Writes.{rulesOf, written}
-use Rattle.thresholds.specs.Thresholds.{vuv, vov, codesOf}
-use Rattle.monitor.specs.Effects.{takes, keeps}
-use Rattle.cells.specs.Cells.{store, compare}
+use Rattle.thresholds.specs.Thresholds.{lower, upper, vuv, vov, codesOf}
+use Rattle.monitor.specs.Effects.{cellsTo, takes, keeps}
+use Rattle.cells.specs.Cells.{codeIn, store, compare}
 use Rattle.records.proofs as records
 use Rattle.writes.proofs as writes
 use Rattle.reads.proofs as reads
@@ -38,13 +37,18 @@ use Rattle.judging.specs.Table.{monitors, wholeTable, sound}
 use Rattle.judging.specs.Refusals.{commandIn}
 use Rattle.replying.specs.Replied.{replied, repliesFit, repliesInto}
 use Rattle.chain.specs.Frame.{answer, tableAfter, replyAfter}
-use Rattle.serving.specs.Served.{hasRecord, servedAt}
+use Rattle.serving.specs.Served.{hasRecord, servedAt, takesAt, takers}
 use Rattle.judging.specs.Heads.{headJudged}
 use Rattle.loads.specs.Load.{stored, tableAfterStore, compared, tableAfterCompare, loaded, tableAfterLoad}
 use Rattle.chain.specs.Numbers.{numbersOf}
 use Rattle.loads.specs.Numbers.{loadNumber}
 use Rattle.thresholds.proofs as thresholds
 use Rattle.cells.proofs as cells
+use Rattle.measuring.specs.Measuring.{measured, passes}
+use Rattle.measuring.proofs as measuring
+use Rattle.heartbeats.specs.declared.steps.Beat.the-variants.{Silent}
+use Rattle.heartbeats.specs.Steps.{isTimeout, towardsA, woken, wakes, reached, answers, late}
+use Rattle.heartbeats.proofs as heartbeats
 use Rattle.loads.proofs as loads
 use Rattle.judging.specs.Places.{placed as placeOf}
 use Rattle.priorities.specs.Outputs.{outputs, countOn}
@@ -71,6 +75,9 @@ use Rattle.ports.specs.Ports.{portOf}
 use Rattle.ports.specs.Parts.{lying, partOf}
 use Rattle.ports.proofs as ports
 use Rattle.host.proofs as host
+use Rattle.messages.specs.Messages.{message, messageRight}
+use Rattle.messages.specs.Verdicts.{verdict}
+use Rattle.messages.proofs as messages
 use Rattle.readings.specs.Readings.{microvolts, readingOf, summaryOf}
 use Rattle.readings.proofs as readings
 
@@ -122,11 +129,13 @@ pub record OneOutcome : Type 0 where
   data-pec : Settles remainders.data_pec.Reads.Post (λ κ z e. leaves z []) (λ κ a. leaves (dataPec (now (a .0)) (a .1 .0)) [])
   number-in : Settles check_words.number_in.Reads.Post (λ κ z e. leaves z []) (λ κ a. leaves (numberIn (now (a .0))) [])
   number-right : Settles check_words.number_right.Reads.Post (λ κ z e. leaves z []) (λ κ a. leaves (numberRight (a .0)) [])
+  four-right : Settles check_words.four_right.Reads.Post (λ κ z e. leaves z []) (λ κ a. leaves (sealedRight 2 (now (a .0))) [])
   payload-right : Settles check_words.payload_right.Reads.Post (λ κ z e. leaves z []) (λ κ a. leaves (payloadRight (now (a .0))) [])
   pec10-bitwise : Settles remainders.pec10_bitwise.Reads.Post (λ κ z e. leaves z []) (λ κ a. leaves (pec10 (now (a .0))) [])
   pec10-by-table : Settles remainders.pec10_by_table.Reads.Post (λ κ z e. leaves z []) (λ κ a. leaves (pec10 (now (a .0))) [])
   pec15-bitwise : Settles remainders.pec15_bitwise.Reads.Post (λ κ z e. leaves z []) (λ κ a. leaves (pec15 (now (a .0))) [])
   pec15-by-table : Settles remainders.pec15_by_table.Reads.Post (λ κ z e. leaves z []) (λ κ a. leaves (pec15 (now (a .0))) [])
+  sealed-two : Settles check_words.sealed_two.Reads.Post (λ κ z e. leaves z []) (λ κ a. leaves (now (a .0) ++ seal (now (a .0)) (a .1 .0)) [])
   sealed : Settles check_words.sealed.Reads.Post (λ κ z e. leaves z []) (λ κ a. leaves (now (a .0) ++ seal (now (a .0)) (a .1 .0)) [])
   seal : Settles remainders.seal.Reads.Post (λ κ z e. leaves z []) (λ κ a. leaves (seal (now (a .0)) (a .1 .0)) [])
   -- one monitor
@@ -138,13 +147,27 @@ pub record OneOutcome : Type 0 where
   is-listed : Settles records.is_listed.Reads.Post (λ κ z e. leaves z []) (λ κ a. leaves (isListed (a .0)) [])
   record-sound : Settles records.record_sound.Reads.Post (λ κ z e. leaves z []) (λ κ a. leaves (isRecord (now (a .0)) && recordSound (now (a .0))) [])
   byte-at : Settles records.byte_at.Reads.Post (λ κ z e. leaves z []) (λ κ a. leaves (getD (now (a .0)) (a .1 .0) 0) [])
+  byte-in : Settles records.byte_in.Reads.Post (λ κ z e. leaves z []) (λ κ a. leaves (byteIn (a .1 .0) (now (a .0)) (a .1 .1 .0)) [])
   is-snapped : Settles records.is_snapped.Reads.Post (λ κ z e. leaves z []) (λ κ a. leaves (snapped (now (a .0))) [])
+  in-lpcm : Settles records.in_lpcm.Reads.Post (λ κ z e. leaves z []) (λ κ a. leaves (inLpcm (now (a .0))) [])
+  data-size : Settles records.data_size.Reads.Post (λ κ z e. leaves z []) (λ κ a. leaves (dataSize (a .0)) [])
+  width-of : Settles records.width_of.Reads.Post (λ κ z e. leaves z []) (λ κ a. leaves (widthOf (a .0)) [])
   reply-of : Settles reads.reply_of.Reads.Post (λ κ z e. leaves z []) (λ κ a. leaves (reply (a .0) (now (a .1 .0))) [])
   needs-check : Settles writes.needs_check.Reads.Post (λ κ z e. leaves z []) (λ κ a. leaves (rulesOf (a .0) .«needs_check») [])
   write : Settles writes.write.Reads.Post (λ κ z e. leaves z (now (e .1 .1 .0) ∷ []))
-      (λ κ a. leaves tt (cond (isRecord (now (a .1 .1 .0)) && leb 6 (length (now (a .1 .1 .1 .0)))) (written (a .0) (a .1 .0) (now (a .1 .1 .1 .0)) (now (a .1 .1 .0))) (now (a .1 .1 .0)) ∷ []))
+      (λ κ a. leaves tt (cond (isRecord (now (a .1 .1 .0)) && leb (dataSize (a .0)) (length (now (a .1 .1 .1 .0)))) (written (a .0) (a .1 .0) (now (a .1 .1 .1 .0)) (now (a .1 .1 .0))) (now (a .1 .1 .0)) ∷ []))
   act : Settles monitor.act.Reads.Post (λ κ z e. leaves z (now (e .1 .0) ∷ []))
-      (λ κ a. leaves (isRecord (now (a .1 .0)) && takes (a .0) (now (a .1 .1 .0))) (cond (isRecord (now (a .1 .0))) (keeps (a .0) (now (a .1 .1 .0)) (now (a .1 .0))) (now (a .1 .0)) ∷ []))
+      (λ κ a. leaves (isRecord (now (a .1 .0)) && takes (a .0) (now (a .1 .1 .0)) (now (a .1 .0))) (cond (isRecord (now (a .1 .0))) (keeps (a .0) (now (a .1 .1 .0)) (now (a .1 .0))) (now (a .1 .0)) ∷ []))
+  remember : Settles monitor.remember.Reads.Post (λ κ z e. leaves z (now (e .0) ∷ [])) (λ κ a. leaves tt (cond (isRecord (now (a .0))) (cellsTo lastCells (now (a .0))) (now (a .0)) ∷ []))
+  measure : Settles measuring.measure.Reads.Post (λ κ z e. leaves z (now (e .0) ∷ []))
+      (λ κ a. leaves (isRecord (now (a .0)) && passes (now (a .0))) (cond (isRecord (now (a .0))) (measured (now (a .0))) (now (a .0)) ∷ []))
+  wake : Settles heartbeats.wake.Reads.Post (λ κ z e. leaves z (now (e .0) ∷ []))
+      (λ κ a. leaves (cond (isRecord (now (a .0))) (wakes (now (a .0))) Silent) (cond (isRecord (now (a .0))) (woken (now (a .0))) (now (a .0)) ∷ []))
+  reach : Settles heartbeats.reach.Reads.Post (λ κ z e. leaves z (now (e .0) ∷ []))
+      (λ κ a. leaves (cond (isRecord (now (a .0))) (answers (now (a .1 .0)) (now (a .0))) Silent) (cond (isRecord (now (a .0))) (reached (now (a .1 .0)) (now (a .0))) (now (a .0)) ∷ []))
+  run-out : Settles heartbeats.run_out.Reads.Post (λ κ z e. leaves z (now (e .0) ∷ []))
+      (λ κ a. leaves (isRecord (now (a .0)) && isTimeout (now (a .0))) (cond (isRecord (now (a .0))) (late (now (a .0))) (now (a .0)) ∷ []))
+  is-towards-a : Settles heartbeats.is_towards_a.Reads.Post (λ κ z e. leaves z []) (λ κ a. leaves (towardsA (now (a .0))) [])
   -- the chain
   sound-table : Settles judging.sound.Reads.Post (λ κ z e. leaves z []) (λ κ a. leaves (sound (now (a .0))) [])
   sound-count : Settles judging.sound_count.Reads.Post (λ κ z e. leaves z []) (λ κ a. leaves (cond (sound (now (a .0))) (monitors (now (a .0))) 0) [])
@@ -153,9 +176,9 @@ pub record OneOutcome : Type 0 where
   judge-head : Settles judging.judge_head.Reads.Post (λ κ z e. leaves z []) (λ κ a. leaves (headJudged (now (a .0)) (a .1 .0) (a .1 .1 .0)) [])
   numbers-of : Settles chain.numbers_of.Reads.Post (λ κ z e. leaves z []) (λ κ a. leaves (numbersOf (a .0)) [])
   serve : Settles serving.serve.Reads.Post (λ κ z e. leaves z (now (e .0) ∷ []))
-      (λ κ a. leaves (cond (wholeTable (a .1 .1 .0) (now (a .0))) (count (takes (a .1 .0)) (writePayloads payloadSize (a .1 .1 .0) (now (a .1 .1 .1 .0)))) 0) (cond (wholeTable (a .1 .1 .0) (now (a .0))) (joined (along (λ r eight. keeps (a .1 .0) eight r) (rows recordSize (a .1 .1 .0) (now (a .0))) (writePayloads payloadSize (a .1 .1 .0) (now (a .1 .1 .1 .0))))) (now (a .0)) ∷ []))
+      (λ κ a. leaves (cond (wholeTable (a .1 .1 .0) (now (a .0))) (takers (a .1 .0) (rows recordSize (a .1 .1 .0) (now (a .0))) (writePayloads (widthOf (a .1 .0)) (a .1 .1 .0) (now (a .1 .1 .1 .0)))) 0) (cond (wholeTable (a .1 .1 .0) (now (a .0))) (joined (along (λ r own. keeps (a .1 .0) own r) (rows recordSize (a .1 .1 .0) (now (a .0))) (writePayloads (widthOf (a .1 .0)) (a .1 .1 .0) (now (a .1 .1 .1 .0))))) (now (a .0)) ∷ []))
   serve-at : Settles serving.serve_at.Reads.Post (λ κ z e. leaves z (now (e .0) ∷ []))
-      (λ κ a. leaves (hasRecord (a .1 .1 .0) (now (a .0)) && takes (a .1 .0) (now (a .1 .1 .1 .0))) (cond (hasRecord (a .1 .1 .0) (now (a .0))) (servedAt (a .1 .1 .0) (a .1 .0) (now (a .1 .1 .1 .0)) (now (a .0))) (now (a .0)) ∷ []))
+      (λ κ a. leaves (hasRecord (a .1 .1 .0) (now (a .0)) && takesAt (a .1 .1 .0) (a .1 .0) (now (a .1 .1 .1 .0)) (now (a .0))) (cond (hasRecord (a .1 .1 .0) (now (a .0))) (servedAt (a .1 .1 .0) (a .1 .0) (now (a .1 .1 .1 .0)) (now (a .0))) (now (a .0)) ∷ []))
   replies-of : Settles replying.replies_of.Reads.Post (λ κ z e. leaves z (now (e .1 .1 .1 .0) ∷ []))
       (λ κ a. leaves (cond (repliesFit (a .1 .0) (a .1 .1 .0) (now (a .0)) (length (now (a .1 .1 .1 .0)))) (replyLength (a .1 .0) (a .1 .1 .0)) 0) (cond (repliesFit (a .1 .0) (a .1 .1 .0) (now (a .0)) (length (now (a .1 .1 .1 .0)))) (replied (a .1 .0) (a .1 .1 .0) (now (a .0)) (now (a .1 .1 .1 .0))) (now (a .1 .1 .1 .0)) ∷ []))
   reply-all : Settles replying.reply_all.Reads.Post (λ κ z e. leaves z (now (e .1 .1 .0) ∷ []))
@@ -165,9 +188,12 @@ pub record OneOutcome : Type 0 where
   place-of : Settles judging.place_of.Reads.Post (λ κ z e. leaves z []) (λ κ a. leaves (placeOf (now (a .0)) (a .1 .0)) [])
   -- store, compare and load
   codes-of : Settles thresholds.codes_of.Reads.Post (λ κ z e. leaves z []) (λ κ a. leaves (codesOf (a .0)) [])
+  lower-threshold : Settles thresholds.lower_threshold.Reads.Post (λ κ z e. leaves z []) (λ κ a. leaves (lower (a .1 .0) (now (a .0))) [])
+  upper-threshold : Settles thresholds.upper_threshold.Reads.Post (λ κ z e. leaves z []) (λ κ a. leaves (upper (a .1 .0) (now (a .0))) [])
   over-threshold : Settles thresholds.over_threshold.Reads.Post (λ κ z e. leaves z []) (λ κ a. leaves (vov (now (a .0))) [])
   under-threshold : Settles thresholds.under_threshold.Reads.Post (λ κ z e. leaves z []) (λ κ a. leaves (vuv (now (a .0))) [])
   load-number : Settles loads.load_number.Reads.Post (λ κ z e. leaves z []) (λ κ a. leaves (loadNumber (a .0)) [])
+  code-in : Settles cells.code_in.Reads.Post (λ κ z e. leaves z []) (λ κ a. leaves (codeIn (a .1 .0) (now (a .0)) (a .1 .1 .0)) [])
   store-one : Settles cells.store.Reads.Post (λ κ z e. leaves z (now (e .0) ∷ []))
       (λ κ a. leaves (isRecord (now (a .0)) && eqb (length (now (a .1 .0))) cellCount) (cond (isRecord (now (a .0)) && eqb (length (now (a .1 .0))) cellCount) (store (now (a .1 .0)) (now (a .0))) (now (a .0)) ∷ []))
   compare-one : Settles cells.compare.Reads.Post (λ κ z e. leaves z (now (e .0) ∷ []))
@@ -203,6 +229,10 @@ pub record OneOutcome : Type 0 where
   part-of : Settles ports.part_of.Reads.Post (λ κ z e. leaves (lying z) []) (λ κ a. leaves (partOf (a .0) (a .1 .0) (a .1 .1 .0) (a .1 .1 .1 .0)) [])
   build : Settles host.build.Reads.Post (λ κ z e. leaves z (now (e .1 .1 .1 .0) ∷ []))
       (λ κ a. leaves (built (a .0) (a .1 .0) (now (a .1 .1 .0)) (length (now (a .1 .1 .1 .0)))) (bufferAfter (a .0) (a .1 .0) (now (a .1 .1 .0)) (now (a .1 .1 .1 .0)) ∷ []))
+  -- heartbeats
+  message : Settles messages.message.Reads.Post (λ κ z e. leaves z []) (λ κ a. leaves (message (a .0) (a .1 .0)) [])
+  message-right : Settles messages.message_right.Reads.Post (λ κ z e. leaves z []) (λ κ a. leaves (messageRight (now (a .0))) [])
+  verdict-on : Settles messages.verdict_on.Reads.Post (λ κ z e. leaves z []) (λ κ a. leaves (verdict (now (a .0)) (a .1 .0)) [])
   -- readings
   microvolts-of : Settles readings.microvolts_of.Reads.Post (λ κ z e. leaves z []) (λ κ a. leaves (microvolts (a .0)) [])
   reading-of : Settles readings.reading_of.Reads.Post (λ κ z e. leaves z []) (λ κ a. leaves (readingOf (a .0)) [])
@@ -222,12 +252,14 @@ one-outcomes =
       data-pec = settles (λ κ a z e p i. leaves (p i) []);
       number-in = settles (λ κ a z e p i. leaves (p .0 i) []);
       number-right = settles (λ κ a z e p i. leaves (p i) []);
+      four-right = settles (λ κ a z e p i. leaves (p i) []);
       payload-right = settles (λ κ a z e p i. leaves (p i) []);
       pec10-bitwise = settles (λ κ a z e p i. leaves (p i) []);
       pec10-by-table = settles (λ κ a z e p i. leaves (p i) []);
       pec15-bitwise = settles (λ κ a z e p i. leaves (p i) []);
       pec15-by-table = settles (λ κ a z e p i. leaves (p i) []);
       seal = settles (λ κ a z e p i. leaves (p i) []);
+      sealed-two = settles (λ κ a z e p i. leaves (p i) []);
       sealed = settles (λ κ a z e p i. leaves (p i) []);
       command-of = settles (λ κ a z e p i. leaves (p i) []);
       frame-length = settles (λ κ a z e p i. leaves (p i) []);
@@ -235,11 +267,21 @@ one-outcomes =
       is-listed = settles (λ κ a z e p i. leaves (p i) []);
       record-sound = settles (λ κ a z e p i. leaves (p i) []);
       byte-at = settles (λ κ a z e p i. leaves (p i) []);
+      byte-in = settles (λ κ a z e p i. leaves (p i) []);
       is-snapped = settles (λ κ a z e p i. leaves (p i) []);
+      in-lpcm = settles (λ κ a z e p i. leaves (p i) []);
+      data-size = settles (λ κ a z e p i. leaves (p .0 i) []);
+      width-of = settles (λ κ a z e p i. leaves (p .0 i) []);
       reply-of = settles (λ κ a z e p i. leaves (p i) []);
       needs-check = settles (λ κ a z e p i. leaves (p i) []);
       write = settles (λ κ a z e p i. leaves z (p i ∷ []));
       act = settles (λ κ a z e p i. leaves (p .0 i) (p .1 i ∷ []));
+      remember = settles (λ κ a z e p i. leaves z (p i ∷ []));
+      measure = settles (λ κ a z e p i. leaves (p .0 i) (p .1 i ∷ []));
+      wake = settles (λ κ a z e p i. leaves (p .0 i) (p .1 i ∷ []));
+      reach = settles (λ κ a z e p i. leaves (p .0 i) (p .1 i ∷ []));
+      run-out = settles (λ κ a z e p i. leaves (p .0 i) (p .1 i ∷ []));
+      is-towards-a = settles (λ κ a z e p i. leaves (p i) []);
       sound-table = settles (λ κ a z e p i. leaves (p i) []);
       sound-count = settles (λ κ a z e p i. leaves (p i) []);
       whole-table = settles (λ κ a z e p i. leaves (p i) []);
@@ -253,9 +295,12 @@ one-outcomes =
       handle = settles (λ κ a z e p i. leaves (p .0 i) (p .1 .0 i ∷ p .1 .1 i ∷ []));
       place-of = settles (λ κ a z e p i. leaves (p i) []);
       codes-of = settles (λ κ a z e p i. leaves (p i) []);
+      lower-threshold = settles (λ κ a z e p i. leaves (p i) []);
+      upper-threshold = settles (λ κ a z e p i. leaves (p i) []);
       over-threshold = settles (λ κ a z e p i. leaves (p i) []);
       under-threshold = settles (λ κ a z e p i. leaves (p i) []);
       load-number = settles (λ κ a z e p i. leaves (p i) []);
+      code-in = settles (λ κ a z e p i. leaves (p i) []);
       store = settles (λ κ a z e p i. leaves (p .0 i) (p .1 i ∷ []));
       compare = settles (λ κ a z e p i. leaves (p .0 i) (p .1 i ∷ []));
       store-one = settles (λ κ a z e p i. leaves (p .0 i) (p .1 i ∷ []));
@@ -276,6 +321,9 @@ one-outcomes =
       port-of = settles (λ κ a z e p i. leaves (p i) []);
       part-of = settles (λ κ a z e p i. leaves (p .1 i) []);
       build = settles (λ κ a z e p i. leaves (p .0 i) (p .1 i ∷ []));
+      message = settles (λ κ a z e p i. leaves (p i) []);
+      message-right = settles (λ κ a z e p i. leaves (p i) []);
+      verdict-on = settles (λ κ a z e p i. leaves (p i) []);
       microvolts-of = settles (λ κ a z e p i. leaves (p i) []);
       reading-of = settles (λ κ a z e p i. leaves (p i) []);
       summary-of = settles (λ κ a z e p i. leaves (p i) []);

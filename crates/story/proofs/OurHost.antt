@@ -1,21 +1,22 @@
 -- Our host and the chain. For every sound table and every frame that our host builds for its N: the chain accepts it; in a write all
--- N monitors take it, and each keeps what it would keep of its own six bytes, the k-th six of the list; in a read every
+-- monitors take it that are not in LPCM, and each keeps what it would keep of its own data, the k-th of the list; in a read every
 -- monitor's part of the reply is right.
 -- Assumes nothing.
 use mathlib.Core.Path.{_≡_, refl, sym, ap, _∙_, subst}
-use mathlib.Core.Bool.{true, not}
+use mathlib.Core.Bool.{Bool, true, not, _&&_}
 use mathlib.Core.List.{List, [], map}
 use Prim.Native.Nat.{ℕ, suc, _-_, _*_, _≤_, _<_}
+use native.Mathlib.Nat.{mul-comm}
 use native.Mathlib.Omega.{arith}
 use lib.ListN.{length, getD, drop}
 use borrow.Author.Tests.{le-ltb, eq-eqb}
-use Rattle.laws.specs.Counts.{count}
 use Rattle.laws.specs.Rows.{rows, rowAt}
 use Rattle.laws.specs.Tables.{tabulate}
 use Rattle.laws.proofs.Lists.{getD-map}
-use Rattle.laws.proofs.Counts.{count-map, count-every}
-use Rattle.laws.proofs.Rows.{length-rows, every-rows, row-at}
-use Rattle.pec.specs.Words.{payloadRight}
+use Rattle.laws.proofs.Counts.{and-true}
+use Rattle.laws.proofs.CountsAlong.{count-first}
+use Rattle.laws.proofs.Rows.{length-rows, length-row-at, row-at}
+use Rattle.pec.specs.Words.{sealedRight, payloadRight}
 use Rattle.pec.proofs.CheckWords.{seal-right}
 use Rattle.wire.proofs.Order.{write-at}
 use Rattle.refusals.specs.Order.{Passed}
@@ -25,25 +26,26 @@ use Rattle.records.specs.declared.commands.Command.the-variants.{Reads, Writes,
 use Rattle.records.specs.declared.commands.Write.{Write}
 use Rattle.records.specs.declared.commands.Bare.{Bare}
 use Rattle.records.specs.declared.record.Part.{Part}
-use Rattle.records.specs.Record.{recordSize, counter, byteOf}
-use Rattle.records.specs.Commands.{commands, commandOf, isListed, payloadSize, frameLength, replyLength}
-use Rattle.monitor.specs.Effects.{goodFor, keeps}
+use Rattle.records.specs.Record.{recordSize, counter, inLpcm, byteOf}
+use Rattle.records.specs.Commands.{commands, commandOf, isListed, dataSize, registerSize, payloadSize, widthOf, frameLength, replyLength}
+use Rattle.monitor.specs.Effects.{accepts, keeps}
 use Rattle.monitor.proofs.Keeping.{right-good}
 use Rattle.reads.specs.Reply.{sixBytes, register, reply}
 use Rattle.chain.specs.declared.frames.Answer.the-variants.{Accepted}
 use Rattle.judging.specs.declared.heads.Judged.the-variants.{Bad, Good}
 use Rattle.judging.specs.Table.{monitors, sound}
 use Rattle.judging.specs.Refusals.{commandIn}
-use Rattle.serving.specs.Served.{payloadsIn, takenBy, kept}
+use Rattle.serving.specs.Served.{takers, Awake, awakeOf, payloadsIn, takenBy, kept}
 use Rattle.replying.specs.Replied.{replied}
 use Rattle.chain.specs.Frame.{frameRefusals, answer, tableAfter, replyAfter}
 use Rattle.chain.specs.Judged.{judged}
 use Rattle.judging.proofs.Soundness.{is-sound}
 use Rattle.chain.proofs.Outcome.{head, the-answer, the-table, the-buffer}
 use Rattle.serving.proofs.OwnRecord.{own-record}
+use Rattle.serving.proofs.OwnPayload.{own-bytes, length-payloadsIn}
 use Rattle.replying.proofs.OwnReply.{own-reply}
-use Rattle.serving.proofs.Taken.{taken-read, taken-bare}
-use Rattle.host.specs.Frames.{dataSize, sealed, valueCount, frameFor}
+use Rattle.serving.proofs.Taken.{taken-read, taken-bare, awake-all}
+use Rattle.host.specs.Frames.{sealed, valueCount, frameFor}
 use Rattle.host.proofs.FrameFor.{length-frame, frame-right, frame-code, write-payloads}
 use Rattle.host.proofs.Payloads.{sealed-right}
 
@@ -99,7 +101,7 @@ module _ (table values buffer : List ℕ) (code : ℕ) (c : Command) (its : comm
       (host-passes table values code (length buffer) c its listed is-sound-table right-count enough)
       ∙ ap (λ (k : Command). Good k (monitors table)) (command-in table values code (length buffer) c its listed is-sound-table right-count enough)
 
-  pub accepted : answer table frame (length buffer) ≡ Accepted (takenBy c (monitors table) frame) (replyLength c (monitors table))
+  pub accepted : answer table frame (length buffer) ≡ Accepted (takenBy c (monitors table) table frame) (replyLength c (monitors table))
   accepted = the-answer table frame buffer judged-good
 
   pub table-after : tableAfter table frame (length buffer) ≡ kept c (monitors table) table frame
@@ -110,56 +112,71 @@ module _ (table values buffer : List ℕ) (code : ℕ) (c : Command) (its : comm
 
 -- ---- writes
 
-module _ (code n : ℕ) (values : List ℕ) (w : Write) (its : commandOf code commands ≡ Writes w) (right-count : length values ≡ dataSize * n) where
-  own-payloads : payloadsIn (frameFor code n values) n ≡ map sealed (rows dataSize n values)
+-- right bytes are accepted by every monitor that is not in LPCM
+accepts-right : (w : Write) (own r : List ℕ) → sealedRight (dataSize w) own ≡ true → accepts w own r ≡ not (inLpcm r)
+unfolding accepts
+accepts-right w own r h = ap (λ (b : Bool). not (inLpcm r) && b) (right-good w own h) ∙ and-true (not (inLpcm r))
+
+module _ (code n : ℕ) (values : List ℕ) (w : Write) (its : commandOf code commands ≡ Writes w) (right-count : length values ≡ dataSize w * n) where
+  own-payloads : payloadsIn (Writes w) (frameFor code n values) n ≡ map sealed (rows (dataSize w) n values)
   unfolding payloadsIn
   own-payloads = write-payloads code n values w its right-count
 
-  -- the own eight bytes of the monitor at k, counted from 0, are the k-th six of the list, sealed; on the wire they are the k-th eight
-  -- from the end
-  pub own-six : (k : ℕ) → k < n → rowAt payloadSize (n - suc k) (drop 4 (frameFor code n values)) ≡ sealed (rowAt dataSize k values)
+  -- the own bytes of the monitor at k, counted from 0, are the k-th data of the list, sealed; on the wire they are the k-th from the end
+  pub own-data : (k : ℕ) → k < n → rowAt (widthOf (Writes w)) (n - suc k) (drop 4 (frameFor code n values)) ≡ sealed (rowAt (dataSize w) k values)
   unfolding payloadsIn
-  own-six k h =
-      let within = length-rows dataSize n values in
-      sym (write-at payloadSize n (drop 4 (frameFor code n values)) k [] h)
+  own-data k h =
+      let within = length-rows (dataSize w) n values in
+      sym (write-at (widthOf (Writes w)) n (drop 4 (frameFor code n values)) k [] h)
       ∙ ap (λ (ps : List (List ℕ)). getD ps k []) own-payloads
-      ∙ getD-map sealed (rows dataSize n values) k [] [] (omega arith)
-      ∙ ap sealed (row-at dataSize n values k [] h)
+      ∙ getD-map sealed (rows (dataSize w) n values) k [] [] (omega arith)
+      ∙ ap sealed (row-at (dataSize w) n values k [] h)
+
+  -- and right
+  pub own-data-right : (k : ℕ) → k < n → sealedRight (dataSize w) (rowAt (widthOf (Writes w)) (n - suc k) (drop 4 (frameFor code n values))) ≡ true
+  own-data-right k h =
+      ap (sealedRight (dataSize w)) (own-data k h)
+      ∙ sealed-right (rowAt (dataSize w) k values) (length-row-at (dataSize w) n values k h (omega (arith, right-count, mul-comm n (dataSize w))))
 
 module _ (table values buffer : List ℕ) (code : ℕ) (w : Write) (its : commandOf code commands ≡ Writes w)
-    (is-sound-table : sound table ≡ true) (right-count : length values ≡ dataSize * monitors table) where
+    (is-sound-table : sound table ≡ true) (right-count : length values ≡ dataSize w * monitors table) where
   abbrev written-frame : List ℕ
   written-frame = frameFor code (monitors table) values
 
-  all-taken : takenBy (Writes w) (monitors table) written-frame ≡ monitors table
-  unfolding takenBy
-  all-taken =
-      let sixes = rows dataSize (monitors table) values in
-      ap (count (goodFor w)) (own-payloads code (monitors table) values w its right-count)
-      ∙ count-map (goodFor w) sealed sixes
-      ∙ count-every (λ six. goodFor w (sealed six)) dataSize (λ six l. right-good w (sealed six) (sealed-right six l)) sixes
-      (every-rows dataSize (monitors table) values (omega arith))
-      ∙ length-rows dataSize (monitors table) values
+  -- all take it that are not in LPCM
+  awake-taken : takenBy (Writes w) (monitors table) table written-frame ≡ awakeOf (monitors table) table
+  unfolding takenBy takers awakeOf
+  awake-taken =
+      let n = monitors table in
+      let owns = payloadsIn (Writes w) written-frame n in
+      let as-many : length (rows recordSize n table) ≡ length owns = length-rows recordSize n table ∙ sym (length-payloadsIn (Writes w) n table written-frame) in
+      count-first (λ r own. accepts w own r) [] [] (λ r. not (inLpcm r)) (rows recordSize n table) owns as-many
+      (λ k l.
+      let within : k < n = omega (arith, length-rows recordSize n table) in
+      let right = ap (sealedRight (dataSize w)) (own-bytes (Writes w) n table written-frame k within) ∙ own-data-right code n values w its right-count k within in
+      accepts-right w (getD owns k []) (getD (rows recordSize n table) k []) right)
 
-  -- the chain accepts the frame, and all N monitors take it
-  pub write-taken-by-all : answer table written-frame (length buffer) ≡ Accepted (monitors table) 0
-  write-taken-by-all =
-      accepted table values buffer code (Writes w) its refl is-sound-table right-count (omega arith) ∙ ap (λ (t : ℕ). Accepted t 0) all-taken
+  -- the chain accepts the frame, and so in a chain with none in LPCM all N monitors take it
+  pub write-taken : answer table written-frame (length buffer) ≡ Accepted (awakeOf (monitors table) table) 0
+  write-taken = accepted table values buffer code (Writes w) its refl is-sound-table right-count (omega arith) ∙ ap (λ (t : ℕ). Accepted t 0) awake-taken
+
+  pub write-taken-by-all : Awake (monitors table) table → answer table written-frame (length buffer) ≡ Accepted (monitors table) 0
+  write-taken-by-all awake = write-taken ∙ ap (λ (t : ℕ). Accepted t 0) (awake-all (monitors table) table awake)
 
   pub each-keeps-its-own : (k : ℕ) → k < monitors table
-      → rowAt recordSize k (tableAfter table written-frame (length buffer)) ≡ keeps (Writes w) (sealed (rowAt dataSize k values)) (rowAt recordSize k table)
+      → rowAt recordSize k (tableAfter table written-frame (length buffer)) ≡ keeps (Writes w) (sealed (rowAt (dataSize w) k values)) (rowAt recordSize k table)
   each-keeps-its-own k h =
       ap (rowAt recordSize k) (table-after table values buffer code (Writes w) its refl is-sound-table right-count (omega arith))
       ∙ own-record (Writes w) (monitors table) table written-frame k h (sym (is-sound table is-sound-table .whole))
-      ∙ ap (λ (eight : List ℕ). keeps (Writes w) eight (rowAt recordSize k table)) (own-six code (monitors table) values w its right-count k h)
+      ∙ ap (λ (own : List ℕ). keeps (Writes w) own (rowAt recordSize k table)) (own-data code (monitors table) values w its right-count k h)
 
 -- ---- reads
 
-pub length-six : (part : Part) (r : List ℕ) → length (sixBytes part r) ≡ dataSize
+pub length-six : (part : Part) (r : List ℕ) → length (sixBytes part r) ≡ registerSize
 unfolding sixBytes tabulate
 length-six part r = refl
 
-pub length-register : (part : Part) (r : List ℕ) → length (register part r) ≡ dataSize
+pub length-register : (part : Part) (r : List ℕ) → length (register part r) ≡ registerSize
 unfolding register
 length-register part r = length-six _ r
 
@@ -172,7 +189,7 @@ module _ (table buffer : List ℕ) (code : ℕ) (part : Part) (its : commandOf c
   pub read-taken-by-all : answer table (frameFor code (monitors table) []) (length buffer) ≡ Accepted (monitors table) (payloadSize * monitors table)
   read-taken-by-all =
       accepted table [] buffer code (Reads part) its refl is-sound-table refl enough
-      ∙ ap (λ (t : ℕ). Accepted t (payloadSize * monitors table)) (taken-read part (monitors table) (frameFor code (monitors table) []))
+      ∙ ap (λ (t : ℕ). Accepted t (payloadSize * monitors table)) (taken-read part (monitors table) table (frameFor code (monitors table) []))
 
   -- monitor by monitor: its part of the reply is what it replies, and that is right
   pub each-reply-its-own : (k : ℕ) → k < monitors table → rowAt payloadSize k (replyAfter table (frameFor code (monitors table) []) buffer) ≡ reply part (rowAt recordSize k table)
@@ -189,4 +206,4 @@ pub bare-taken-by-all : (table buffer : List ℕ) (code : ℕ) (c : Bare) → co
     → answer table (frameFor code (monitors table) []) (length buffer) ≡ Accepted (monitors table) 0
 bare-taken-by-all table buffer code c its is-sound-table =
     accepted table [] buffer code (Bares c) its refl is-sound-table refl (omega arith)
-    ∙ ap (λ (t : ℕ). Accepted t 0) (taken-bare c (monitors table) (frameFor code (monitors table) []))
+    ∙ ap (λ (t : ℕ). Accepted t 0) (taken-bare c (monitors table) table (frameFor code (monitors table) []))

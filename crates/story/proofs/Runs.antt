@@ -3,42 +3,45 @@
 -- byte, and a clocked frame comes to what a whole one does.
 -- Assumes nothing.
 use mathlib.Core.Path.{_≡_, refl, ap, ap₂, _∙_}
-use mathlib.Core.Bool.{Bool, true, false, cond}
+use mathlib.Core.Bool.{Bool, true, false, cond, not, _&&_, _||_}
 use mathlib.Core.List.{List, [], _∷_, map}
 use Prim.Native.Nat.{ℕ, _-_, _*_, _≤_}
 use native.Mathlib.Nat.{le-trans, mul-comm}
 use native.Mathlib.Omega.{arith}
+use lib.Dec.{eqb}
 use lib.IntN.{ℤ}
-use lib.ListN.{length, take, drop, replicate, length-map, length-replicate}
+use lib.ListN.{length, take, drop, replicate, length-map, length-drop, length-replicate}
 use lib.Seq.{take-at}
-use borrow.Author.Tests.{le-ltb, eqb-true, not-false}
+use borrow.Author.Tests.{le-ltb, eq-eqb, eqb-true, not-false}
 use Rattle.laws.specs.Counts.{count}
 use Rattle.laws.specs.Rows.{rows}
-use Rattle.laws.proofs.Rows.{length-rows, length-joined, every-image}
+use Rattle.laws.proofs.Rows.{length-rows, length-joined, every-image, along-same}
 use Rattle.wire.specs.Order.{replyData}
+use Rattle.wire.proofs.Order.{every-writePayloads}
 use Rattle.refusals.specs.declared.Refusal.{Refusal}
 use Rattle.refusals.specs.Order.{Row, decide, Passed}
-use Rattle.pec.specs.Words.{payloadRight}
+use Rattle.pec.specs.Words.{sealedRight}
 use Rattle.refusals.proofs.Deciding.{decide-append, passes, passed-agree}
 use Rattle.records.specs.declared.commands.Command.{Command}
 use Rattle.records.specs.declared.commands.Command.the-variants.{Reads, Writes, Bares, Unlisted}
+use Rattle.records.specs.declared.commands.Write.{Write}
 use Rattle.records.specs.declared.record.Part.{Part}
-use Rattle.records.specs.Record.{recordSize}
-use Rattle.records.specs.Commands.{payloadSize, frameLength, replyLength}
+use Rattle.records.specs.Record.{recordSize, inLpcm}
+use Rattle.records.specs.Commands.{dataSize, payloadSize, widthOf, frameLength, replyLength}
 use Rattle.writes.specs.Writes.{rulesOf}
-use Rattle.monitor.specs.Effects.{takes}
+use Rattle.monitor.specs.Effects.{goodFor, accepts}
 use Rattle.reads.specs.Reply.{reply}
 use Rattle.reads.proofs.Showing.{length-reply}
 use Rattle.chain.specs.declared.frames.Answer.{Answer}
 use Rattle.chain.specs.declared.frames.Answer.the-variants.{Refused, Accepted}
 use Rattle.judging.specs.Table.{monitors}
 use Rattle.judging.specs.Refusals.{commandIn, roomRow}
-use Rattle.serving.specs.Served.{payloadsIn, takenBy, kept}
+use Rattle.serving.specs.Served.{takers, payloadsIn, takenBy, kept}
 use Rattle.replying.specs.Replied.{replied}
 use Rattle.chain.specs.Frame.{frameRefusals, answer, tableAfter, replyAfter}
 use Rattle.replying.proofs.OwnReply.{length-replied}
 use Rattle.judging.proofs.Decided.{either-way}
-use Rattle.serving.proofs.Taken.{taken-read, taken-bare, taken-checked, taken-unchecked}
+use Rattle.serving.proofs.Taken.{taken-read, taken-bare, taken-none}
 use Rattle.loads.specs.declared.loads.Loaded.the-variants.{Unloaded}
 use Rattle.loads.specs.Load.{storeRefusals, stored, tableAfterStore, compareRefusals, compared, tableAfterCompare}
 use Rattle.clocking.specs.Clock.{Clock, start, answered}
@@ -50,7 +53,7 @@ use Rattle.clocking.proofs.Known.{reply-short}
 use Rattle.clocking.proofs.Lengths.{length-stateAfter}
 use Rattle.clocking.proofs.View.{view, view-idle}
 use Rattle.clocked.proofs.Whole.{released-whole, table-released-whole, reply-whole}
-use Rattle.story.specs.Runs.{Frame, Store, Compare, Seen, Answered, StoreAnswered, CompareAnswered, Step, replyBytes, ruleRefusals, takers, replies, obeyed, ruled, stateAfterAll, cameBack}
+use Rattle.story.specs.Runs.{Frame, Store, Compare, Seen, Answered, StoreAnswered, CompareAnswered, Step, replyBytes, ruleRefusals, takesWrite, takersOf, replies, obeyed, ruled, stateAfterAll, cameBack}
 
 -- ---- two questions with the same refusals, as one
 
@@ -68,22 +71,26 @@ decide-both {A} {B} {C} f (row ∷ rows) a b x y = by (row .holds) (decide-both 
 
 -- ---- what an accepted frame makes, in the rules' words
 
--- no monitor takes what is no command
-none-take : (eights : List (List ℕ)) → count (takes Unlisted) eights ≡ 0
-unfolding count
-none-take [] = refl
-none-take (eight ∷ eights) = omega (arith, none-take eights)
-
-pub same-takers : (c : Command) (n : ℕ) (frame : List ℕ) → length frame ≡ frameLength c n → takenBy c n frame ≡ takers c n frame
-unfolding takers takenBy
-same-takers (Reads part) n frame whole = taken-read part n frame
-same-takers (Writes c) n frame whole = by (rulesOf c .«needs_check») refl
+-- what a monitor takes of a write is what the rules say, of as many own bytes as the write has
+rules-take : (c : Write) (r own : List ℕ) → length own ≡ widthOf (Writes c) → accepts c own r ≡ takesWrite c r own
+unfolding accepts takesWrite goodFor
+rules-take c r own l = ap (λ (b : Bool). not (inLpcm r) && b) (by (rulesOf c .«needs_check»))
   where
-    by : (needs : Bool) → rulesOf c .«needs_check» ≡ needs → takenBy (Writes c) n frame ≡ cond needs (count payloadRight (payloadsIn frame n)) n
-    by true e = taken-checked c n frame e
-    by false e = taken-unchecked c n frame e whole
-same-takers (Bares c) n frame whole = taken-bare c n frame
-same-takers Unlisted n frame whole = none-take (payloadsIn frame n)
+    by : (needs : Bool) → cond needs (sealedRight (dataSize c) own) (eqb (length own) (widthOf (Writes c))) ≡ not needs || sealedRight (dataSize c) own
+    by true = refl
+    by false = eq-eqb (length own) (widthOf (Writes c)) l
+
+-- so as many take it
+pub same-takers : (c : Command) (n : ℕ) (table frame : List ℕ) → length frame ≡ frameLength c n → takenBy c n table frame ≡ takersOf c n table frame
+unfolding takersOf
+same-takers (Reads part) n table frame whole = taken-read part n table frame
+same-takers (Writes c) n table frame whole =
+    unfold takenBy takers payloadsIn in
+    ap (count (λ took. took))
+    (along-same (λ r own. accepts c own r) (takesWrite c) (widthOf (Writes c)) (rules-take c) (rows recordSize n table)
+    (payloadsIn (Writes c) frame n) (every-writePayloads (widthOf (Writes c)) n (drop 4 frame) (omega (arith, length-drop 4 frame, whole, mul-comm n (widthOf (Writes c))))))
+same-takers (Bares c) n table frame whole = taken-bare c n table frame
+same-takers Unlisted n table frame whole = taken-none n table frame
 
 pub length-replies : (part : Part) (n : ℕ) (table : List ℕ) → length (replyData (map (reply part) (rows recordSize n table))) ≡ payloadSize * n
 unfolding replyData
@@ -140,7 +147,7 @@ module _ (table frame buffer : List ℕ) (room : payloadSize * monitors table �
       ∙ no-sixth (λ r. stepTo table (Answered (Refused r) [])) _
       ∙ passed-agree (ruleRefusals table frame) (λ r. stepTo table (Answered (Refused r) [])) _ _
       (λ p. ap₂ (λ (taken : ℕ) (back : List ℕ). stepTo (kept c n table frame) (Answered (Accepted taken (replyLength c n)) back))
-      (same-takers c n frame (whole-frame p)) (same-replies c n table buffer))
+      (same-takers c n table frame (whole-frame p)) (same-replies c n table buffer))
 
   -- the buffer stays as long as it was
   pub length-after : length (replyAfter table frame buffer) ≡ length buffer

@@ -4,9 +4,9 @@
 -- every sound table, of two monitors where the frame is for two.
 -- Assumes nothing.
 use mathlib.Core.Path.{_≡_, refl, sym, ap, ap₂, _∙_, subst⁻¹}
-use mathlib.Core.Bool.{Bool, true, not, xor, _&&_, false≢true}
+use mathlib.Core.Bool.{Bool, true, false, cond, not, xor, _&&_, false≢true}
 use mathlib.Core.List.{List, [], _∷_}
-use Prim.Native.Nat.{ℕ, _-_, _≤_, _<_}
+use Prim.Native.Nat.{ℕ, _+_, _-_, _≤_, _<_}
 use native.Mathlib.Omega.{arith}
 use lib.Dec.{lit≤}
 use lib.IntN.{pos}
@@ -17,9 +17,10 @@ use Rattle.laws.specs.Counts.{all, count, same}
 use Rattle.laws.specs.Rows.{rows, rowAt, joined}
 use Rattle.laws.specs.Tables.{tabulate}
 use Rattle.laws.proofs.BitStrings.{are-bytes}
+use Rattle.laws.proofs.Counts.{and-false}
 use Rattle.pec.specs.Remainder.{once, step, remainder}
 use Rattle.pec.specs.Spikes.{Spike}
-use Rattle.pec.specs.Words.{twoBytes, wordAt, pec15, commandCheck, commandRight, dataPec, seal, counterOf, payloadRight}
+use Rattle.pec.specs.Words.{twoBytes, wordAt, pec15, commandCheck, commandRight, dataPec, seal, sealedRight}
 use Rattle.pec.proofs.Spikes.{spike-of-parts}
 use Rattle.wire.specs.Order.{farthestFirst, writeData, writePayloads}
 use Rattle.refusals.specs.declared.Refusal.the-variants.{CommandWrong}
@@ -27,21 +28,21 @@ use Rattle.refusals.specs.Order.{Passed}
 use Rattle.records.specs.declared.commands.Bare.the-variants.{Mute, Unmute}
 use Rattle.records.specs.declared.commands.Command.the-variants.{Writes, Bares}
 use Rattle.records.specs.declared.commands.Write.the-variants.{Wrcfgb, Wrrr}
-use Rattle.records.specs.Record.{configurationB, unlocked, recordSize, bytesOf, byteOf, onBytes}
-use Rattle.records.specs.Commands.{commands, commandOf, mostMonitors, payloadSize}
+use Rattle.records.specs.Record.{configurationB, unlocked, recordSize, inLpcm, bytesOf, byteIn, byteOf, onBytes}
+use Rattle.records.specs.Commands.{commands, commandOf, mostMonitors, registerSize, payloadSize}
 use Rattle.writes.specs.Writes.{rulesOf}
 use Rattle.writes.proofs.Written.{opens-always}
 use Rattle.monitor.specs.Effects.{locked, counted, done, keeps}
-use Rattle.monitor.proofs.Keeping.{right-good}
+use Rattle.monitor.proofs.Keeping.{right-good, accepts-awake}
 use Rattle.chain.specs.declared.frames.Answer.the-variants.{Refused, Accepted}
 use Rattle.judging.specs.Table.{monitors, sound}
 use Rattle.judging.specs.Refusals.{commandIn}
-use Rattle.serving.specs.Served.{payloadsIn}
+use Rattle.serving.specs.Served.{Awake, payloadsIn}
 use Rattle.chain.specs.Frame.{frameRefusals, answer, tableAfter}
-use Rattle.thresholds.specs.Thresholds.{signed, byteB, vov}
-use Rattle.host.specs.Frames.{headSize, dataSize, sealed, body, frameFor, buildRefusals}
-use Rattle.story.specs.Spikes.{Ours, StruckData, StruckCommand, ownEight, unhit, unhitOf}
-use Rattle.story.proofs.Accepted.{write-answer, bare-answer, kept-at}
+use Rattle.thresholds.specs.Thresholds.{signed, upper, vov}
+use Rattle.host.specs.Frames.{headSize, sealed, body, frameFor, buildRefusals}
+use Rattle.story.specs.Spikes.{Ours, StruckData, StruckCommand, ownIn, unhit, unhitAwake}
+use Rattle.story.proofs.Accepted.{write-answer-awake, bare-answer, kept-at}
 use Rattle.story.proofs.ReadBack.{stores-whole}
 use Rattle.story.proofs.EitherSide.{with}
 use Rattle.story.proofs.Spikes.{came-passes, came-command, struck-answer, struck-refused-any}
@@ -87,15 +88,15 @@ pub record Sharp : Type 0 where
   -- ten places over the border of the two payloads: it is a struck write, and neither monitor takes it
   ten : StruckData (Writes Wrcfgb) 2 writeSent writeTen
   ten-taken : (table : List ℕ) (room : ℕ) → sound table ≡ true → monitors table ≡ 2 → answer table writeTen room ≡ Accepted 0 0
-  -- eleven places behind the command of the same frame: both monitors take it
+  -- eleven places behind the command of the same frame: both monitors take it, where neither is in LPCM
   eleven-ours : Ours (Writes Wrcfgb) 2 writeSent
   eleven : Spike 11 writeSent writeCame
   eleven-head : take headSize writeCame ≡ take headSize writeSent
-  eleven-taken : (table : List ℕ) (room : ℕ) → sound table ≡ true → monitors table ≡ 2 → answer table writeCame room ≡ Accepted 2 0
+  eleven-taken : (table : List ℕ) (room : ℕ) → sound table ≡ true → monitors table ≡ 2 → Awake 2 table → answer table writeCame room ≡ Accepted 2 0
   -- the near one stores what came, and counts: another VOV; the far one does as with the frame that was sent
-  eleven-stored : (table : List ℕ) (room : ℕ) → sound table ≡ true → monitors table ≡ 2
+  eleven-stored : (table : List ℕ) (room : ℕ) → sound table ≡ true → monitors table ≡ 2 → inLpcm (rowAt recordSize 0 table) ≡ false
       → rowAt recordSize 0 (tableAfter table writeCame room) ≡ onBytes configurationB (λ i old. getD nearCame i 0) (counted (locked (rowAt recordSize 0 table)))
-  eleven-vov : (vov (with configurationB (take dataSize nearSent)) ≡ record { 0 = pos 875 }) × (vov (with configurationB (take dataSize nearCame)) ≡ record { 0 = pos 2027 })
+  eleven-vov : (vov (with configurationB (take registerSize nearSent)) ≡ record { 0 = pos 875 }) × (vov (with configurationB (take registerSize nearCame)) ≡ record { 0 = pos 2027 })
   eleven-far : (table : List ℕ) (room : ℕ) → sound table ≡ true → monitors table ≡ 2
       → rowAt recordSize 1 (tableAfter table writeCame room) ≡ rowAt recordSize 1 (tableAfter table writeSent room)
   -- the last place of a command alone: it is a struck command, for any number of monitors, and it is refused
@@ -130,9 +131,10 @@ ten-struck =
       same-head = refl;
     }
 
-both-hit : unhitOf 2 writeSent writeTen ≡ 0
-unfolding unhitOf unhit ownEight rowAt same count tabulate
-both-hit = refl
+both-hit : (table : List ℕ) → unhitAwake (Writes Wrcfgb) 2 table writeSent writeTen ≡ 0
+unfolding unhitAwake unhit ownIn rowAt same count tabulate
+both-hit table =
+    ap₂ (λ (near far : Bool). cond near 1 0 + (cond far 1 0 + 0)) (and-false (not (inLpcm (rowAt recordSize 0 table)))) (and-false (not (inLpcm (rowAt recordSize 1 table))))
 
 not-wrrr : Wrcfgb ≡ Wrrr → ⊥
 not-wrrr e = let z : _≡_ {A = ℕ} 0 1 = cc in omega arith
@@ -145,8 +147,8 @@ module _ (table : List ℕ) (room : ℕ) (s : sound table ≡ true) (two : monit
   ten-is-taken : answer table writeTen room ≡ Accepted 0 0
   ten-is-taken =
       struck-answer table s Wrcfgb (subst⁻¹ (λ (n : ℕ). StruckData (Writes Wrcfgb) n writeSent writeTen) two ten-struck) not-wrrr room
-      ∙ ap (λ (n : ℕ). Accepted (unhitOf n writeSent writeTen) 0) two
-      ∙ ap (λ (taken : ℕ). Accepted taken 0) both-hit
+      ∙ ap (λ (n : ℕ). Accepted (unhitAwake (Writes Wrcfgb) n table writeSent writeTen) 0) two
+      ∙ ap (λ (taken : ℕ). Accepted taken 0) (both-hit table)
 
   ours-here : Ours (Writes Wrcfgb) (monitors table) writeSent
   ours-here = subst⁻¹ (λ (n : ℕ). Ours (Writes Wrcfgb) n writeSent) two eleven-is-ours
@@ -157,29 +159,30 @@ module _ (table : List ℕ) (room : ℕ) (s : sound table ≡ true) (two : monit
   eleven-its : commandIn writeCame ≡ Writes Wrcfgb
   eleven-its = came-command table writeSent writeCame s ours-here refl refl
 
-  both-right : count payloadRight (payloadsIn writeCame 2) ≡ 2
-  unfolding payloadsIn writePayloads farthestFirst rows count payloadRight counterOf wordAt dataPec once step remainder bitsOf bitsOfBytes _⊕_ xor odd
+  both-right : count (sealedRight 6) (payloadsIn (Writes Wrcfgb) writeCame 2) ≡ 2
+  unfolding payloadsIn writePayloads farthestFirst rows count sealedRight wordAt dataPec once step remainder bitsOf bitsOfBytes _⊕_ xor odd
   both-right = refl
 
-  eleven-is-taken : answer table writeCame room ≡ Accepted 2 0
-  eleven-is-taken =
-      write-answer table writeCame room eleven-passes Wrcfgb not-wrrr eleven-its
-      ∙ ap (λ (n : ℕ). Accepted (count payloadRight (payloadsIn writeCame n)) 0) two
+  eleven-is-taken : Awake 2 table → answer table writeCame room ≡ Accepted 2 0
+  eleven-is-taken awake =
+      write-answer-awake table writeCame room eleven-passes Wrcfgb not-wrrr eleven-its (λ k h. awake k (omega (arith, two)))
+      ∙ ap (λ (n : ℕ). Accepted (count (sealedRight 6) (payloadsIn (Writes Wrcfgb) writeCame n)) 0) two
       ∙ ap (λ (taken : ℕ). Accepted taken 0) both-right
 
-  near-right : payloadRight (rowAt payloadSize 1 (drop headSize writeCame)) ≡ true
-  unfolding rowAt payloadRight counterOf wordAt dataPec once step remainder bitsOf bitsOfBytes _⊕_ xor odd
+  near-right : sealedRight 6 (rowAt payloadSize 1 (drop headSize writeCame)) ≡ true
+  unfolding rowAt sealedRight wordAt dataPec once step remainder bitsOf bitsOfBytes _⊕_ xor odd
   near-right = refl
 
-  eleven-is-stored : rowAt recordSize 0 (tableAfter table writeCame room) ≡ onBytes configurationB (λ i old. getD nearCame i 0) (counted (locked (rowAt recordSize 0 table)))
+  eleven-is-stored : inLpcm (rowAt recordSize 0 table) ≡ false
+      → rowAt recordSize 0 (tableAfter table writeCame room) ≡ onBytes configurationB (λ i old. getD nearCame i 0) (counted (locked (rowAt recordSize 0 table)))
   unfolding rowAt
-  eleven-is-stored =
+  eleven-is-stored awake =
       let r = rowAt recordSize 0 table in
-      let eight = rowAt payloadSize 1 (drop headSize writeCame) in
+      let own = rowAt payloadSize 1 (drop headSize writeCame) in
       kept-at table writeCame room eleven-passes eleven-its 0 (omega arith)
       ∙ ap (λ (n : ℕ). keeps (Writes Wrcfgb) (rowAt payloadSize (n - 1) (drop headSize writeCame)) r) two
-      ∙ stores-whole Wrcfgb refl refl refl eight r (right-good Wrcfgb eight near-right) (opens-always (rulesOf Wrcfgb) (byteOf unlocked r) refl)
-      (λ i h. are-bytes eight (unfold all in refl) i)
+      ∙ stores-whole Wrcfgb refl refl refl own r (accepts-awake Wrcfgb own r awake ∙ right-good Wrcfgb own near-right) (opens-always (rulesOf Wrcfgb) (byteOf unlocked r) refl)
+      (λ i h. are-bytes own (unfold all in refl) i)
 
   eleven-far-as-sent : rowAt recordSize 1 (tableAfter table writeCame room) ≡ rowAt recordSize 1 (tableAfter table writeSent room)
   unfolding rowAt
@@ -236,7 +239,7 @@ module _ (table : List ℕ) (room : ℕ) (s : sound table ≡ true) where
   sixteen-ends-it k h = kept-at table muteCame room sixteen-passes sixteen-its k h
 
 pub sharp : Sharp
-unfolding signed vov byteB bytesOf
+unfolding signed vov upper byteIn bytesOf
 sharp =
     record {
       ten = ten-struck;

@@ -17,21 +17,20 @@ use Rattle.laws.specs.Tables.{tabulate}
 use Rattle.laws.proofs.BitAt.{or-bits, and-bits, bit-or, bit-and}
 use Rattle.laws.proofs.Tables.{rebuilt}
 use Rattle.records.specs.declared.commands.Bare.{Bare}
-use Rattle.records.specs.declared.commands.Bare.the-variants.{Mute, Unmute, Rstcc, Ulrr, Clrcell, Snap, Unsnap}
+use Rattle.records.specs.declared.commands.Bare.the-variants.{Mute, Unmute, Rstcc, Ulrr, Clrcell, Snap, Unsnap, Cmen, Cmdis}
 use Rattle.records.specs.declared.commands.Command.{Command}
 use Rattle.records.specs.declared.commands.Command.the-variants.{Reads, Writes, Bares, Unlisted}
 use Rattle.records.specs.declared.commands.Write.{Write}
-use Rattle.records.specs.declared.commands.Write.the-variants.{Wrcfga, Wrcfgb, Wrrr, Clrflag, Clovuv, Wrpwma, Wrpwmb}
+use Rattle.records.specs.declared.commands.Write.the-variants.{Wrcfga, Wrcfgb, Wrrr, Clrflag, Clovuv, Wrpwma, Wrpwmb, Wrcmcfg, Wrcmcellt, Wrcmgpiot, Clrcmflag}
 use Rattle.records.specs.declared.record.Part.{Part}
-use Rattle.records.specs.Record.{cells, flags, snapshot, statusBits, configurationA, counter, unlocked, recordSize, snapped, bytesOf, byteOf, onBytes}
+use Rattle.records.specs.Record.{cells, flags, snapshot, statusBits, configurationA, counter, unlocked, recordSize, snapped, inLpcm, bytesOf, byteOf, onBytes}
 use Rattle.records.specs.Commands.{rdcva, rdcvb, rdcvc, rdcvd, rdcve, rdcvf}
 use Rattle.records.proofs.Anew.{length-anew, anew-inside}
 use Rattle.records.proofs.Parts.{part-of-part, made-of, length-part, outside-anew}
-use Rattle.records.proofs.Snapped.{snapped-elsewhere}
-use Rattle.writes.specs.Writes.{rulesOf, changed, byRules, opens, written}
-use Rattle.monitor.specs.Effects.{locked, counted, copied, done, goodFor, keeps}
+use Rattle.records.proofs.Modes.{snapped-elsewhere}
+use Rattle.writes.specs.Writes.{rulesOf, changed, byRules}
+use Rattle.monitor.specs.Effects.{locked, counted, cellsTo, copied, enabled, done, keeps}
 use Rattle.monitor.specs.Spares.{Apart}
-use Rattle.monitor.proofs.Sound.{length-locked, length-counted}
 use Rattle.monitor.proofs.Spares.{counted-spares}
 use Rattle.cells.specs.Cells.{store, compare}
 use Rattle.reads.specs.Shown.{cellReads, ofCells, copyOf, shownPart, shownCells}
@@ -39,6 +38,7 @@ use Rattle.reads.specs.Reply.{sixBytes, sixIn, register}
 use Rattle.reads.proofs.Parts.{of-cells, shows-copy, shows-live, shows-other}
 use Rattle.story.specs.Snapshots.{snappedBy, snappedAfter}
 use Rattle.story.proofs.AsBefore.{copy-by}
+use Rattle.story.proofs.Modes.{counted-whole, either-mode, mode-after-write}
 
 -- a part made anew leaves another that has no byte of it
 outside : (p q : Part) (f : ℕ → ℕ → ℕ) (r : List ℕ) → Apart p q → bytesOf p (onBytes q f r) ≡ bytesOf p r
@@ -64,7 +64,7 @@ and-true false = refl
 left-by-or : (k a b : ℕ) → bitAt k b ≡ false → bitAt k (bitOr a b) ≡ bitAt k a
 left-by-or k a b e = or-bits k a b ∙ ap (λ (t : Bool). bitAt k a || t) e ∙ or-false (bitAt k a)
 
-left-by-and : (k a b : ℕ) → bitAt k b ≡ true → bitAt k (bitAnd a b) ≡ bitAt k a
+pub left-by-and : (k a b : ℕ) → bitAt k b ≡ true → bitAt k (bitAnd a b) ≡ bitAt k a
 left-by-and k a b e = and-bits k a b ∙ ap (λ (t : Bool). bitAt k a && t) e ∙ and-true (bitAt k a)
 
 -- WRCFGA keeps it: its byte stores none of bit 5, and keeps it as it was
@@ -77,7 +77,7 @@ by-wrcfga sent old =
     ∙ or-bits 5 (bitAnd s 0x0F) (bitAnd old 0x30)
     ∙ ap₂ _||_ (bit-and 5 s 0x0F refl) (left-by-and 5 old 0x30 refl)
 
-by-rules : (c : Write) (sent r : List ℕ) → length r ≡ recordSize → snapped (byRules (rulesOf c) sent r) ≡ snapped r
+by-rules : (c : Write) (sent r : List ℕ) → length r ≡ recordSize → snapped (byRules c sent r) ≡ snapped r
 unfolding byRules snapped byteOf
 by-rules Wrcfga sent r whole = ap (bitAt 5) (anew-inside (changed (rulesOf Wrcfga) sent) (configurationA .at) 6 r 5 (lit< tt) (omega arith)) ∙ by-wrcfga sent _
 by-rules Wrcfgb sent r whole = snapped-elsewhere _ _ 6 r (inr (lit≤ tt))
@@ -86,19 +86,19 @@ by-rules Clrflag sent r whole = snapped-elsewhere _ _ 6 r (inr (lit≤ tt))
 by-rules Clovuv sent r whole = snapped-elsewhere _ _ 6 r (inr (lit≤ tt))
 by-rules Wrpwma sent r whole = snapped-elsewhere _ _ 6 r (inr (lit≤ tt))
 by-rules Wrpwmb sent r whole = snapped-elsewhere _ _ 6 r (inr (lit≤ tt))
-
-either : (b : Bool) (xs ys : List ℕ) {on : Bool} → snapped xs ≡ on → snapped ys ≡ on → snapped (cond b xs ys) ≡ on
-either true xs ys h k = h
-either false xs ys h k = k
+by-rules Wrcmcfg sent r whole = snapped-elsewhere _ _ 6 r (inr (lit≤ tt))
+by-rules Wrcmcellt sent r whole = snapped-elsewhere _ _ 6 r (inr (lit≤ tt))
+by-rules Wrcmgpiot sent r whole = snapped-elsewhere _ _ 6 r (inr (lit≤ tt))
+by-rules Clrcmflag sent r whole = snapped-elsewhere _ _ 2 r (inr (lit≤ tt))
 
 copied-on : (r : List ℕ) → length r ≡ recordSize → snapped (copied r) ≡ true
-unfolding copied onBytes bitAt odd
+unfolding copied cellsTo onBytes bitAt odd
 copied-on r whole =
     let made = onBytes snapshot (λ i old. getD (bytesOf cells r) i 0) r in
     status-anew (λ i old. bitOr old 0x20) made (length-anew _ _ _ r ∙ whole) ∙ bit-or 5 (byteOf statusBits made) 0x20 refl
 
 copied-copy : (r : List ℕ) → length r ≡ recordSize → bytesOf snapshot (copied r) ≡ bytesOf cells r
-unfolding copied
+unfolding copied cellsTo
 copied-copy r whole =
     outside-status (onBytes snapshot (λ i old. getD (bytesOf cells r) i 0) r)
     ∙ made-of snapshot (bytesOf cells r) r (length-part cells r (omega arith)) (omega arith)
@@ -107,7 +107,7 @@ copied-copy r whole =
     outside-status t = outside snapshot statusBits (λ i old. bitOr old 0x20) t (inl (lit≤ tt))
 
 by-done : (c : Bare) (r : List ℕ) → length r ≡ recordSize → snapped (done c r) ≡ snappedBy c (snapped r)
-unfolding done onBytes bitAt odd snapped
+unfolding done enabled cellsTo onBytes bitAt odd snapped
 by-done Mute r whole = status-anew (λ i old. bitOr old 0x10) r whole ∙ left-by-or 5 (byteOf statusBits r) 0x10 refl
 by-done Unmute r whole = status-anew (λ i old. bitAnd old 0xEF) r whole ∙ left-by-and 5 (byteOf statusBits r) 0xEF refl
 by-done Rstcc r whole = snapped-elsewhere _ _ _ r (inr (lit≤ tt))
@@ -118,6 +118,8 @@ by-done Snap r whole = where-on (snapped r) refl
     where-on : (on : Bool) → snapped r ≡ on → snapped (cond on r (copied r)) ≡ true
     where-on true e = e
     where-on false e = copied-on r whole
+by-done Cmen r whole = either-mode snapped (inLpcm r) r (enabled r) refl (snapped-elsewhere _ _ _ _ (inr (lit≤ tt)) ∙ snapped-elsewhere _ _ _ r (inr (lit≤ tt)))
+by-done Cmdis r whole = snapped-elsewhere _ _ _ r (inr (lit≤ tt))
 by-done Unsnap r whole = status-anew (λ i old. bitAnd old 0xDF) r whole ∙ bit-and 5 (byteOf statusBits r) 0xDF refl
 
 module _ (r : List ℕ) where
@@ -131,55 +133,51 @@ module _ (r : List ℕ) where
 
 -- ---- SNAP, by whether SNAP_ST was set
 
-module _ (eight r : List ℕ) where
-  by-snap : {on : Bool} → snapped r ≡ on → keeps (Bares Snap) eight r ≡ cond on (counted (locked r)) (copied (counted (locked r)))
+module _ (own r : List ℕ) where
+  by-snap : {on : Bool} → snapped r ≡ on → keeps (Bares Snap) own r ≡ cond on (counted (locked r)) (copied (counted (locked r)))
   unfolding keeps done
   by-snap e = ap (λ (on : Bool). cond on (counted (locked r)) (copied (counted (locked r)))) (by-counted r ∙ e)
 
-  pub snap-again : snapped r ≡ true → keeps (Bares Snap) eight r ≡ counted (locked r)
+  pub snap-again : snapped r ≡ true → keeps (Bares Snap) own r ≡ counted (locked r)
   snap-again e = by-snap e
 
   pub snap-takes : snapped r ≡ false
-      → keeps (Bares Snap) eight r ≡ onBytes statusBits (λ i old. bitOr old 0x20) (onBytes snapshot (λ i old. getD (bytesOf cells r) i 0) (counted (locked r)))
-  unfolding copied
+      → keeps (Bares Snap) own r ≡ onBytes statusBits (λ i old. bitOr old 0x20) (onBytes snapshot (λ i old. getD (bytesOf cells r) i 0) (counted (locked r)))
+  unfolding copied cellsTo
   snap-takes e =
       by-snap e
       ∙ ap (λ (bytes : List ℕ). onBytes statusBits (λ i old. bitOr old 0x20) (onBytes snapshot (λ i old. getD bytes i 0) (counted (locked r))))
       (counted-spares cells r (inr (lit≤ tt)) (inr (lit≤ tt)))
 
-module _ (eight r : List ℕ) (whole : length r ≡ recordSize) where
+module _ (own r : List ℕ) (whole : length r ≡ recordSize) where
   base-whole : length (counted (locked r)) ≡ recordSize
-  base-whole = length-counted (locked r) ∙ length-locked r ∙ whole
+  base-whole = counted-whole r whole
 
-  pub snap-st : (c : Command) → snapped (keeps c eight r) ≡ snappedAfter c (snapped r)
-  unfolding keeps written
+  pub snap-st : (c : Command) → snapped (keeps c own r) ≡ snappedAfter c (snapped r)
+  unfolding keeps
   snap-st (Reads p) = by-locked r
-  snap-st (Writes c) =
-      either (goodFor c eight) _ (locked r)
-      (either (opens (rulesOf c) (byteOf unlocked r)) (byRules (rulesOf c) eight (counted (locked r))) (counted (locked r))
-      (by-rules c eight (counted (locked r)) base-whole ∙ by-counted r) (by-counted r))
-      (by-locked r)
+  snap-st (Writes c) = mode-after-write snapped by-locked by-counted by-rules c own r whole
   snap-st (Bares c) = by-done c (counted (locked r)) base-whole ∙ ap (snappedBy c) (by-counted r)
   snap-st Unlisted = refl
 
   -- ---- the copy
 
   -- SNAP leaves in it what the cell reads showed
-  pub snap-copies : bytesOf snapshot (keeps (Bares Snap) eight r) ≡ shownCells r
+  pub snap-copies : bytesOf snapshot (keeps (Bares Snap) own r) ≡ shownCells r
   unfolding shownCells
-  snap-copies = ap (bytesOf snapshot) (by-snap eight r refl) ∙ where-on (snapped r)
+  snap-copies = ap (bytesOf snapshot) (by-snap own r refl) ∙ where-on (snapped r)
     where
       where-on : (on : Bool) → bytesOf snapshot (cond on (counted (locked r)) (copied (counted (locked r)))) ≡ cond on (bytesOf snapshot r) (bytesOf cells r)
       where-on true = counted-spares snapshot r (inl (lit≤ tt)) (inl (lit≤ tt))
       where-on false = copied-copy (counted (locked r)) base-whole ∙ counted-spares cells r (inr (lit≤ tt)) (inr (lit≤ tt))
 
   -- while a snapshot is on no command changes it
-  pub copy-kept : snapped r ≡ true → (c : Command) → bytesOf snapshot (keeps c eight r) ≡ bytesOf snapshot r
+  pub copy-kept : snapped r ≡ true → (c : Command) → bytesOf snapshot (keeps c own r) ≡ bytesOf snapshot r
   unfolding shownCells
   copy-kept on c =
-      copy-by c eight r
+      copy-by c own r
       (λ e.
-      subst⁻¹ (λ (x : Command). bytesOf snapshot (keeps x eight r) ≡ bytesOf snapshot r) e
+      subst⁻¹ (λ (x : Command). bytesOf snapshot (keeps x own r) ≡ bytesOf snapshot r) e
       (snap-copies ∙ ap (λ (b : Bool). cond b (bytesOf snapshot r) (bytesOf cells r)) on))
 
 -- ---- a store and a compare
@@ -257,15 +255,15 @@ shows-as-it-lies p r other = ap (λ (q : Part). sixBytes q r) (shows-other p r o
 
 -- ---- a SNAP where SNAP_ST was set: every register is shown as it was
 
-module _ (eight r : List ℕ) where
+module _ (own r : List ℕ) where
   same-cells : shownCells (counted (locked r)) ≡ shownCells r
   unfolding shownCells
   same-cells j =
       cond (by-counted r j) (counted-spares snapshot r (inl (lit≤ tt)) (inl (lit≤ tt)) j) (counted-spares cells r (inr (lit≤ tt)) (inr (lit≤ tt)) j)
 
-  pub snap-again-shows : snapped r ≡ true → (p : Part) → Apart p unlocked → Apart p counter → register p (keeps (Bares Snap) eight r) ≡ register p r
+  pub snap-again-shows : snapped r ≡ true → (p : Part) → Apart p unlocked → Apart p counter → register p (keeps (Bares Snap) own r) ≡ register p r
   unfolding sixBytes
-  snap-again-shows on p h k = ap (register p) (snap-again eight r on) ∙ where-cells (ofCells p) refl
+  snap-again-shows on p h k = ap (register p) (snap-again own r on) ∙ where-cells (ofCells p) refl
     where
       where-cells : (its : Bool) → ofCells p ≡ its → register p (counted (locked r)) ≡ register p r
       where-cells true e = shows-its-part p (counted (locked r)) e ∙ ap (sixIn p) same-cells ∙ sym (shows-its-part p r e)

@@ -4,11 +4,13 @@
 -- hands back; and a summary refuses in its order, and leaves its buffer where it does.
 -- Assumes nothing.
 use mathlib.Core.Path.{_≡_, refl}
+use mathlib.Core.Bool.{Bool, not}
 use mathlib.Core.List.{List, [], _∷_, _++_}
 use Prim.Native.Nat.{ℕ, _<_}
 use denote.Ref.{now}
 use lib.Ieee.{Float}
 use lib.IntN.{ℤ}
+use lib.Dec.{eqb}
 use lib.ListN.{length, getD}
 use Rattle.refusals.specs.declared.Refusal.{Refusal}
 use Rattle.loads.specs.declared.loads.Loaded.{Loaded}
@@ -24,6 +26,7 @@ use Rattle.clocking.specs.Bytes.{clockOf, stateAfter}
 use Rattle.ports.specs.declared.checks.Checked.{Checked}
 use Rattle.host.specs.Frames.{buildRefusals, built, bufferAfter}
 use Rattle.ports.specs.Check.{checkRefusals, checked}
+use Rattle.messages.specs.Verdicts.{verdictRefusals, verdict}
 use Rattle.ports.specs.Ports.{portRefusals, portOf}
 use Rattle.ports.specs.Parts.{bytesOf}
 use Rattle.readings.specs.declared.pack_summary.Pack.the-variants.{Nothing}
@@ -31,14 +34,14 @@ use Rattle.readings.specs.Readings.{microvolts, readingOf, summaryOf}
 use Rattle.story.specs.Numbers.{firstNumber, summaryRefusals}
 use Rattle.story.proofs.OneOutcome.{Settles, leaves, settles}
 use Rattle.story.proofs.Demand1.{Promised}
-use Rattle.oskorbine.specs.Packed.{packed, apart, refused, accepted, frameParts, loadParts, dischargedParts, builtParts, checkedParts, portParts, pointed, lookedParts}
+use Rattle.oskorbine.specs.Packed.{packed, apart, refused, accepted, frameParts, loadParts, dischargedParts, builtParts, checkedParts, portParts, verdictParts, pointed, lookedParts}
 use Rattle.oskorbine.specs.Events.{eventsIn}
 use Rattle.oskorbine.specs.Volts.{voltsOrNan, roomRow, summaryParts, summaryOut}
 use Rattle.oskorbine.proofs.Packed.{apart-packed}
-use Rattle.oskorbine.proofs.Fits.{frame-fits, release-fits, load-fits, discharge-fits, built-fits, checked-fits, port-fits, look-fits, byte-fits, summary-fits}
+use Rattle.oskorbine.proofs.Fits.{frame-fits, release-fits, load-fits, discharge-fits, built-fits, checked-fits, verdict-fits, port-fits, look-fits, byte-fits, summary-fits}
 use Rattle.oskorbine.proofs.Pointed.{pointed-bytes}
 use Rattle.story.proofs.Numbers.{store-number, compare-number, load-number}
-use Rattle.story.proofs.SurfaceNumbers.{frame-number, discharge-number, release-number, look-number, built-number, checked-number, port-number, summary-number, summary-stays, nothing-stays}
+use Rattle.story.proofs.SurfaceNumbers.{frame-number, discharge-number, release-number, look-number, built-number, checked-number, verdict-number, port-number, summary-number, summary-stays, nothing-stays}
 use Rattle.oskorbine.proofs as oskorbine
 
 -- ---- every function
@@ -51,6 +54,7 @@ pub record Promises : Type 2 where
   discharge : Promised oskorbine.osk_discharge.Statement.statement oskorbine.osk_discharge.Reads.Asked
   host-frame : Promised oskorbine.osk_host_frame.Statement.statement oskorbine.osk_host_frame.Reads.Asked
   check : Promised oskorbine.osk_check.Statement.statement oskorbine.osk_check.Reads.Asked
+  verdict-on : Promised oskorbine.osk_verdict.Statement.statement oskorbine.osk_verdict.Reads.Asked
   two-ports : Promised oskorbine.osk_two_ports.Statement.statement oskorbine.osk_two_ports.Reads.Asked
   clock-start : Promised oskorbine.osk_clock_start.Statement.statement oskorbine.osk_clock_start.Reads.Asked
   clock-byte : Promised oskorbine.osk_clock_byte.Statement.statement oskorbine.osk_clock_byte.Reads.Asked
@@ -76,6 +80,7 @@ pub record Outcomes : Type 0 where
   host-frame : Settles oskorbine.osk_host_frame.Reads.Post (λ κ z e. leaves z (now (e .1 .1 .1 .0) ∷ []))
       (λ κ a. leaves (packed (builtParts (built (a .0) (a .1 .0) (now (a .1 .1 .0)) (length (now (a .1 .1 .1 .0)))))) (bufferAfter (a .0) (a .1 .0) (now (a .1 .1 .0)) (now (a .1 .1 .1 .0)) ∷ []))
   check : Settles oskorbine.osk_check.Reads.Post (λ κ z e. leaves z []) (λ κ a. leaves (packed (checkedParts (checked (now (a .0))))) [])
+  verdict-on : Settles oskorbine.osk_verdict.Reads.Post (λ κ z e. leaves z []) (λ κ a. leaves (packed (verdictParts (verdict (now (a .0)) (not (eqb (a .1 .0) 0))))) [])
   two-ports : Settles oskorbine.osk_two_ports.Reads.Post (λ κ z e. leaves z [])
       (λ κ a. leaves (packed (portParts (a .1 .1 .0) (a .1 .1 .1 .0) (portOf (now (a .0)) (now (a .1 .0)) (a .1 .1 .0) (a .1 .1 .1 .0)))) [])
   clock-start : Settles oskorbine.osk_clock_start.Reads.Post (λ κ z e. leaves z (now (e .0) ∷ [])) (λ κ a. leaves tt (idle ∷ []))
@@ -102,6 +107,7 @@ pub record Surface : Type 2 where
       → apart (packed (dischargedParts (discharged table position events phase room))) ≡ dischargedParts (discharged table position events phase room)
   host-frame-apart : (code n : ℕ) (values : List ℕ) (room : ℕ) → apart (packed (builtParts (built code n values room))) ≡ builtParts (built code n values room)
   check-apart : (c : Checked) → apart (packed (checkedParts c)) ≡ checkedParts c
+  verdict-apart : (bytes : List ℕ) (late : Bool) → ((k : ℕ) → getD bytes k 0 < 256) → apart (packed (verdictParts (verdict bytes late))) ≡ verdictParts (verdict bytes late)
   two-ports-apart : (a b : List ℕ) (n k : ℕ) → apart (packed (portParts n k (portOf a b n k))) ≡ portParts n k (portOf a b n k)
   byte-apart : (s : List ℕ) → ((k : ℕ) → getD s k 0 < 256) → apart (packed (accepted (answered (clockOf s)) 0)) ≡ accepted (answered (clockOf s)) 0
   window-apart : (s : List ℕ) (position room : ℕ) → apart (packed (lookedParts (looked (clockOf s) position room))) ≡ lookedParts (looked (clockOf s) position room)
@@ -116,6 +122,7 @@ pub record Surface : Type 2 where
       → dischargedParts (discharged table position events phase room) .number ≡ firstNumber (dischargeRefusals table position phase room)
   host-frame-number : (code n : ℕ) (values : List ℕ) (room : ℕ) → builtParts (built code n values room) .number ≡ firstNumber (buildRefusals code n values room)
   check-number : (payload : List ℕ) → checkedParts (checked payload) .number ≡ firstNumber (checkRefusals payload)
+  verdict-number : (bytes : List ℕ) (late : Bool) → verdictParts (verdict bytes late) .number ≡ firstNumber (verdictRefusals bytes late)
   two-ports-number : (a b : List ℕ) (n k : ℕ) → portParts n k (portOf a b n k) .number ≡ firstNumber (portRefusals a b n k)
   window-number : (c : Clock) (position room : ℕ) → lookedParts (looked c position room) .number ≡ firstNumber (lookRefusals c position room)
   release-number : (c : Clock) (table : List ℕ) → frameParts (released c table) .number ≡ firstNumber (releaseRefusals c table)
@@ -140,6 +147,7 @@ proved =
       discharge = (λ M. oskorbine.osk_discharge.Met.met, λ κ a. tt);
       host-frame = (λ M. oskorbine.osk_host_frame.Met.met, λ κ a. tt);
       check = (λ M. oskorbine.osk_check.Met.met, λ κ a. tt);
+      verdict-on = (λ M. oskorbine.osk_verdict.Met.met, λ κ a. tt);
       two-ports = (λ M. oskorbine.osk_two_ports.Met.met, λ κ a. tt);
       clock-start = (λ M. oskorbine.osk_clock_start.Met.met, λ κ a. tt);
       clock-byte = (λ M. oskorbine.osk_clock_byte.Met.met, λ κ a. tt);
@@ -160,6 +168,7 @@ settled =
       discharge = settles (λ κ a z e p i. leaves (p .0 i) (p .1 i ∷ []));
       host-frame = settles (λ κ a z e p i. leaves (p .0 i) (p .1 i ∷ []));
       check = settles (λ κ a z e p i. leaves (p i) []);
+      verdict-on = settles (λ κ a z e p i. leaves (p i) []);
       two-ports = settles (λ κ a z e p i. leaves (p i) []);
       clock-start = settles (λ κ a z e p i. leaves z (p i ∷ []));
       clock-byte = settles (λ κ a z e p i. leaves (p .0 i) (p .1 .1 i ∷ []));
@@ -180,6 +189,7 @@ surface =
       discharge-apart = λ table position events phase room. apart-packed _ (discharge-fits table position events phase room);
       host-frame-apart = λ code n values room. apart-packed _ (built-fits code n values room);
       check-apart = λ c. apart-packed _ (checked-fits c);
+      verdict-apart = λ bytes late small. apart-packed _ (verdict-fits bytes late small);
       two-ports-apart = λ a b n k. apart-packed _ (port-fits a b n k);
       byte-apart = λ s bytes. apart-packed _ (byte-fits s bytes);
       window-apart = λ s position room. apart-packed _ (look-fits s position room);
@@ -192,6 +202,7 @@ surface =
       discharge-number = discharge-number;
       host-frame-number = built-number;
       check-number = checked-number;
+      verdict-number = verdict-number;
       two-ports-number = port-number;
       window-number = look-number;
       release-number = release-number;

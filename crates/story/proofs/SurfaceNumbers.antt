@@ -2,7 +2,7 @@
 -- of refusals may be made of each outcome. A summary's own refusal comes before that of the room.
 -- Assumes nothing.
 use mathlib.Core.Path.{_≡_, refl, sym, ap, _∙_}
-use mathlib.Core.Bool.{Bool, true, false, cond}
+use mathlib.Core.Bool.{Bool, true, false, cond, not}
 use mathlib.Core.List.{List, [], _∷_, _++_}
 use Prim.Native.Nat.{ℕ}
 use native.Mathlib.Omega.{arith}
@@ -30,12 +30,15 @@ use Rattle.ports.specs.declared.checks.Checked.the-variants.{Unchecked, Right, 
 use Rattle.ports.specs.declared.ports.Port.the-variants.{Refused as Unported, A, B}
 use Rattle.host.specs.Frames.{buildRefusals, built}
 use Rattle.ports.specs.Check.{checkRefusals, checked}
+use Rattle.messages.specs.declared.verdicts.Verdict.the-variants.{Refused as Unjudged, Passed as Good, Failed, Damaged, TimedOut}
+use Rattle.messages.specs.Messages.{countIn, flagsIn, messageRight, isPass}
+use Rattle.messages.specs.Verdicts.{verdictRefusals, verdictOf, verdict}
 use Rattle.ports.specs.Ports.{partA, portRefusals, portOf}
 use Rattle.readings.specs.declared.pack_summary.Pack.{Pack}
 use Rattle.readings.specs.declared.pack_summary.Pack.the-variants.{Refused as Unsummed, Nothing, Whole}
 use Rattle.readings.specs.Readings.{measured, wholeOf, summaryOf}
 use Rattle.story.specs.Numbers.{firstNumber, summaryRefusals}
-use Rattle.oskorbine.specs.Packed.{Parts, refused, accepted, frameParts, dischargedParts, builtParts, checkedParts, portParts, lookedParts}
+use Rattle.oskorbine.specs.Packed.{Parts, refused, accepted, frameParts, dischargedParts, builtParts, checkedParts, portParts, verdictParts, lookedParts}
 use Rattle.oskorbine.specs.Volts.{summarySize, roomRow, summaryParts, summaryOut}
 
 pub frame-number : (table frame : List ℕ) (room : ℕ) → frameParts (answer table frame room) .number ≡ firstNumber (frameRefusals table frame room)
@@ -67,6 +70,18 @@ checked-number payload =
     none : (right : Bool) → checkedParts (cond right Right Wrong) .number ≡ 0
     none true = refl
     none false = refl
+
+pub verdict-number : (bytes : List ℕ) (late : Bool) → verdictParts (verdict bytes late) .number ≡ firstNumber (verdictRefusals bytes late)
+unfolding verdict verdictOf
+verdict-number bytes late =
+    decide-map (λ x. verdictParts x .number) (verdictRefusals bytes late) Unjudged _
+    ∙ ap (decide (verdictRefusals bytes late) numberOf) (none late (messageRight bytes) (isPass (countIn bytes) (flagsIn bytes)))
+  where
+    none : (l r p : Bool) → verdictParts (cond l TimedOut (cond (not r) Damaged (cond p Good (Failed (countIn bytes) (flagsIn bytes))))) .number ≡ 0
+    none true r p = refl
+    none false false p = refl
+    none false true true = refl
+    none false true false = refl
 
 pub port-number : (a b : List ℕ) (n k : ℕ) → portParts n k (portOf a b n k) .number ≡ firstNumber (portRefusals a b n k)
 unfolding portOf

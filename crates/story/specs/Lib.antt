@@ -3,3 +3,5 @@ pub mod Runs
 pub mod ReadsBack
 pub mod Snapshots
 pub mod Spikes
+pub mod Growth
+pub mod Lpcm

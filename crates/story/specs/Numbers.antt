@@ -1,4 +1,4 @@
--- Document 01, "Numbers that come back", for the discharge outputs, the host, a look and the summary: the paper's number and values for each case of an
+-- Document 01, "Numbers that come back", for the discharge outputs, the host, a verdict, a look and the summary: the paper's number and values for each case of an
 -- answer. A refusal returns its number only; where nothing is refused the number is 0. The chain's own are in `chain`. And what it
 -- is that a condition is the first to hold.
 -- Assumes nothing.
@@ -24,6 +24,8 @@ use Rattle.ports.specs.declared.checks.Checked.{Checked}
 use Rattle.ports.specs.declared.checks.Checked.the-variants.{Unchecked, Right, Wrong}
 use Rattle.ports.specs.declared.ports.Port.{Port}
 use Rattle.ports.specs.declared.ports.Port.the-variants.{Refused, A, B}
+use Rattle.messages.specs.declared.verdicts.Verdict.{Verdict}
+use Rattle.messages.specs.declared.verdicts.Verdict.the-variants.{Refused as Unjudged, Passed, Failed, Damaged, TimedOut}
 use Rattle.readings.specs.declared.pack_summary.Pack.{Pack}
 use Rattle.readings.specs.declared.pack_summary.Pack.the-variants.{Refused as Unsummed, Nothing, Whole}
 use Rattle.readings.specs.declared.pack_summary.Summary.{Summary}
@@ -55,6 +57,14 @@ abbrev pub portNumber : Port → ℕ
 portNumber (Refused r) = numberOf r
 portNumber A = 0
 portNumber B = 0
+
+-- the verdict on a heartbeat: which of the four, and where it failed the count and the flags
+abbrev pub verdictNumbers : Verdict → Numbered ℕ
+verdictNumbers (Unjudged r) = record { number = numberOf r; values = [] }
+verdictNumbers Passed = record { number = 0; values = 1 ∷ [] }
+verdictNumbers (Failed count flags) = record { number = 0; values = 2 ∷ count ∷ flags ∷ [] }
+verdictNumbers Damaged = record { number = 0; values = 3 ∷ [] }
+verdictNumbers TimedOut = record { number = 0; values = 4 ∷ [] }
 
 -- a look at a window: how many bytes it holds
 abbrev pub lookedNumbers : Looked → Numbered ℕ

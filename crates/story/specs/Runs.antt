@@ -2,23 +2,24 @@
 -- frames; by bytes clocked one at a time. The last two are put together from what the functions of the engines promise. Each gives
 -- the table afterwards and, event by event, what was seen.
 -- Assumes nothing.
-use mathlib.Core.Bool.{cond}
+use mathlib.Core.Bool.{Bool, not, _&&_, _||_}
 use mathlib.Core.List.{List, [], _∷_, map}
 use Prim.Native.Nat.{ℕ, _-_, _*_, _≤_}
 use lib.IntN.{ℤ}
 use lib.ListN.{length, take, drop}
 use Rattle.laws.specs.Counts.{count}
 use Rattle.laws.specs.Rows.{rows, joined, along}
-use Rattle.pec.specs.Words.{payloadRight}
+use Rattle.pec.specs.Words.{sealedRight}
 use Rattle.wire.specs.Order.{replyData}
 use Rattle.refusals.specs.Order.{Row, decide}
 use Rattle.records.specs.declared.commands.Command.{Command}
 use Rattle.records.specs.declared.commands.Command.the-variants.{Reads, Writes, Bares, Unlisted}
-use Rattle.records.specs.Record.{recordSize}
+use Rattle.records.specs.declared.commands.Write.{Write}
+use Rattle.records.specs.Record.{recordSize, inLpcm}
 use Rattle.writes.specs.Writes.{rulesOf}
 use Rattle.monitor.specs.Effects.{keeps}
 use Rattle.reads.specs.Reply.{reply}
-use Rattle.records.specs.Commands.{payloadSize, replyLength}
+use Rattle.records.specs.Commands.{dataSize, payloadSize, replyLength}
 use Rattle.chain.specs.declared.frames.Answer.{Answer}
 use Rattle.chain.specs.declared.frames.Answer.the-variants.{Refused, Accepted}
 use Rattle.judging.specs.Table.{monitors, changedAt}
@@ -81,13 +82,16 @@ ruleRefusals table frame =
     ∷ lengthRow (length frame) (commandIn frame) (monitors table)
     ∷ []
 
--- how many of n monitors took a frame: of a write that needs its check right those whose own eight bytes are right, of any other listed command
--- all
-unfoldable pub takers : Command → ℕ → List ℕ → ℕ
-takers (Writes c) n frame = cond (rulesOf c .«needs_check») (count payloadRight (payloadsIn frame n)) n
-takers (Reads part) n frame = n
-takers (Bares c) n frame = n
-takers Unlisted n frame = 0
+-- a monitor takes a write: it is not in LPCM, and its own bytes are right, or the write does not need its check right
+unfoldable pub takesWrite : Write → List ℕ → List ℕ → Bool
+takesWrite c r own = not (inLpcm r) && (not (rulesOf c .«needs_check») || sealedRight (dataSize c) own)
+
+-- how many of n monitors took a frame: of a write those that take it, each by its own record and its own bytes, of any other listed command all
+unfoldable pub takersOf : Command → ℕ → List ℕ → List ℕ → ℕ
+takersOf (Writes c) n table frame = count (λ took. took) (along (takesWrite c) (rows recordSize n table) (payloadsIn (Writes c) frame n))
+takersOf (Reads part) n table frame = n
+takersOf (Bares c) n table frame = n
+takersOf Unlisted n table frame = 0
 
 -- what n monitors reply, nearest first
 unfoldable pub replies : Command → ℕ → List ℕ → List ℕ
@@ -96,12 +100,12 @@ replies (Writes c) n table = []
 replies (Bares c) n table = []
 replies Unlisted n table = []
 
--- a frame that no refusal stops: each monitor keeps what the command makes of its own record and its own eight bytes
+-- a frame that no refusal stops: each monitor keeps what the command makes of its own record and its own bytes
 unfoldable pub obeyed : Command → ℕ → List ℕ → List ℕ → Step
 obeyed c n table frame =
     record {
-      table = joined (along (λ r eight. keeps c eight r) (rows recordSize n table) (payloadsIn frame n));
-      seen = Answered (Accepted (takers c n frame) (replyLength c n)) (replies c n table);
+      table = joined (along (λ r own. keeps c own r) (rows recordSize n table) (payloadsIn c frame n));
+      seen = Answered (Accepted (takersOf c n table frame) (replyLength c n)) (replies c n table);
     }
 
 -- a refusal gives its number and changes nothing

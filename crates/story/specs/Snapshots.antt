@@ -9,13 +9,12 @@ use Rattle.laws.specs.Rows.{rowAt, joined}
 use Rattle.pec.specs.Words.{commandRight}
 use Rattle.refusals.specs.Order.{Passed}
 use Rattle.records.specs.declared.commands.Bare.{Bare}
-use Rattle.records.specs.declared.commands.Bare.the-variants.{Mute, Unmute, Rstcc, Ulrr, Clrcell, Snap, Unsnap}
+use Rattle.records.specs.declared.commands.Bare.the-variants.{Mute, Unmute, Rstcc, Ulrr, Clrcell, Snap, Unsnap, Cmen, Cmdis}
 use Rattle.records.specs.declared.commands.Command.{Command}
 use Rattle.records.specs.declared.commands.Command.the-variants.{Reads, Writes, Bares, Unlisted}
 use Rattle.records.specs.declared.record.Part.{Part}
-use Rattle.records.specs.Commands.{rdcva, rdcvb, rdcvc, rdcvd, rdcve, rdcvf, payloadSize}
+use Rattle.records.specs.Commands.{rdcva, rdcvb, rdcvc, rdcvd, rdcve, rdcvf, registerSize, payloadSize}
 use Rattle.judging.specs.Refusals.{commandIn}
-use Rattle.host.specs.Frames.{dataSize}
 use Rattle.story.specs.Runs.{Event, Frame, Store, Compare, Seen, Answered, StoreAnswered, CompareAnswered, ruleRefusals}
 
 -- ---- SNAP_ST after a command
@@ -28,6 +27,8 @@ snappedBy Ulrr on = on
 snappedBy Clrcell on = on
 snappedBy Snap on = true
 snappedBy Unsnap on = false
+snappedBy Cmen on = on
+snappedBy Cmdis on = on
 
 abbrev pub snappedAfter : Command → Bool → Bool
 snappedAfter (Reads p) on = on
@@ -63,7 +64,7 @@ replyAt (suc i) (one ∷ later) = replyAt i later
 
 -- what the monitor at k shows in a reply: the first six of its eight bytes
 abbrev pub shownAt : ℕ → List ℕ → List ℕ
-shownAt k reply = take dataSize (rowAt payloadSize k reply)
+shownAt k reply = take registerSize (rowAt payloadSize k reply)
 
 -- and of a read that stands behind a first frame and other events, in what was seen of them all
 abbrev pub shownBehind : List Event → ℕ → List Seen → List ℕ

@@ -2,7 +2,7 @@
 -- spares. Monitors are counted from 0.
 -- Assumes nothing.
 use mathlib.Core.Path.{_≡_}
-use mathlib.Core.Bool.{Bool}
+use mathlib.Core.Bool.{Bool, not, _&&_}
 use mathlib.Core.List.{List}
 use Prim.Native.Nat.{ℕ, suc, _-_}
 use lib.ListN.{length, take, drop}
@@ -12,7 +12,8 @@ use Rattle.laws.specs.Tables.{tabulate}
 use Rattle.pec.specs.Spikes.{Spike}
 use Rattle.refusals.specs.Order.{Passed}
 use Rattle.records.specs.declared.commands.Command.{Command}
-use Rattle.records.specs.Commands.{commands, commandOf, payloadSize}
+use Rattle.records.specs.Record.{recordSize, inLpcm}
+use Rattle.records.specs.Commands.{commands, commandOf, widthOf}
 use Rattle.host.specs.Frames.{headSize, frameFor, buildRefusals}
 
 -- ---- what was sent, and what came
@@ -46,14 +47,18 @@ pub record StruckCommand (c : Command) (n : ℕ) (sent came : List ℕ) : Type 0
 
 -- ---- which monitors it hits, and which not
 
--- the own eight bytes of the monitor at k, in a frame for n monitors: the k-th from the end
-unfoldable pub ownEight : ℕ → List ℕ → ℕ → List ℕ
-ownEight n frame k = rowAt payloadSize (n - suc k) (drop headSize frame)
+-- the own bytes of the monitor at k, in a frame of a command for n monitors: the k-th from the end
+unfoldable pub ownIn : Command → ℕ → List ℕ → ℕ → List ℕ
+ownIn c n frame k = rowAt (widthOf c) (n - suc k) (drop headSize frame)
 
 -- they came as they were sent; a monitor of which this is not so was hit
-unfoldable pub unhit : ℕ → List ℕ → List ℕ → ℕ → Bool
-unhit n sent came k = same (ownEight n came k) (ownEight n sent k)
+unfoldable pub unhit : Command → ℕ → List ℕ → List ℕ → ℕ → Bool
+unhit c n sent came k = same (ownIn c n came k) (ownIn c n sent k)
 
 -- how many of the n monitors were not hit
-unfoldable pub unhitOf : ℕ → List ℕ → List ℕ → ℕ
-unhitOf n sent came = count (unhit n sent came) (tabulate (λ k. k) 0 n)
+unfoldable pub unhitOf : Command → ℕ → List ℕ → List ℕ → ℕ
+unhitOf c n sent came = count (unhit c n sent came) (tabulate (λ k. k) 0 n)
+
+-- and how many of those are not in LPCM
+unfoldable pub unhitAwake : Command → ℕ → List ℕ → List ℕ → List ℕ → ℕ
+unhitAwake c n table sent came = count (λ k. not (inLpcm (rowAt recordSize k table)) && unhit c n sent came k) (tabulate (λ k. k) 0 n)

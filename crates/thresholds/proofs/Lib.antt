@@ -1,2 +1,1 @@
-pub mod ConfigurationB
 pub mod TwosComplement

@@ -1,13 +1,13 @@
--- Document 01, "Readings and thresholds", and WRCFGB's sentence: the two thresholds of a record. A count of codes and a
--- count of threshold steps each have their own kind: the code's two structs.
+-- Document 01, "Readings and thresholds", and WRCFGB's sentence: the two thresholds of a record; those of LPCM (document 02, L8) lie alike in another
+-- part. A count of codes and a count of threshold steps each have their own kind: the code's two structs.
 -- Assumes nothing.
 use mathlib.Core.Bool.{cond}
 use mathlib.Core.List.{List}
 use Prim.Native.Nat.{ℕ, suc, _+_, _-_, _*_, _/_, _%_, _^_}
 use lib.Dec.{ltb}
 use lib.IntN.{ℤ, pos, negsuc, _*ℤ_}
-use lib.ListN.{getD}
-use Rattle.records.specs.Record.{configurationB, bytesOf}
+use Rattle.records.specs.declared.record.Part.{Part}
+use Rattle.records.specs.Record.{configurationB, byteIn}
 use Rattle.thresholds.specs.declared.thresholds.ResultCode.{ResultCode}
 use Rattle.thresholds.specs.declared.thresholds.ThresholdStep.{ThresholdStep}
 
@@ -15,17 +15,20 @@ use Rattle.thresholds.specs.declared.thresholds.ThresholdStep.{Threshold
 unfoldable pub signed : ℕ → ℕ → ℤ
 signed k n = cond (ltb n (2 ^ (k - 1))) (pos n) (negsuc (2 ^ k - suc n))
 
--- byte i of configuration B
-unfoldable pub byteB : List ℕ → ℕ → ℕ
-byteB r i = getD (bytesOf configurationB r) i 0
+-- the lower threshold of a part that begins with two: byte 0 with the low half of byte 1 above it
+unfoldable pub lower : Part → List ℕ → ThresholdStep
+lower p r = record { 0 = signed 12 (byteIn p r 0 + byteIn p r 1 % 16 * 256) }
 
--- VUV: byte 0 with the low half of byte 1 above it
+-- and the upper one: the high half of byte 1 with byte 2 above it
+unfoldable pub upper : Part → List ℕ → ThresholdStep
+upper p r = record { 0 = signed 12 (byteIn p r 1 / 16 + byteIn p r 2 * 16) }
+
+-- VUV and VOV are those of configuration B
 unfoldable pub vuv : List ℕ → ThresholdStep
-vuv r = record { 0 = signed 12 (byteB r 0 + byteB r 1 % 16 * 256) }
+vuv r = lower configurationB r
 
--- VOV: the high half of byte 1 with byte 2 above it
 unfoldable pub vov : List ℕ → ThresholdStep
-vov r = record { 0 = signed 12 (byteB r 1 / 16 + byteB r 2 * 16) }
+vov r = upper configurationB r
 
 -- a threshold counts steps of 16 codes
 unfoldable pub codesOf : ThresholdStep → ResultCode

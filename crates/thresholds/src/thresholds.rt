@@ -1,9 +1,10 @@
 // The two thresholds of a record, and the two kinds of count.
 ghost use mathlib.Core.Path.{_≡_};
 ghost use Prim.Native.Nat.{_<_};
-ghost use Rattle.thresholds.specs.Thresholds.{signed, vuv, vov, codesOf};
-use records::CONFIGURATION_B;
-use records::byte_at;
+ghost use Rattle.thresholds.specs.Thresholds.{signed, lower, upper, vuv, vov, codesOf};
+use records::Part;
+use records::RDCFGB;
+use records::byte_in;
 
 // A count of codes of 150 microvolts.
 pub struct ResultCode(pub i32);
@@ -30,20 +31,34 @@ fn signed12(n: u16) -> i16
     }
 }
 
-// VUV, the lower threshold.
-pub fn under_threshold(rec: &[u8]) -> ThresholdStep
-    ensures { λ r. ⌜ r ≡ vuv (now (rec .entry)) ⌝ }
+// The lower threshold of a part that begins with two.
+pub fn lower_threshold(rec: &[u8], part: Part) -> ThresholdStep
+    ensures { λ r. ⌜ r ≡ lower part (now (rec .entry)) ⌝ }
 {
-    let low = byte_at(rec, CONFIGURATION_B) as u16;
-    let high = byte_at(rec, CONFIGURATION_B + 1) as u16;
+    let low = byte_in(rec, part, 0) as u16;
+    let high = byte_in(rec, part, 1) as u16;
     ThresholdStep(signed12(low + high % 16 * 256))
 }
 
-// VOV, the upper threshold.
+// The upper threshold of a part that begins with two.
+pub fn upper_threshold(rec: &[u8], part: Part) -> ThresholdStep
+    ensures { λ r. ⌜ r ≡ upper part (now (rec .entry)) ⌝ }
+{
+    let low = byte_in(rec, part, 1) as u16;
+    let high = byte_in(rec, part, 2) as u16;
+    ThresholdStep(signed12(low / 16 + high * 16))
+}
+
+// VUV.
+pub fn under_threshold(rec: &[u8]) -> ThresholdStep
+    ensures { λ r. ⌜ r ≡ vuv (now (rec .entry)) ⌝ }
+{
+    lower_threshold(rec, RDCFGB)
+}
+
+// VOV.
 pub fn over_threshold(rec: &[u8]) -> ThresholdStep
     ensures { λ r. ⌜ r ≡ vov (now (rec .entry)) ⌝ }
 {
-    let low = byte_at(rec, CONFIGURATION_B + 1) as u16;
-    let high = byte_at(rec, CONFIGURATION_B + 2) as u16;
-    ThresholdStep(signed12(low / 16 + high * 16))
+    upper_threshold(rec, RDCFGB)
 }

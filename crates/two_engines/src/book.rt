@@ -25,7 +25,7 @@ pub(crate) const OFFERED: usize = 13;
 // How often each command was accepted.
 pub(crate) const COMMANDS: usize = 14;
 
-pub(crate) const COMMAND_COUNT: usize = 28;
+pub(crate) const COMMAND_COUNT: usize = 38;
 
 // How many frames came to each number by hand, 0 to 6.
 pub(crate) const NUMBERS_BY_HAND: usize = COMMANDS + COMMAND_COUNT;
@@ -56,7 +56,7 @@ pub(crate) fn count(mut w: World, place: usize, more: usize) -> World {
 
 // One more that came to a number, from the place of 0 on. The last place has all the greater numbers.
 pub(crate) fn numbered(w: World, from: usize, last: usize, number: u8) -> World
-    requires { ⌜ from + last < 74 ⌝ }
+    requires { ⌜ from + last < 84 ⌝ }
 {
     let more = number as usize;
     if more < last {

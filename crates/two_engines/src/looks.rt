@@ -42,7 +42,7 @@ pub(crate) fn now_and_then(mut w: World, n: usize) -> World
         return w;
     }
     let position = draw(w.luck, n + 2);
-    let room = draw(position.luck, 8);
+    let room = draw(position.luck, 11);
     w.luck = room.luck;
-    looked(w, position.number, 5 + room.number)
+    looked(w, position.number, 2 + room.number)
 }

@@ -28,7 +28,7 @@ use crate::world::World;
 use clock_state::STATE_SIZE;
 
 // The frames for each N.
-const TURNS: usize = 800;
+const TURNS: usize = 1200;
 
 // A frame at the start of an array, now and then by hand, and through both engines.
 fn sent(w: World, n: usize, command: usize, bytes: [u8; LONGEST], length: usize) -> World

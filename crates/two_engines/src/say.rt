@@ -33,7 +33,7 @@ pub(crate) fn counts(book: Book) {
         b"N = #: frames #, accepted: reads #, writes #, bare #, in all #\n\
         \x20 refused 1: #, 2: #, 3: #, 4: #, 5: #, 6: #\n\
         \x20 writes taken by # of # monitors\n\
-        \x20 accepted of each command: # # # # # # # # # # # # # # # # # # # # # # # # # # # #\n\
+        \x20 accepted of each command: # # # # # # # # # # # # # # # # # # # # # # # # # # # # # # # # # # # # # #\n\
         \x20 by hand: accepted #, refused 1: #, 2: #, 3: #, 4: #, 5: #, 6: #; looks #, refused #\n\
         \x20 stores #, refused #; compares #, refused #; loads #, refused #\n\
         \x20 questions #, refused #; outputs off by row 1: #, 2: #, 3: #, 4: #, 5: #, 6: #, 7: #, on by row 1: #, 2: #, 3: #, 4: #, 5: #, 6: #, 7: #\n\

@@ -17,8 +17,10 @@ use crate::outcomes::TABLE;
 use crate::world::World;
 use records::RECORD_SIZE;
 
-// Where the first record has its counter, and its lock after it.
+// Where the first record has its counter, and its lock after it; and how far behind that CMF0 is, and CMF1 after it.
 const COUNTER: usize = TABLE + records::COUNTER;
+
+const TO_CMF0: usize = records::LPCM_FLAGS - records::COUNTER;
 
 // Codes to store or load: sixteen that follow one another are taken. One near the end is the cleared code, which neither takes.
 const CODES: [i16; 32] = [
@@ -63,7 +65,19 @@ const COMPARE: usize = 1;
 
 const KINDS: usize = 3;
 
-// Every counter and every lock anew: so counters come to their end, and retentions are found unlocked. What luck is left is answered.
+// CMF1 of a number below 512: so one monitor of four is in LPCM, and every other bit is as likely as not.
+fn flags_of(drawn: usize) -> u8
+    requires { ⌜ drawn < 512 ⌝ }
+{
+    if drawn < 256 {
+        (drawn % 128) as u8
+    } else {
+        (drawn % 256) as u8
+    }
+}
+
+// Every counter, every lock, and CMF0 and CMF1 anew: so counters come to their end, retentions are found unlocked, there are flags to clear, and
+// some monitors are in LPCM. What luck is left is answered.
 fn stir(table: &mut [u8], luck: usize) -> usize
     requires { ⌜ length (now table) ≡ 32 * recordSize + 277 ⌝ }
 {
@@ -72,9 +86,13 @@ fn stir(table: &mut [u8], luck: usize) -> usize
     while at < REPLY {
         let counter = draw(last, 64);
         let lock = draw(counter.luck, 2);
+        let violations = draw(lock.luck, 256);
+        let flags = draw(violations.luck, 512);
         table[at] = counter.number as u8;
         table[at + 1] = lock.number as u8;
-        last = lock.luck;
+        table[at + TO_CMF0] = violations.number as u8;
+        table[at + TO_CMF0 + 1] = flags_of(flags.number);
+        last = flags.luck;
         at += RECORD_SIZE;
     }
     last

@@ -26,13 +26,19 @@ fn report(file: &[u8]) {
         say::text(b"file: ends early\n");
         return;
     }
-    let p = payloads::all(file, s.at);
-    payloads::summary(p);
+    let p = payloads::all(file, 6, s.at);
+    payloads::summary(b"payloads: ", p);
     if p.short {
         say::text(b"file: ends early\n");
         return;
     }
-    let end = p.at;
+    let q = payloads::all(file, 2, p.at);
+    payloads::summary(b"pairs: ", q);
+    if q.short {
+        say::text(b"file: ends early\n");
+        return;
+    }
+    let end = q.at;
     let left = file::left(file, end);
     if left < 8 {
         say::text(b"file: ends early\n");

@@ -1,4 +1,4 @@
--- A write that stores all six bytes as they are sent: by its rules every bit is stored, none kept and none made 1, so a byte becomes as sent.
+-- A write that stores six bytes as they are sent: by its rules every bit is stored, none kept and none made 1, so a byte becomes as sent.
 -- Assumes nothing.
 use mathlib.Core.Path.{_≡_, refl, sym, ap, ap₂, _∙_}
 use mathlib.Core.Bool.{Bool, true, false≢true}
@@ -8,9 +8,10 @@ use native.Mathlib.Omega.{arith}
 use lib.Bits.{bitAnd, bitOr, and-zero-l, and-zero-r, or-zero-r, and-mask}
 use lib.ListN.{getD}
 use Rattle.records.specs.declared.commands.Write.{Write}
-use Rattle.records.specs.declared.commands.Write.the-variants.{Wrcfga, Wrcfgb, Wrrr, Clrflag, Clovuv, Wrpwma, Wrpwmb}
+use Rattle.records.specs.declared.commands.Write.the-variants.{Wrcfga, Wrcfgb, Wrrr, Clrflag, Clovuv, Wrpwma, Wrpwmb, Wrcmcfg, Wrcmcellt, Wrcmgpiot, Clrcmflag}
 use Rattle.writes.specs.declared.writes.Rules.{Rules}
 use Rattle.records.specs.Record.{anew}
+use Rattle.records.specs.Commands.{dataSize}
 use Rattle.writes.specs.Writes.{rulesOf, storesWhole, changed, byRules}
 use Rattle.records.proofs.Anew.{anew-same}
 
@@ -42,7 +43,7 @@ as-sent rules stored kept ones sent i old h =
     ∙ or-zero-r (s % 256))
 
 pub stored-whole : (what : Write) → storesWhole what ≡ true → (sent r : List ℕ)
-    → anew (λ i old. getD sent i 0 % 256) (rulesOf what .at) 6 r ≡ byRules (rulesOf what) sent r
+    → anew (λ i old. getD sent i 0 % 256) (rulesOf what .at) 6 r ≡ byRules what sent r
 unfolding byRules
 stored-whole Wrcfga e sent r = absurd (false≢true e)
 stored-whole Wrcfgb e sent r = anew-same _ _ _ 6 r (λ i h. as-sent (rulesOf Wrcfgb) refl refl refl sent i _ h)
@@ -51,3 +52,21 @@ stored-whole Clrflag e sent r = absurd (false≢true e)
 stored-whole Clovuv e sent r = absurd (false≢true e)
 stored-whole Wrpwma e sent r = anew-same _ _ _ 6 r (λ i h. as-sent (rulesOf Wrpwma) refl refl refl sent i _ h)
 stored-whole Wrpwmb e sent r = absurd (false≢true e)
+stored-whole Wrcmcfg e sent r = anew-same _ _ _ 6 r (λ i h. as-sent (rulesOf Wrcmcfg) refl refl refl sent i _ h)
+stored-whole Wrcmcellt e sent r = absurd (false≢true e)
+stored-whole Wrcmgpiot e sent r = absurd (false≢true e)
+stored-whole Clrcmflag e sent r = absurd (false≢true e)
+
+-- such a write has six
+pub whole-is-six : (what : Write) → storesWhole what ≡ true → dataSize what ≡ 6
+whole-is-six Wrcfga e = refl
+whole-is-six Wrcfgb e = refl
+whole-is-six Wrrr e = refl
+whole-is-six Clrflag e = refl
+whole-is-six Clovuv e = refl
+whole-is-six Wrpwma e = refl
+whole-is-six Wrpwmb e = refl
+whole-is-six Wrcmcfg e = refl
+whole-is-six Wrcmcellt e = refl
+whole-is-six Wrcmgpiot e = refl
+whole-is-six Clrcmflag e = absurd (false≢true e)

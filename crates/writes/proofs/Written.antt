@@ -10,9 +10,10 @@ use lib.Dec.{eqb, leb, lit≤}
 use lib.ListN.{length}
 use borrow.Author.Tests.{le-leb, lt-leb}
 use Rattle.records.specs.declared.commands.Write.{Write}
-use Rattle.records.specs.declared.commands.Write.the-variants.{Wrcfga, Wrcfgb, Wrrr, Clrflag, Clovuv, Wrpwma, Wrpwmb}
+use Rattle.records.specs.declared.commands.Write.the-variants.{Wrcfga, Wrcfgb, Wrrr, Clrflag, Clovuv, Wrpwma, Wrpwmb, Wrcmcfg, Wrcmcellt, Wrcmgpiot, Clrcmflag}
 use Rattle.writes.specs.declared.writes.Rules.{Rules}
 use Rattle.records.specs.Record.{recordSize, isRecord}
+use Rattle.records.specs.Commands.{dataSize}
 use Rattle.writes.specs.Writes.{rulesOf, opens, written}
 use Rattle.records.proofs.Answers.{is-record, no-record}
 
@@ -24,8 +25,12 @@ needs-but-wrrr Clrflag other = refl
 needs-but-wrrr Clovuv other = refl
 needs-but-wrrr Wrpwma other = refl
 needs-but-wrrr Wrpwmb other = refl
+needs-but-wrrr Wrcmcfg other = refl
+needs-but-wrrr Wrcmcellt other = refl
+needs-but-wrrr Wrcmgpiot other = refl
+needs-but-wrrr Clrcmflag other = refl
 
-pub rules-fit : (w : Write) → rulesOf w .at + 6 ≤ recordSize
+pub rules-fit : (w : Write) → rulesOf w .at + dataSize w ≤ recordSize
 rules-fit Wrcfga = lit≤ tt
 rules-fit Wrcfgb = lit≤ tt
 rules-fit Wrrr = lit≤ tt
@@ -33,6 +38,10 @@ rules-fit Clrflag = lit≤ tt
 rules-fit Clovuv = lit≤ tt
 rules-fit Wrpwma = lit≤ tt
 rules-fit Wrpwmb = lit≤ tt
+rules-fit Wrcmcfg = lit≤ tt
+rules-fit Wrcmcellt = lit≤ tt
+rules-fit Wrcmgpiot = lit≤ tt
+rules-fit Clrcmflag = lit≤ tt
 
 module _ (rules : Rules) (was : ℕ) where
   pub opens-unlocked : rules .«only_unlocked» ≡ true → opens rules was ≡ eqb was 1
@@ -43,18 +52,18 @@ module _ (rules : Rules) (was : ℕ) where
   unfolding opens
   opens-always e = ap (λ (b : Bool). not b || eqb was 1) e
 
--- ---- a record and six bytes, and what is none or fewer
+-- ---- a record and a write's bytes, and what is none or fewer
 
 module _ (what : Write) (was : ℕ) (sent r : List ℕ) where
   -- what `write` leaves
   abbrev left : Bool → List ℕ
   left b = cond b (written what was sent r) r
 
-  pub six-for-record : length r ≡ recordSize → 6 ≤ length sent → left (isRecord r && leb 6 (length sent)) ≡ written what was sent r
-  six-for-record h k = ap left (ap₂ _&&_ (is-record r h) (le-leb 6 (length sent) k))
+  pub enough-for-record : length r ≡ recordSize → dataSize what ≤ length sent → left (isRecord r && leb (dataSize what) (length sent)) ≡ written what was sent r
+  enough-for-record h k = ap left (ap₂ _&&_ (is-record r h) (le-leb (dataSize what) (length sent) k))
 
-  pub fewer-for-record : length r ≡ recordSize → length sent < 6 → left (isRecord r && leb 6 (length sent)) ≡ r
-  fewer-for-record h k = ap left (ap₂ _&&_ (is-record r h) (lt-leb 6 (length sent) k))
+  pub fewer-for-record : length r ≡ recordSize → length sent < dataSize what → left (isRecord r && leb (dataSize what) (length sent)) ≡ r
+  fewer-for-record h k = ap left (ap₂ _&&_ (is-record r h) (lt-leb (dataSize what) (length sent) k))
 
-  pub for-no-record : (length r ≡ recordSize → ⊥) → left (isRecord r && leb 6 (length sent)) ≡ r
-  for-no-record h = ap (λ (b : Bool). left (b && leb 6 (length sent))) (no-record r h)
+  pub for-no-record : (length r ≡ recordSize → ⊥) → left (isRecord r && leb (dataSize what) (length sent)) ≡ r
+  for-no-record h = ap (λ (b : Bool). left (b && leb (dataSize what) (length sent))) (no-record r h)

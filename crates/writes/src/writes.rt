@@ -1,13 +1,18 @@
-// Whether a write needs its check right, and what a taken write does to its six bytes.
+// Whether a write needs its check right, and what a taken write does to its bytes of a record.
 ghost use mathlib.Core.Path.{_≡_};
 ghost use mathlib.Core.Bool.{cond, _&&_};
 ghost use Prim.Native.Nat.{_+_, _%_, _<_, _≤_};
 ghost use lib.Dec.{leb};
 ghost use lib.ListN.{length, getD};
 ghost use Rattle.records.specs.Record.{isRecord, anew};
-ghost use Rattle.writes.specs.Writes.{rulesOf, storesWhole, changed, byRules, opens, written};
+ghost use Rattle.records.specs.Commands.{dataSize};
+ghost use Rattle.writes.specs.Writes.{rulesOf, storesWhole, changed, opens, written};
 use records::CONFIGURATION_A;
 use records::CONFIGURATION_B;
+use records::LPCM_CELL_THRESHOLDS;
+use records::LPCM_CONFIGURATION;
+use records::LPCM_FLAGS;
+use records::LPCM_GPIO_THRESHOLDS;
 use records::PWM_A;
 use records::PWM_B;
 use records::RECORD_SIZE;
@@ -15,9 +20,10 @@ use records::RETENTION;
 use records::STATUS_C;
 use records::STATUS_D;
 use records::Write;
+use records::data_size;
 
-// Whether a write is taken only with its data check right, where its six bytes go, and what it does to each bit there: stored bits
-// become as sent, kept bits stay as they were, but for those that are clearable and sent as 1, ones become 1; every other bit
+// Whether a write is taken only with its data check right, where its data bytes go, and what it does to each bit there, by masks of which as
+// many bytes count as it has data: stored bits become as sent, kept bits stay as they were, but for those that are clearable and sent as 1, ones become 1; every other bit
 // becomes 0. WRRR does so whatever its check, and only where the retention was unlocked.
 pub struct Rules {
     pub needs_check: bool,
@@ -32,6 +38,9 @@ pub struct Rules {
 const ALL: [u8; 6] = [0xff; 6];
 
 const NONE: [u8; 6] = [0; 6];
+
+// The bits of an LPCM threshold register that are there: three thresholds of 12 bits.
+const THRESHOLDS: [u8; 6] = [0xff, 0xff, 0xff, 0xff, 0x0f, 0];
 
 fn rules_of(what: Write) -> Rules
     ensures { λ r. ⌜ r ≡ rulesOf what ⌝ }
@@ -100,6 +109,42 @@ fn rules_of(what: Write) -> Rules
             clearable: NONE,
             ones: [0, 0, 0xff, 0xff, 0xff, 0xff],
         },
+        Write::Wrcmcfg => Rules {
+            needs_check: true,
+            only_unlocked: false,
+            at: LPCM_CONFIGURATION,
+            stored: ALL,
+            kept: NONE,
+            clearable: NONE,
+            ones: NONE,
+        },
+        Write::Wrcmcellt => Rules {
+            needs_check: true,
+            only_unlocked: false,
+            at: LPCM_CELL_THRESHOLDS,
+            stored: THRESHOLDS,
+            kept: NONE,
+            clearable: NONE,
+            ones: NONE,
+        },
+        Write::Wrcmgpiot => Rules {
+            needs_check: true,
+            only_unlocked: false,
+            at: LPCM_GPIO_THRESHOLDS,
+            stored: THRESHOLDS,
+            kept: NONE,
+            clearable: NONE,
+            ones: NONE,
+        },
+        Write::Clrcmflag => Rules {
+            needs_check: true,
+            only_unlocked: false,
+            at: LPCM_FLAGS,
+            stored: NONE,
+            kept: ALL,
+            clearable: [0xff, 0, 0, 0, 0, 0],
+            ones: NONE,
+        },
     }
 }
 
@@ -111,9 +156,9 @@ pub fn needs_check(what: Write) -> bool
     its.needs_check
 }
 
-// One of the six bytes by a write's rules, from what was sent and what it was.
+// One of a write's bytes by its rules, from what was sent and what it was.
 fn changed_byte(rules: Rules, sent: &[u8], i: usize, old: u8) -> u8
-    requires { ⌜ (i < 6) × (6 ≤ length (now sent)) ⌝ }
+    requires { ⌜ (i < 6) × (i < length (now sent)) ⌝ }
     ensures { λ r. ⌜ r ≡ changed rules (now (sent .entry)) i old ⌝ }
 {
     let byte = sent[i];
@@ -121,21 +166,21 @@ fn changed_byte(rules: Rules, sent: &[u8], i: usize, old: u8) -> u8
         | rules.ones[i]
 }
 
-// The six bytes that a write changes, by its rules.
-fn change(rec: &mut [u8], rules: Rules, sent: &[u8])
-    requires { ⌜ (rules .at + 6 ≤ length (now rec)) × (6 ≤ length (now sent)) ⌝ }
-    ensures { λ _. ⌜ now (rec .exit) ≡ byRules rules (now (sent .entry)) (now (rec .entry)) ⌝ }
+// So many bytes, which a write changes by its rules.
+fn change(rec: &mut [u8], rules: Rules, sent: &[u8], size: usize)
+    requires { ⌜ (size ≤ 6) × (rules .at + size ≤ length (now rec)) × (size ≤ length (now sent)) ⌝ }
+    ensures { λ _. ⌜ now (rec .exit) ≡ anew (changed rules (now (sent .entry))) (rules .at) size (now (rec .entry)) ⌝ }
 {
     let at = rules.at;
     let mut i = 0;
-    while i < 6 {
+    while i < size {
         let place = at + i;
         rec[place] = changed_byte(rules, sent, i, rec[place]);
         i += 1;
     }
 }
 
-// The same where all six become as sent: they are copied.
+// The same where six become as sent: they are copied.
 fn store(rec: &mut [u8], at: usize, sent: &[u8])
     requires { ⌜ (at + 6 ≤ length (now rec)) × (6 ≤ length (now sent)) ⌝ }
     ensures { λ _. ⌜ now (rec .exit) ≡ anew (λ i old. getD (now (sent .entry)) i 0 % 256) at 6 (now (rec .entry)) ⌝ }
@@ -147,7 +192,7 @@ fn store(rec: &mut [u8], at: usize, sent: &[u8])
     }
 }
 
-// Does a write store all six as they are sent?
+// Does a write store six as they are sent?
 fn stores_whole(what: Write) -> bool
     ensures { λ r. ⌜ r ≡ storesWhole what ⌝ }
 {
@@ -159,6 +204,10 @@ fn stores_whole(what: Write) -> bool
         Write::Clovuv => false,
         Write::Wrpwma => true,
         Write::Wrpwmb => false,
+        Write::Wrcmcfg => true,
+        Write::Wrcmcellt => false,
+        Write::Wrcmgpiot => false,
+        Write::Clrcmflag => false,
     }
 }
 
@@ -170,15 +219,16 @@ fn opens_by(rules: Rules, was: u8) -> bool
     if only { was == 1 } else { true }
 }
 
-// A taken write of the six bytes that were sent first. A slice that is no record stays as it is, and so does a record where fewer
-// than six were sent.
+// A taken write of the data bytes that were sent first. A slice that is no record stays as it is, and so does a record where fewer
+// were sent than the write has.
 pub fn write(what: Write, was: u8, rec: &mut [u8], sent: &[u8])
-    ensures { λ _. ⌜ now (rec .exit) ≡ cond (isRecord (now (rec .entry)) && leb 6 (length (now (sent .entry)))) (written what was (now (sent .entry)) (now (rec .entry))) (now (rec .entry)) ⌝ }
+    ensures { λ _. ⌜ now (rec .exit) ≡ cond (isRecord (now (rec .entry)) && leb (dataSize what) (length (now (sent .entry)))) (written what was (now (sent .entry)) (now (rec .entry))) (now (rec .entry)) ⌝ }
 {
     if rec.len() != RECORD_SIZE {
         return;
     }
-    if sent.len() < 6 {
+    let size = data_size(what);
+    if sent.len() < size {
         return;
     }
     let rules = rules_of(what);
@@ -186,7 +236,7 @@ pub fn write(what: Write, was: u8, rec: &mut [u8], sent: &[u8])
         if stores_whole(what) {
             store(rec, rules.at, sent);
         } else {
-            change(rec, rules, sent);
+            change(rec, rules, sent, size);
         }
     }
 }

@@ -9,7 +9,7 @@ abbrev Inv-loop : tie.InvT-loop
 Inv-loop n w₀ i₀ w i = Unit {0}
 
 abbrev μ-loop : tie.MeasureT-loop
-μ-loop n w₀ i₀ w i = 800 - i
+μ-loop n w₀ i₀ w i = 1200 - i
 
 new-requires : tie.Need-new-requires Inv-loop μ-loop
 new-requires c κs = search needs

@@ -11,14 +11,14 @@ use Rattle.cells.proofs.Flags.{cleared, not-cleared}
 use Rattle.cells.proofs.cells.flags_of.Statement.{statement}
 use Rattle.cells.proofs.cells.flags_of.Tie as tie
 
-code-at-requires : tie.Need-code-at-requires
-code-at-requires c κs = search needs
+code-in-requires : tie.Need-code-in-requires
+code-in-requires c κs = search needs
 
 returns : tie.Need-returns
-unfolding flagsOf
+unfolding flagsOf codeAt
 returns c =
     let a = c .before .before .before .before .before .args in
-    let code = c .before .before .before .code-at in
+    let code = c .before .before .before .code-in in
     let r = a .rec .now in
     sym (ap (λ (b : Bool). cond b 0 (flagsFor (codeAt r (a .c)) (codesOf (vuv r)) (codesOf (vov r))))
     (ap (λ (k : ResultCode). isCleared (k .0)) (sym (code .ensures))
@@ -40,11 +40,11 @@ flags-for-requires : tie.Need-flags-for-requires
 flags-for-requires c κs = search needs
 
 returns-2 : tie.Need-returns-2
-unfolding flagsOf
+unfolding flagsOf codeAt
 returns-2 c =
     let test = c .before .before .before .before .before in
     let a = test .before .before .before .before .before .args in
-    let code = test .before .before .before .code-at in
+    let code = test .before .before .before .code-in in
     let r = a .rec .now in
     let lower = c .before .before .before .codes-of .ensures ∙ ap codesOf (c .before .before .before .before .under-threshold .ensures) in
     let upper = c .before .codes-of2 .ensures ∙ ap codesOf (c .before .before .over-threshold .ensures) in
@@ -59,7 +59,7 @@ pub flags-of-spec : {M : Type 1} → statement M
 flags-of-spec =
     tie.close
     (tie.spec
-    code-at-requires
+    code-in-requires
     returns
     under-threshold-requires
     codes-of-requires

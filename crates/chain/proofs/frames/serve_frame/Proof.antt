@@ -3,13 +3,12 @@
 use mathlib.Core.Path.{sym, ap, _∙_}
 use mathlib.Core.List.{List}
 use Prim.Native.Nat.{ℕ}
-use Rattle.laws.specs.Counts.{count}
 use Rattle.laws.specs.Rows.{rows, joined, along}
 use Rattle.wire.specs.Order.{writePayloads}
 use Rattle.records.specs.Record.{recordSize}
-use Rattle.records.specs.Commands.{payloadSize}
-use Rattle.monitor.specs.Effects.{takes, keeps}
-use Rattle.serving.specs.Served.{payloadsIn, takenBy, kept}
+use Rattle.records.specs.Commands.{widthOf}
+use Rattle.monitor.specs.Effects.{keeps}
+use Rattle.serving.specs.Served.{takers, payloadsIn, takenBy, kept}
 use Rattle.judging.proofs.Whole.{whole-records, where-so}
 use borrow.Author.Needs.{needs}
 use Rattle.chain.proofs.frames.serve_frame.Statement.{statement}
@@ -32,10 +31,10 @@ returns c =
     let after = c .before .before .before .payloads-of .ensures in
     let pre = c .before .before .before .before .before .before .before .pre in
     let so = whole-records (a .n) (a .table .now) (pre .1) (pre .0) in (
-      served .0 ∙ sym (where-so _ _ _ so) ∙ ap (λ (ps : List ℕ). count (takes (a .command)) (writePayloads payloadSize (a .n) ps)) after,
+      served .0 ∙ sym (where-so _ _ _ so) ∙ ap (λ (ps : List ℕ). takers (a .command) (rows recordSize (a .n) (a .table .now)) (writePayloads (widthOf (a .command)) (a .n) ps)) after,
       served .1
           ∙ sym (where-so _ _ _ so)
-          ∙ ap (λ (ps : List ℕ). joined (along (λ r eight. keeps (a .command) eight r) (rows recordSize (a .n) (a .table .now)) (writePayloads payloadSize (a .n) ps))) after,
+          ∙ ap (λ (ps : List ℕ). joined (along (λ r own. keeps (a .command) own r) (rows recordSize (a .n) (a .table .now)) (writePayloads (widthOf (a .command)) (a .n) ps))) after,
     )
 
 pub serve-frame-spec : {M : Type 1} → statement M

@@ -4,7 +4,7 @@
 use mathlib.Core.Path.{_≡_, refl, sym, ap, _∙_}
 use mathlib.Core.Bool.{Bool, false, cond, xor, _&&_}
 use mathlib.Core.List.{List}
-use Prim.Native.Nat.{ℕ, _%_}
+use Prim.Native.Nat.{ℕ, _/_, _%_}
 use native.Mathlib.Omega.{arith}
 use lib.Dec.{eqb}
 use lib.ListN.{length, take}
@@ -12,15 +12,18 @@ use borrow.Author.Tests.{eq-eqb, ne-eqb}
 use Rattle.laws.specs.Bits.{_⊕_, odd, bitsOf, Bytes, numberOf}
 use Rattle.laws.proofs.Numbers.{bits-of-string}
 use Rattle.pec.specs.Remainder.{once, step, remainder}
-use Rattle.pec.specs.Words.{wordAt, polynomial10, dataPec, counterOf, payloadRight, numberIn, numberRight}
+use Rattle.pec.specs.Words.{wordAt, polynomial10, dataPec, sealedRight, payloadRight, numberIn, numberRight}
 use Rattle.pec.proofs.Right.{sealed-left}
 use borrow.Author.Needs.{needs}
 use Rattle.check_words.proofs.words.number_in.Statement.{statement}
 use Rattle.check_words.proofs.words.number_in.Tie as tie
 
+-- the check, where there are eight bytes
+abbrev checked : List ℕ → Bool
+checked eight = eqb (wordAt eight 6 % 1024) (dataPec (take 6 eight) (wordAt eight 6 / 1024))
+
 module _ (eight : List ℕ) (h : Bytes eight) (e : length eight ≡ 8) where
-  check : eqb (remainder 10 polynomial10 16 (bitsOf 64 (numberOf eight))) 0 ≡ eqb (wordAt eight 6 % 1024) (dataPec (take 6 eight) (counterOf eight))
-  unfolding counterOf
+  check : eqb (remainder 10 polynomial10 16 (bitsOf 64 (numberOf eight))) 0 ≡ checked eight
   check = ap (λ (bs : List Bool). eqb (remainder 10 polynomial10 16 bs) 0) (bits-of-string 64 eight h (omega arith)) ∙ sealed-left eight h 6 e
 
 -- another length is not right, and neither is 0
@@ -29,19 +32,19 @@ unfolding numberRight remainder step once bitsOf odd _⊕_ xor
 zero-wrong = refl
 
 returns : tie.Need-returns
-unfolding numberIn payloadRight
+unfolding numberIn payloadRight sealedRight
 returns c =
     let eight = c .before .before .args .eight .now in
     let other = ne-eqb (length eight) 8 (c .if1 .taken) in (
       sym (ap (λ (b : Bool). cond b (numberOf eight) 0) other),
-      zero-wrong ∙ sym (ap (λ (b : Bool). b && eqb (wordAt eight 6 % 1024) (dataPec (take 6 eight) (counterOf eight))) other),
+      zero-wrong ∙ sym (ap (λ (b : Bool). b && checked eight) other),
     )
 
 number-by-parts-requires : tie.Need-number-by-parts-requires
 number-by-parts-requires c κs = search needs
 
 returns-2 : tie.Need-returns-2
-unfolding numberIn numberRight payloadRight
+unfolding numberIn numberRight payloadRight sealedRight
 returns-2 c =
     let s = c .before .before in
     let eight = s .before .args .eight .now in
@@ -51,7 +54,7 @@ returns-2 c =
       number ∙ sym (ap (λ (b : Bool). cond b (numberOf eight) 0) there),
       ap (λ (n : ℕ). eqb (remainder 10 polynomial10 16 (bitsOf 64 n)) 0) number
           ∙ check eight (λ i. s .shared-slice-known .given i .fits) whole
-          ∙ sym (ap (λ (b : Bool). b && eqb (wordAt eight 6 % 1024) (dataPec (take 6 eight) (counterOf eight))) there),
+          ∙ sym (ap (λ (b : Bool). b && checked eight) there),
     )
 
 pub number-in-spec : {M : Type 1} → statement M

@@ -1,5 +1,6 @@
 -- `clocking::bytes_in::shift_windows` meets its contract: the register is lent, moved on and comes back.
 -- Assumes nothing.
+use native.Mathlib.Nat.{mul-le-mul}
 use Rattle.clocking.proofs.Shifting.{first-of-register, shifted-by}
 use borrow.Author.Needs.{needs}
 use Rattle.clocking.proofs.bytes_in.shift_windows.Statement.{statement}
@@ -9,10 +10,10 @@ chained-in-requires : tie.Need-chained-in-requires
 chained-in-requires c κs = search needs
 
 mul-end : tie.Need-mul-end
-mul-end c = search needs
+mul-end c = let most = mul-le-mul (c .before .before .before .pre .1) (c .chained-in .ensures .1) in search needs
 
 add-end : tie.Need-add-end
-add-end c = search needs
+add-end c = let most = mul-le-mul (c .before .before .before .pre .1) (c .chained-in .ensures .1) in search needs
 
 sub-shift : tie.Need-sub-shift
 sub-shift c = search needs
@@ -21,7 +22,7 @@ part-shift-start : tie.Need-part-shift-start
 part-shift-start c = search needs
 
 part-shift-end : tie.Need-part-shift-end
-part-shift-end c = search needs
+part-shift-end c = let most = mul-le-mul (c .before .before .before .pre .1) (c .chained-in .ensures .1) in search needs
 
 shift-requires : tie.Need-shift-requires
 shift-requires c κs = search needs
@@ -34,7 +35,7 @@ returns c =
     let a = c .before .before .before .before .before .before .before .args in
     let its = c .before .before .before .before .chained-in .ensures .0 in
     let shift = c .before .before .shift .ensures in
-    (first-of-register (a .byte) (a .state .now) its (shift .0), shifted-by (a .byte) (a .state .now) its (shift .1))
+    (first-of-register (a .width) (a .byte) (a .state .now) its (shift .0), shifted-by (a .width) (a .byte) (a .state .now) its (shift .1))
 
 pub shift-windows-spec : {M : Type 1} → statement M
 shift-windows-spec =

@@ -5,10 +5,10 @@ use Rattle.limits.proofs.longest.sent.Statement.{statement}
 use Rattle.limits.proofs.longest.sent.Tie as tie
 
 abbrev Inv-loop : tie.InvT-loop
-Inv-loop list₀ i₀ list i = Unit {0}
+Inv-loop code four row list₀ i₀ list i = Unit {0}
 
 abbrev μ-loop : tie.MeasureT-loop
-μ-loop list₀ i₀ list i = 32 - i
+μ-loop code four row list₀ i₀ list i = 32 - i
 
 pub sent-spec : {M : Type 1} → statement M
 sent-spec =
@@ -20,6 +20,10 @@ sent-spec =
     (λ c. search needs)
     (λ c. search needs)
     (λ c. search needs)
+    (λ c. search needs)
+    (λ c. search needs)
+    (λ c. search needs)
+    (λ c κs. search needs)
     (λ c. search needs)
     (λ c. search needs)
     (λ c κs. search needs)

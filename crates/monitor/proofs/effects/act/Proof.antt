@@ -10,7 +10,7 @@ use Rattle.monitor.proofs.effects.act.Tie as tie
 
 returns : tie.Need-returns
 returns c =
-    not-acted (c .before .before .before .args .command) (c .before .before .before .args .eight .now) (c .before .before .before .args .rec .now) (c .if1 .taken)
+    not-acted (c .before .before .before .args .command) (c .before .before .before .args .own .now) (c .before .before .before .args .rec .now) (c .if1 .taken)
 
 enum-told : tie.Need-enum-told
 enum-told c = search needs
@@ -41,7 +41,7 @@ unfolding keeps
 returns-2 c =
     let a = c .before .before .before .before .before .before .before .before .before .args in
     let e = sym (c .before .before .before .before .enum-told .given .1) in
-    acted (a .command) (a .eight .now) (a .rec .now) (c .before .before .before .before .before .before .if1 .left) (ap (λ (k : Command). takes k (a .eight .now)) e) (c .before .before .lock .ensures ∙ ap (λ (k : Command). keeps k (a .eight .now) (a .rec .now)) e)
+    acted (a .command) (a .own .now) (a .rec .now) (c .before .before .before .before .before .before .if1 .left) (ap (λ (k : Command). takes k (a .own .now) (a .rec .now)) e) (c .before .before .lock .ensures ∙ ap (λ (k : Command). keeps k (a .own .now) (a .rec .now)) e)
 
 same-length-2 : tie.Need-same-length-2
 same-length-2 c = search needs
@@ -51,9 +51,9 @@ unfolding keeps
 returns-3 c =
     let a = c .before .before .before .before .before .before .before .before .before .before .args in
     let e = sym (c .before .before .before .before .before .command .given .1) in
-    acted (a .command) (a .eight .now) (a .rec .now) (c .before .before .before .before .before .before .before .if1 .left)
-    (c .before .before .act-write .ensures .0 ∙ ap (λ (k : Command). takes k (a .eight .now)) e)
-    (c .before .before .act-write .ensures .1 ∙ ap (λ (k : Command). keeps k (a .eight .now) (a .rec .now)) e)
+    acted (a .command) (a .own .now) (a .rec .now) (c .before .before .before .before .before .before .before .if1 .left)
+    (c .before .before .act-write .ensures .0 ∙ ap (λ (k : Command). takes k (a .own .now) (a .rec .now)) e)
+    (c .before .before .act-write .ensures .1 ∙ ap (λ (k : Command). keeps k (a .own .now) (a .rec .now)) e)
 
 same-length-3 : tie.Need-same-length-3
 same-length-3 c = search needs
@@ -63,15 +63,15 @@ unfolding keeps
 returns-4 c =
     let a = c .before .before .before .before .before .before .before .before .before .before .args in
     let e = sym (c .before .before .before .before .before .command2 .given .1) in
-    acted (a .command) (a .eight .now) (a .rec .now) (c .before .before .before .before .before .before .before .if1 .left) (ap (λ (k : Command). takes k (a .eight .now)) e)
-    (c .before .before .act-bare .ensures ∙ ap (λ (k : Command). keeps k (a .eight .now) (a .rec .now)) e)
+    acted (a .command) (a .own .now) (a .rec .now) (c .before .before .before .before .before .before .before .if1 .left) (ap (λ (k : Command). takes k (a .own .now) (a .rec .now)) e)
+    (c .before .before .act-bare .ensures ∙ ap (λ (k : Command). keeps k (a .own .now) (a .rec .now)) e)
 
 returns-5 : tie.Need-returns-5
 unfolding keeps
 returns-5 c =
     let a = c .before .before .before .before .before .args in
     let e = sym (c .enum-told2 .given .1) in
-    acted (a .command) (a .eight .now) (a .rec .now) (c .before .before .if1 .left) (ap (λ (k : Command). takes k (a .eight .now)) e) (ap (λ (k : Command). keeps k (a .eight .now) (a .rec .now)) e)
+    acted (a .command) (a .own .now) (a .rec .now) (c .before .before .if1 .left) (ap (λ (k : Command). takes k (a .own .now) (a .rec .now)) e) (ap (λ (k : Command). keeps k (a .own .now) (a .rec .now)) e)
 
 pub act-spec : {M : Type 1} → statement M
 act-spec =

@@ -119,6 +119,14 @@ returns-7 c =
     ∙ unsnapped _
     ∙ ap₂ done (sym (c .before .before .before .before .enum-told7 .given .1)) (c .before .before .before .before .before .before .before .before .begin .ensures)
 
+returns-8 : tie.Need-returns-8
+returns-8 c =
+    c .before .before .cmen .ensures ∙ ap₂ done (sym (c .before .before .before .before .enum-told8 .given .1)) (c .before .before .before .before .before .before .before .before .begin .ensures)
+
+returns-9 : tie.Need-returns-9
+unfolding done onBytes anew
+returns-9 c = ap₂ done (sym (c .before .enum-told9 .given .1)) (c .before .before .before .before .before .begin .ensures)
+
 pub act-bare-spec : {M : Type 1} → statement M
 act-bare-spec =
     tie.close
@@ -140,6 +148,11 @@ act-bare-spec =
     snap-requires
     enum-told-7
     unsnap-requires
+    (λ c. search needs)
+    (λ c κs. search needs)
+    (λ c. search needs)
+    (λ c. search needs)
+    (λ c. search needs)
     same-length
     returns
     same-length-2
@@ -153,4 +166,8 @@ act-bare-spec =
     same-length-6
     returns-6
     same-length-7
-    returns-7)
+    returns-7
+    (λ c. search needs)
+    returns-8
+    (λ c. search needs)
+    returns-9)

@@ -11,7 +11,7 @@ use lib.ListN.{length}
 use borrow.Author.Needs.{needs}
 use Rattle.records.specs.Record.{recordSize}
 use Rattle.serving.proofs.EachActs.{Acted, acted-none, acted-more, acted-taken, acted-table}
-use Rattle.clock_state.specs.State.{kindIn, seenIn, chainedIn, registerIn}
+use Rattle.clock_state.specs.State.{kindIn, seenIn, chainedIn}
 use Rattle.clocking.specs.Bytes.{clockOf}
 use Rattle.clocking.proofs.Register.{length-windows}
 use Rattle.releasing.proofs.releases.act_all.Statement.{statement}
@@ -24,7 +24,7 @@ windowsOf s = clockOf s .windows
 -- one for each monitor
 as-many : (s : List ℕ) {n : ℕ} → n ≡ chainedIn s → length (windowsOf s) ≡ n
 unfolding clockOf
-as-many s e = length-windows (kindIn s) (seenIn s) (chainedIn s) (registerIn (chainedIn s) s) ∙ sym e
+as-many s e = length-windows (kindIn s) (seenIn s) (chainedIn s) _ ∙ sym e
 
 abbrev Inv-loop : tie.InvT-loop
 Inv-loop table₀ command state n taken₀ k₀ table taken k = (k ≤ n) × Acted command table₀ (windowsOf state) table k taken

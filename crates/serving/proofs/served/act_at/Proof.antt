@@ -9,7 +9,7 @@ use Rattle.serving.proofs.served.act_at.Tie as tie
 returns : tie.Need-returns
 returns c =
     let a = c .before .before .before .args in
-    not-served (a .k) (a .table .now) (a .eight .now) (a .command) (c .if1 .taken)
+    not-served (a .k) (a .table .now) (a .own .now) (a .command) (c .if1 .taken)
 
 mul-at : tie.Need-mul-at
 mul-at c = omega arith
@@ -35,7 +35,7 @@ same-length c = search needs
 returns-2 : tie.Need-returns-2
 returns-2 c =
     let a = c .before .before .before .before .before .before .before .args in
-    served (a .k) (a .table .now) (omega (arith, c .before .before .before .before .if1 .left)) (a .command) (a .eight .now) (c .before .before .act .ensures .0) (c .before .before .act .ensures .1)
+    served (a .k) (a .table .now) (omega (arith, c .before .before .before .before .if1 .left)) (a .command) (a .own .now) (c .before .before .act .ensures .0) (c .before .before .act .ensures .1)
 
 pub act-at-spec : {M : Type 1} → statement M
 act-at-spec =

@@ -6,7 +6,6 @@ use mathlib.Core.List.{[]}
 use lib.ListN.{length}
 use borrow.Author.Tests.{le-leb, lt-leb}
 use borrow.Author.Needs.{needs}
-use Rattle.records.specs.Commands.{payloadSize}
 use Rattle.serving.proofs.served.own_of.Statement.{statement}
 use Rattle.serving.proofs.served.own_of.Tie as tie
 
@@ -15,13 +14,13 @@ slice-aggregate-result c = search needs
 
 returns : tie.Need-returns
 returns c =
-    let eight = c .before .before .args .eight .now in
-    sym (ap (λ (b : Bool). cond b eight []) (lt-leb (length eight) payloadSize (c .before .if1 .taken)))
+    let a = c .before .before .args in
+    sym (ap (λ (b : Bool). cond b (a .own .now) []) (lt-leb (length (a .own .now)) (a .width) (c .before .if1 .taken)))
 
 returns-2 : tie.Need-returns-2
 returns-2 c =
-    let eight = c .before .args .eight .now in
-    sym (ap (λ (b : Bool). cond b eight []) (le-leb (length eight) payloadSize (c .if1 .left)))
+    let a = c .before .args in
+    sym (ap (λ (b : Bool). cond b (a .own .now) []) (le-leb (length (a .own .now)) (a .width) (c .if1 .left)))
 
 pub own-of-spec : {M : Type 1} → statement M
 own-of-spec = tie.close (tie.spec slice-aggregate-result returns returns-2)

@@ -7,17 +7,17 @@ use Prim.Native.Nat.{ℕ, _+_, _*_, _≤_}
 use native.Mathlib.Omega.{arith}
 use lib.Dec.{eqb}
 use lib.ListN.{length}
-use Rattle.laws.specs.Counts.{count}
 use Rattle.laws.specs.Rows.{rows, joined, along}
 use Rattle.laws.proofs.LentParts.{part-lent}
 use Rattle.wire.specs.Order.{writePayloads}
 use Rattle.records.specs.declared.commands.Command.{Command}
 use Rattle.records.specs.Record.{recordSize, isRecord}
-use Rattle.records.specs.Commands.{payloadSize}
+use Rattle.records.specs.Commands.{widthOf}
 use Rattle.monitor.specs.Effects.{takes, keeps}
 use Rattle.judging.proofs.Lent.{lent, lent-length, lent-record}
 use Rattle.serving.proofs.Serving.{served, not-served}
-use Rattle.serving.proofs.OneTurn.{own, one-taken, one-kept}
+use Rattle.serving.proofs.OneTurn.{ownOf, one-taken, one-kept}
+use Rattle.serving.specs.Served.{takers}
 use borrow.Author.Needs.{needs}
 use Rattle.serving.proofs.served.serve_at.Statement.{statement}
 use Rattle.serving.proofs.served.serve_at.Tie as tie
@@ -27,25 +27,29 @@ module _ (k : ℕ) (table : List ℕ) (fits : k * recordSize + recordSize ≤ le
   whole = ap length (part-lent recordSize k table) ∙ lent-length k table fits
 
   -- what the chain of one makes of the record is what its monitor does
-  module _ (command : Command) (eight handed : List ℕ) (e : handed ≡ own eight) where
-    took : {n : ℕ} → n ≡ count (takes command) (writePayloads payloadSize 1 handed) → eqb n 1 ≡ isRecord (lent k table) && takes command eight
-    took t =
-        ap (λ (m : ℕ). eqb m 1) (t ∙ ap (λ (ps : List ℕ). count (takes command) (writePayloads payloadSize 1 ps)) e)
-        ∙ one-taken command eight
-        ∙ ap (λ (b : Bool). b && takes command eight) (sym (lent-record k table fits))
+  module _ (command : Command) (own handed : List ℕ) {width : ℕ} (w : width ≡ widthOf command) (e : handed ≡ ownOf width own) where
+    as-handed : handed ≡ ownOf (widthOf command) own
+    as-handed = e ∙ ap (λ (x : ℕ). ownOf x own) w
 
-    kept : {after : List ℕ} → after ≡ joined (along (λ r x. keeps command x r) (rows recordSize 1 (lent k table)) (writePayloads payloadSize 1 handed))
-        → after ≡ cond (isRecord (lent k table)) (keeps command eight (lent k table)) (lent k table)
+    took : {n : ℕ} → n ≡ takers command (rows recordSize 1 (lent k table)) (writePayloads (widthOf command) 1 handed)
+        → eqb n 1 ≡ isRecord (lent k table) && takes command own (lent k table)
+    took t =
+        ap (λ (m : ℕ). eqb m 1) (t ∙ ap (λ (ps : List ℕ). takers command (rows recordSize 1 (lent k table)) (writePayloads (widthOf command) 1 ps)) as-handed)
+        ∙ one-taken command own (lent k table) whole
+        ∙ ap (λ (b : Bool). b && takes command own (lent k table)) (sym (lent-record k table fits))
+
+    kept : {after : List ℕ} → after ≡ joined (along (λ r x. keeps command x r) (rows recordSize 1 (lent k table)) (writePayloads (widthOf command) 1 handed))
+        → after ≡ cond (isRecord (lent k table)) (keeps command own (lent k table)) (lent k table)
     kept t =
         t
-        ∙ ap (λ (ps : List ℕ). joined (along (λ r x. keeps command x r) (rows recordSize 1 (lent k table)) (writePayloads payloadSize 1 ps))) e
-        ∙ one-kept command eight (lent k table) whole
-        ∙ ap (λ (b : Bool). cond b (keeps command eight (lent k table)) (lent k table)) (sym (lent-record k table fits))
+        ∙ ap (λ (ps : List ℕ). joined (along (λ r x. keeps command x r) (rows recordSize 1 (lent k table)) (writePayloads (widthOf command) 1 ps))) as-handed
+        ∙ one-kept command own (lent k table) whole
+        ∙ ap (λ (b : Bool). cond b (keeps command own (lent k table)) (lent k table)) (sym (lent-record k table fits))
 
 returns : tie.Need-returns
 returns c =
     let a = c .before .before .before .args in
-    not-served (a .k) (a .table .now) (a .eight .now) (a .command) (c .if1 .taken)
+    not-served (a .k) (a .table .now) (a .own .now) (a .command) (c .if1 .taken)
 
 mul-start : tie.Need-mul-start
 mul-start c = omega arith
@@ -67,22 +71,25 @@ own-of-requires c κs = search needs
 
 serve-whole-requires : tie.Need-serve-whole-requires
 serve-whole-requires c κs =
-    let a = c .before .before .before .before .before .args in
-    (whole (a .k) (a .table .now) (omega (arith, c .before .before .if1 .left)), omega arith)
+    let s = c .before .before .before in
+    let a = s .before .before .before .args in
+    (whole (a .k) (a .table .now) (omega (arith, s .if1 .left)), omega arith)
 
 same-length : tie.Need-same-length
 same-length c = search needs
 
 returns-2 : tie.Need-returns-2
-unfolding own
+unfolding ownOf
 returns-2 c =
-    let a = c .before .before .before .before .before .before .before .before .args in
-    let fits : a .k * recordSize + recordSize ≤ length (a .table .now) = omega (arith, c .before .before .before .before .before .if1 .left) in
-    let e = c .before .before .before .own-of .ensures in
-    let s = c .before .before .serve-whole .ensures in
-    served (a .k) (a .table .now) fits (a .command) (a .eight .now)
-    (took (a .k) (a .table .now) fits (a .command) (a .eight .now) _ e (s .0))
-    (kept (a .k) (a .table .now) fits (a .command) (a .eight .now) _ e (s .1))
+    let s = c .before .before .before .before .before .before in
+    let a = s .before .before .before .args in
+    let fits : a .k * recordSize + recordSize ≤ length (a .table .now) = omega (arith, s .if1 .left) in
+    let w = c .before .before .before .before .before .width-of .ensures .0 in
+    let e = c .before .before .before .before .own-of .ensures in
+    let served-one = c .before .before .serve-whole .ensures in
+    served (a .k) (a .table .now) fits (a .command) (a .own .now)
+    (took (a .k) (a .table .now) fits (a .command) (a .own .now) _ w e (served-one .0))
+    (kept (a .k) (a .table .now) fits (a .command) (a .own .now) _ w e (served-one .1))
 
 pub serve-at-spec : {M : Type 1} → statement M
 serve-at-spec =
@@ -91,10 +98,11 @@ serve-at-spec =
     returns
     mul-start
     add-end
+    (λ c κs. search needs)
+    own-of-requires
     sub-serve-whole
     part-serve-whole-start
     part-serve-whole-end
-    own-of-requires
     serve-whole-requires
     same-length
     returns-2)

@@ -9,10 +9,10 @@ use Rattle.two_engines.proofs.frames.put_payloads.Statement.{statement}
 use Rattle.two_engines.proofs.frames.put_payloads.Tie as tie
 
 abbrev Inv-loop : tie.InvT-loop
-Inv-loop frame₀ n luck some last₀ k₀ frame last k = length frame ≡ 600
+Inv-loop frame₀ n size luck some last₀ k₀ frame last k = length frame ≡ 600
 
 abbrev μ-loop : tie.MeasureT-loop
-μ-loop frame₀ n luck some last₀ k₀ frame last k = n - k
+μ-loop frame₀ n size luck some last₀ k₀ frame last k = n - k
 
 draw-requires : tie.Need-draw-requires Inv-loop μ-loop
 draw-requires c κs = search needs
@@ -23,11 +23,8 @@ loop-holds c = search needs
 payload-bit-requires : tie.Need-payload-bit-requires Inv-loop μ-loop
 payload-bit-requires c κs = search needs
 
-mul-put-check : tie.Need-mul-put-check Inv-loop μ-loop
-mul-put-check c = search needs
-
-add-put-check : tie.Need-add-put-check Inv-loop μ-loop
-add-put-check c = search needs
+place-in-requires : tie.Need-place-in-requires Inv-loop μ-loop
+place-in-requires c κs = search needs
 
 put-check-requires : tie.Need-put-check-requires Inv-loop μ-loop
 put-check-requires c κs = search needs
@@ -56,8 +53,7 @@ put-payloads-spec =
     draw-requires
     loop-holds
     payload-bit-requires
-    mul-put-check
-    add-put-check
+    place-in-requires
     put-check-requires
     add-k
     loop-less

@@ -24,6 +24,12 @@ draw-requires c κs = search needs
 draw-requires-2 : tie.Need-draw-requires-2 Inv-loop μ-loop
 draw-requires-2 c κs = search needs
 
+draw-requires-3 : tie.Need-draw-requires-3 Inv-loop μ-loop
+draw-requires-3 c κs = search needs
+
+draw-requires-4 : tie.Need-draw-requires-4 Inv-loop μ-loop
+draw-requires-4 c κs = search needs
+
 cast-table : tie.Need-cast-table Inv-loop μ-loop
 cast-table c = search needs
 
@@ -38,6 +44,27 @@ add-table c = search needs
 
 slice-write-table-2 : tie.Need-slice-write-table-2 Inv-loop μ-loop
 slice-write-table-2 c = simp length-set (omega arith)
+
+cast-table-3 : tie.Need-cast-table-3 Inv-loop μ-loop
+cast-table-3 c = search needs
+
+add-table-2 : tie.Need-add-table-2 Inv-loop μ-loop
+add-table-2 c = search needs
+
+slice-write-table-3 : tie.Need-slice-write-table-3 Inv-loop μ-loop
+slice-write-table-3 c = simp length-set (omega arith)
+
+flags-of-requires : tie.Need-flags-of-requires Inv-loop μ-loop
+flags-of-requires c κs = search needs
+
+add-table-3 : tie.Need-add-table-3 Inv-loop μ-loop
+add-table-3 c = search needs
+
+add-table-4 : tie.Need-add-table-4 Inv-loop μ-loop
+add-table-4 c = search needs
+
+slice-write-table-4 : tie.Need-slice-write-table-4 Inv-loop μ-loop
+slice-write-table-4 c = simp length-set (omega arith)
 
 add-at : tie.Need-add-at Inv-loop μ-loop
 add-at c = search needs
@@ -63,11 +90,20 @@ stir-spec =
     loop-holds
     draw-requires
     draw-requires-2
+    draw-requires-3
+    draw-requires-4
     cast-table
     slice-write-table
     cast-table-2
     add-table
     slice-write-table-2
+    cast-table-3
+    add-table-2
+    slice-write-table-3
+    flags-of-requires
+    add-table-3
+    add-table-4
+    slice-write-table-4
     add-at
     loop-less
     loop-again

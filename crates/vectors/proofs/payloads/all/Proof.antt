@@ -5,10 +5,10 @@ use Rattle.vectors.proofs.payloads.all.Statement.{statement}
 use Rattle.vectors.proofs.payloads.all.Tie as tie
 
 abbrev Inv-loop : tie.InvT-loop
-Inv-loop file at records₀ p₀ records p = Unit {0}
+Inv-loop file size at records₀ p₀ records p = Unit {0}
 
 abbrev μ-loop : tie.MeasureT-loop
-μ-loop file at records₀ p₀ records p = records
+μ-loop file size at records₀ p₀ records p = records
 
 left-requires : tie.Need-left-requires Inv-loop μ-loop
 left-requires c κs = search needs

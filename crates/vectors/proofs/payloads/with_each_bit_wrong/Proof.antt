@@ -1,17 +1,23 @@
 -- `vectors::payloads::with_each_bit_wrong` is safe and ends: the measure is the number of bits that are left. Assumes nothing.
 use borrow.Author.Needs.{needs}
-use Prim.Native.Nat.{_-_}
+use Prim.Native.Nat.{_+_, _*_, _-_}
 use Rattle.vectors.proofs.payloads.with_each_bit_wrong.Statement.{statement}
 use Rattle.vectors.proofs.payloads.with_each_bit_wrong.Tie as tie
 
 abbrev Inv-loop : tie.InvT-loop
-Inv-loop eight tried₀ taken₀ bit₀ tried taken bit = Unit {0}
+Inv-loop whole size tried₀ taken₀ bit₀ tried taken bit = Unit {0}
 
 abbrev μ-loop : tie.MeasureT-loop
-μ-loop eight tried₀ taken₀ bit₀ tried taken bit = 64 - bit
+μ-loop whole size tried₀ taken₀ bit₀ tried taken bit = 8 * (size + 2) - bit
 
 loop-holds : tie.Need-loop-holds Inv-loop μ-loop
 loop-holds c = search needs
+
+add-loop : tie.Need-add-loop Inv-loop μ-loop
+add-loop c = search needs
+
+mul-loop : tie.Need-mul-loop Inv-loop μ-loop
+mul-loop c = search needs
 
 with-bit-wrong-requires : tie.Need-with-bit-wrong-requires Inv-loop μ-loop
 with-bit-wrong-requires c κs = search needs
@@ -19,11 +25,8 @@ with-bit-wrong-requires c κs = search needs
 count-requires : tie.Need-count-requires Inv-loop μ-loop
 count-requires c κs = search needs
 
-slice-aggregate-payload-right : tie.Need-slice-aggregate-payload-right Inv-loop μ-loop
-slice-aggregate-payload-right c = search needs
-
-payload-right-requires : tie.Need-payload-right-requires Inv-loop μ-loop
-payload-right-requires c κs = search needs
+right-requires : tie.Need-right-requires Inv-loop μ-loop
+right-requires c κs = search needs
 
 count-requires-2 : tie.Need-count-requires-2 Inv-loop μ-loop
 count-requires-2 c κs = search needs
@@ -47,10 +50,11 @@ with-each-bit-wrong-spec =
     Inv-loop
     μ-loop
     loop-holds
+    add-loop
+    mul-loop
     with-bit-wrong-requires
     count-requires
-    slice-aggregate-payload-right
-    payload-right-requires
+    right-requires
     count-requires-2
     add-bit
     loop-less

@@ -1,17 +1,17 @@
--- `writes::writes::change` meets its contract: a loop that makes six bytes anew.
+-- `writes::writes::change` meets its contract: a loop that makes so many bytes anew.
 -- Assumes nothing.
 use Prim.Native.Nat.{_-_}
 use native.Mathlib.Omega.{arith}
-use Rattle.writes.specs.Writes.{changed, byRules}
+use Rattle.writes.specs.Writes.{changed}
 use Rattle.records.proofs.Making.{Making, making-start, making-more, making-end}
 use Rattle.writes.proofs.writes.change.Statement.{statement}
 use Rattle.writes.proofs.writes.change.Tie as tie
 
 abbrev Inv-loop : tie.InvT-loop
-Inv-loop rec₀ rules sent at i₀ rec i = Making (changed rules sent) at 6 rec₀ rec i
+Inv-loop rec₀ rules sent size at i₀ rec i = Making (changed rules sent) at size rec₀ rec i
 
 abbrev μ-loop : tie.MeasureT-loop
-μ-loop rec₀ rules sent at i₀ rec i = 6 - i
+μ-loop rec₀ rules sent size at i₀ rec i = size - i
 
 loop-holds : tie.Need-loop-holds Inv-loop μ-loop
 loop-holds c = making-start _ _ _ _
@@ -26,7 +26,6 @@ same-length : tie.Need-same-length Inv-loop μ-loop
 same-length c = c .before .loop .inv .size
 
 returns : tie.Need-returns Inv-loop μ-loop
-unfolding byRules
 returns c = making-end _ _ _ _ (c .before .loop .inv) (c .loop-test .left)
 
 pub change-spec : {M : Type 1} → statement M

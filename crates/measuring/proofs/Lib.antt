@@ -1,0 +1,4 @@
+pub mod FourBits
+pub mod Measured
+pub mod Found
+pub mod Examples

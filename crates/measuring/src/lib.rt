@@ -1,0 +1,4 @@
+// One monitor's measurement in LPCM.
+mod measuring;
+
+pub use measuring::measure;
