@@ -26,10 +26,10 @@ use Rattle.judging.proofs.Keeps.{Keeps}
 use Rattle.judging.proofs.Decided.{is-accepted}
 
 -- a place is no refusal
-at-apart : (k : ℕ) (r : Refusal) → At k ≡ Nowhere r → ⊥
+pub at-apart : (k : ℕ) (r : Refusal) → At k ≡ Nowhere r → ⊥
 at-apart k r e = let z : _≡_ {A = ℕ} 0 1 = cc in omega arith
 
-at-same : {j k : ℕ} → At j ≡ At k → j ≡ k
+pub at-same : {j k : ℕ} → At j ≡ At k → j ≡ k
 at-same e = cc
 
 -- by the place: its refusal, or what is accepted there

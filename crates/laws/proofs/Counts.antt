@@ -13,6 +13,7 @@ use mir.Val.{boolByte}
 use Rattle.laws.specs.Counts.{all, count}
 use Rattle.laws.specs.Tables.{tabulate}
 use Rattle.laws.proofs.Rows.{Every}
+use Rattle.laws.proofs.Tests.{both-first, both-second}
 
 pub and-true : (b : Bool) → b && true ≡ b
 and-true true = refl
@@ -111,3 +112,21 @@ flag-counts false = refl
 pub flag-at-most-one : (b : Bool) → boolByte b ≤ 1
 flag-at-most-one true = lit≤ tt
 flag-at-most-one false = lit≤ tt
+
+-- all pass exactly where as many do as there are
+module _ {A : Type 0} (test : A → Bool) where
+  pub all-counted : (xs : List A) → all test xs ≡ true → count test xs ≡ length xs
+  unfolding all count
+  all-counted [] e = refl
+  all-counted (x ∷ xs) e =
+      ap₂ _+_ (ap (λ (b : Bool). cond b 1 0) (both-first (test x) (all test xs) e)) (all-counted xs (both-second (test x) (all test xs) e))
+      ∙ one-add (length xs)
+
+  pub counted-all : (xs : List A) → count test xs ≡ length xs → all test xs ≡ true
+  unfolding all count
+  counted-all [] e = refl
+  counted-all (x ∷ xs) e = by (test x) e (counted-all xs)
+    where
+      by : (b : Bool) → cond b 1 0 + count test xs ≡ suc (length xs) → (count test xs ≡ length xs → all test xs ≡ true) → b && all test xs ≡ true
+      by true h rest = rest (omega arith)
+      by false h rest = absurd (omega (arith, count-most test xs))

@@ -1,11 +1,11 @@
 -- What stands at each place of a table of a function's values: one law, where the table itself is compared whole.
 -- Assumes nothing.
 use mathlib.Core.Path.{_≡_, refl, sym, ap, _∙_}
-use mathlib.Core.List.{List, [], _∷_}
-use Prim.Native.Nat.{ℕ, zero, suc, _+_, _<_}
+use mathlib.Core.List.{List, [], _∷_, _++_}
+use Prim.Native.Nat.{ℕ, zero, suc, _+_, _≤_, _<_}
 use native.Mathlib.Nat.{add-zero, zero-add, add-suc, suc-add}
 use native.Mathlib.Omega.{arith}
-use lib.ListN.{length, getD}
+use lib.ListN.{length, getD, take, drop}
 use Rattle.laws.specs.Tables.{tabulate}
 
 pub length-tabulate : (f : ℕ → ℕ) (i n : ℕ) → length (tabulate f i n) ≡ n
@@ -35,3 +35,26 @@ own-table (x ∷ xs) = ap (λ (l : List ℕ). x ∷ l) (later (λ (i : ℕ). get
 
 pub rebuilt : (xs : List ℕ) (n : ℕ) → length xs ≡ n → tabulate (λ (i : ℕ). getD xs i 0) 0 n ≡ xs
 rebuilt xs n e = ap (tabulate (λ (i : ℕ). getD xs i 0) 0) (sym e) ∙ own-table xs
+
+-- ---- a table cut
+
+pub take-table : (f : ℕ → ℕ) (h i m : ℕ) → h ≤ m → take h (tabulate f i m) ≡ tabulate f i h
+unfolding tabulate
+take-table f zero i m l = refl
+take-table f (suc h) i zero l = absurd (omega arith)
+take-table f (suc h) i (suc m) l = ap (λ (xs : List ℕ). f i ∷ xs) (take-table f h (suc i) m (omega arith))
+
+-- something is left behind every place
+pub drop-table : (f : ℕ → ℕ) (h i m : ℕ) → h < m → drop h (tabulate f i m) ≡ f (i + h) ∷ drop (suc h) (tabulate f i m)
+unfolding tabulate
+drop-table f h i zero l = absurd (omega arith)
+drop-table f zero i (suc m) l = ap (λ (j : ℕ). f j ∷ tabulate f (suc i) m) (omega arith)
+drop-table f (suc h) i (suc m) l =
+    drop-table f h (suc i) m (omega arith) ∙ ap (λ (j : ℕ). f j ∷ drop (suc h) (tabulate f (suc i) m)) (omega arith)
+
+-- and with one more at its end
+pub table-snoc : (f : ℕ → ℕ) (i m : ℕ) → tabulate f i (suc m) ≡ tabulate f i m ++ f (i + m) ∷ []
+unfolding tabulate
+table-snoc f i zero = ap (λ (j : ℕ). f j ∷ []) (omega arith)
+table-snoc f i (suc m) =
+    ap (λ (ks : List ℕ). f i ∷ ks) (table-snoc f (suc i) m ∙ ap (λ (j : ℕ). tabulate f (suc i) m ++ f j ∷ []) (omega arith))

@@ -1,0 +1,12 @@
+pub mod Ways
+pub mod Struck
+pub mod Stopped
+pub mod Summed
+pub mod MetAlong
+pub mod Along
+pub mod Arrives
+pub mod AllMeasured
+pub mod Watched
+pub mod InTurn
+pub mod Untouched
+pub mod Examples
