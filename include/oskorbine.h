@@ -117,6 +117,47 @@ enum {
  */
 osk_answer osk_discharge(const uint8_t *table, size_t table_length, size_t position, uint8_t events, uint8_t phase, uint8_t *out, size_t out_length);
 
+/* ---- the heartbeat of LPCM: what passes from monitor to monitor while CMC_EN is set. Elementary, so that a message can be damaged on any hop: a
+ * manager wakes, a message reaches a monitor, the time runs out; and the whole of it in one call. No heartbeat is a frame: counters and bytes 69 stay.
+ * A monitor measures: for each of its cells that CMM_C does not leave out (bytes 2 and 3 of its configuration), by its thresholds and the code that the
+ * last measurement left: CUV (bit 0 of CMF0) below 16 x CUV codes, COV (bit 1) above 16 x COV, CDVN (bit 2) where it has fallen by more than 8 x CDV and
+ * CDVP (bit 3) where it has risen so. A cleared cell is the code -32768 like any other. A diagnostic that is pending in status C (byte 4 mask F0, byte 5
+ * mask D3) makes all eight flags. They join CMF0, where they stay until CLRCMFLAG, and the live cells, those left out too, become the last measurement. It
+ * passes where CMF0 is then 0. GPIOs are not measured.
+ * A message is eight bytes (see osk_verdict). Its counter bits are 0 when sent, and taken as they stand when it is checked */
+
+/* The ends of the chain: port A is monitor 1's, port B that of monitor N. */
+enum { OSK_PORT_A = 1, OSK_PORT_B = 2 };
+
+/* The monitor at a position, 1 to N, wakes. A manager (CMC_EN, and CMC_MAN: configuration byte 0, bit 7) measures and starts a heartbeat: its count is
+ * CMC_NDEV (byte 1) less one if it passes, else CMC_NDEV, in eight bits, its flags are CMF0, and it is sent towards port A where CMC_DIR (byte 4, bit 5) is
+ * set, else towards port B. The message goes to the start of `out`; bytes past it stay. At any other monitor nothing changes, nothing is sent, and `out` stays.
+ * First: OSK_PORT_A or OSK_PORT_B, the end it is sent towards, and 0 where nothing is sent. Second: 8 or 0.
+ * Refusals: 1, 7, 6 (`out` under eight, also where nothing would be sent).
+ */
+osk_answer osk_wake(uint8_t *table, size_t table_length, size_t position, uint8_t *out, size_t out_length);
+
+/* A message reaches the monitor at a position, 1 to N. One in LPCM that is no manager takes in a message that is right: it measures, counts one down (in
+ * eight bits) if it passes, joins its CMF0 to the flags, and sends on what it sealed anew, at the start of `out`; bytes past it stay. A timeout monitor
+ * (CMC_EN, and CMC_BTM: configuration byte 0, bit 3; a manager is none) takes its own step and sends nothing on: where that leaves count 42 hex and flags 00
+ * it clears bits 0 and 1 of CMF1, else it sets bit 0. A message that is not right, and any at a manager or at a monitor not in LPCM, is ignored: nothing
+ * changes. Where nothing is sent `out` stays.
+ * First: 1 where it is sent on, else 0. Second: 8 or 0. Refusals: 1, 7, 5 (a message of another length than eight), 6 (as osk_wake).
+ */
+osk_answer osk_relay(uint8_t *table, size_t table_length, size_t position, const uint8_t *message, size_t message_length, uint8_t *out, size_t out_length);
+
+/* A whole heartbeat: the manager at a position wakes, and its message goes from monitor to monitor, nearest to it first, until it leaves the chain or
+ * stops. The table and the message are those that osk_wake and osk_relay leave in turn (proved). What leaves the chain goes to the start of `out`, and bytes
+ * past it stay; where nothing does, all of `out` stays.
+ * First: the port it left at, and 0 where nothing left the chain. Second: 8 or 0. Refusals: 1, 7, 6 (as osk_wake).
+ */
+osk_answer osk_heartbeat(uint8_t *table, size_t table_length, size_t position, uint8_t *out, size_t out_length);
+
+/* The time runs out at the monitor in a position, 1 to N: a timeout monitor in LPCM sets bit 1 of CMF1, and at any other nothing changes.
+ * First: 1 where it is a timeout monitor in LPCM, else 0. Refusals: 1, 7.
+ */
+osk_answer osk_time_out(uint8_t *table, size_t table_length, size_t position);
+
 /* ---- the host */
 
 /* Builds the frame for a command and so many monitors at the start of `out`; bytes past it stay. The values are six bytes for each
@@ -138,8 +179,6 @@ enum { OSK_RIGHT = 1, OSK_DAMAGED = 2 };
  * First: OSK_RIGHT or OSK_DAMAGED. Refusals: 5.
  */
 osk_answer osk_check(const uint8_t *payload, size_t payload_length);
-
-enum { OSK_PORT_A = 1, OSK_PORT_B = 2 };
 
 /* The chain was read from both ends: port A's reply `a` has monitor 1 first, port B's `b` has monitor N first. Asked for the monitor at
  * a position: its eight bytes as they lie in one of the two, A's if their data PEC is right, otherwise B's if right.

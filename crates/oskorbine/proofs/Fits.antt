@@ -59,8 +59,14 @@ use Rattle.ports.specs.declared.ports.Port.{Port}
 use Rattle.ports.specs.declared.ports.Port.the-variants.{Refused as Unported, A, B}
 use Rattle.host.specs.Frames.{buildRefusals, built}
 use Rattle.messages.specs.declared.verdicts.Verdict.the-variants.{Refused as Unjudged, Passed, Failed, Damaged, TimedOut}
-use Rattle.messages.specs.Messages.{countIn, flagsIn, messageRight, isPass}
+use Rattle.messages.specs.Messages.{messageSize, countIn, flagsIn, messageRight, isPass}
 use Rattle.messages.specs.Verdicts.{verdictRefusals, verdictOf, verdict}
+use Rattle.passing.specs.declared.operations.Sent.{Sent}
+use Rattle.passing.specs.declared.operations.Sent.the-variants.{Unsent, Nothing as None, TowardsA, TowardsB}
+use Rattle.passing.specs.declared.operations.Relayed.{Relayed}
+use Rattle.passing.specs.declared.operations.Relayed.the-variants.{Unrelayed, Stopped, SentOn}
+use Rattle.passing.specs.declared.operations.TimedOut.{TimedOut as Timed}
+use Rattle.passing.specs.declared.operations.TimedOut.the-variants.{Untimed, NoTimeoutMonitor, RanOut}
 use Rattle.ports.specs.Ports.{placeA, placeB, portOf}
 use Rattle.ports.proofs.TwoPorts.{only-a, only-b}
 use Rattle.readings.specs.declared.pack_summary.Pack.{Pack}
@@ -68,7 +74,7 @@ use Rattle.readings.specs.declared.pack_summary.Pack.the-variants.{Refused as U
 use Rattle.readings.specs.Readings.{mostCodes, measured, wholeOf, summaryOf}
 use Rattle.readings.proofs.Sizes.{cells-at-most-codes}
 use Rattle.readings.proofs.Summaries.{cellsOf}
-use Rattle.oskorbine.specs.Packed.{Fit, refused, accepted, frameParts, loadParts, dischargedParts, builtParts, checkedParts, portParts, verdictParts, lookedParts}
+use Rattle.oskorbine.specs.Packed.{Fit, refused, accepted, frameParts, loadParts, dischargedParts, sentParts, relayedParts, timedParts, builtParts, checkedParts, portParts, verdictParts, lookedParts}
 use Rattle.oskorbine.specs.Volts.{roomRow, summaryParts}
 
 -- ---- of any answer
@@ -136,6 +142,24 @@ release-fits s table =
 pub load-fits : (l : Loaded) → Fit (loadParts l)
 load-fits (Unloaded r) = refused-fits r
 load-fits Done = accepted-fits 0 0 (omega arith) (omega arith)
+
+-- ---- a heartbeat
+
+pub sent-fits : (s : Sent) → Fit (sentParts s)
+sent-fits (Unsent r) = refused-fits r
+sent-fits None = accepted-fits 0 0 (omega arith) (omega arith)
+sent-fits TowardsA = accepted-fits 1 messageSize (omega arith) (omega arith)
+sent-fits TowardsB = accepted-fits 2 messageSize (omega arith) (omega arith)
+
+pub relayed-fits : (m : Relayed) → Fit (relayedParts m)
+relayed-fits (Unrelayed r) = refused-fits r
+relayed-fits Stopped = accepted-fits 0 0 (omega arith) (omega arith)
+relayed-fits SentOn = accepted-fits 1 messageSize (omega arith) (omega arith)
+
+pub timed-fits : (t : Timed) → Fit (timedParts t)
+timed-fits (Untimed r) = refused-fits r
+timed-fits NoTimeoutMonitor = accepted-fits 0 0 (omega arith) (omega arith)
+timed-fits RanOut = accepted-fits 1 0 (omega arith) (omega arith)
 
 -- ---- the host
 

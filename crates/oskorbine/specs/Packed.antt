@@ -26,6 +26,13 @@ use Rattle.ports.specs.declared.ports.Port.the-variants.{Refused as Unported, A
 use Rattle.ports.specs.Ports.{placeA, placeB}
 use Rattle.messages.specs.declared.verdicts.Verdict.{Verdict}
 use Rattle.messages.specs.declared.verdicts.Verdict.the-variants.{Refused as Unjudged, Passed, Failed, Damaged, TimedOut}
+use Rattle.messages.specs.Messages.{messageSize}
+use Rattle.passing.specs.declared.operations.Sent.{Sent}
+use Rattle.passing.specs.declared.operations.Sent.the-variants.{Unsent, Nothing, TowardsA, TowardsB}
+use Rattle.passing.specs.declared.operations.Relayed.{Relayed}
+use Rattle.passing.specs.declared.operations.Relayed.the-variants.{Unrelayed, Stopped, SentOn}
+use Rattle.passing.specs.declared.operations.TimedOut.{TimedOut as Timed}
+use Rattle.passing.specs.declared.operations.TimedOut.the-variants.{Untimed, NoTimeoutMonitor, RanOut}
 
 -- ---- the packing
 
@@ -70,6 +77,25 @@ loadParts l = record { number = loadNumber l; first = 0; second = 0 }
 abbrev pub dischargedParts : Discharged → Parts
 dischargedParts (Unasked r) = refused r
 dischargedParts (On outputs) = accepted outputs 0
+
+-- a manager that wakes, and a whole heartbeat: 1 where a message is sent towards port A, or left there, 2 where port B, and the bytes of the message
+abbrev pub sentParts : Sent → Parts
+sentParts (Unsent r) = refused r
+sentParts Nothing = accepted 0 0
+sentParts TowardsA = accepted 1 messageSize
+sentParts TowardsB = accepted 2 messageSize
+
+-- a message that reaches a monitor: 1 where it is sent on, and its bytes
+abbrev pub relayedParts : Relayed → Parts
+relayedParts (Unrelayed r) = refused r
+relayedParts Stopped = accepted 0 0
+relayedParts SentOn = accepted 1 messageSize
+
+-- the time that runs out: 1 where it does so at a timeout monitor in LPCM
+abbrev pub timedParts : Timed → Parts
+timedParts (Untimed r) = refused r
+timedParts NoTimeoutMonitor = accepted 0 0
+timedParts RanOut = accepted 1 0
 
 -- a host's frame: its length
 abbrev pub builtParts : Built → Parts

@@ -1,5 +1,6 @@
 // The surface for C: numbers and slices only, and nothing decided here. A slice is a pointer and a length; an answer is a u32 that
 // holds the refusal number and two values (specs/Packed).
+mod beats;
 mod cells;
 mod clocks;
 mod discharges;
@@ -9,6 +10,10 @@ mod packing;
 mod verdicts;
 mod volts;
 
+pub use beats::osk_heartbeat;
+pub use beats::osk_relay;
+pub use beats::osk_time_out;
+pub use beats::osk_wake;
 pub use cells::osk_compare;
 pub use cells::osk_load;
 pub use cells::osk_store;
