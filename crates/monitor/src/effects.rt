@@ -1,54 +1,23 @@
-// What one monitor keeps of an accepted command and its own bytes.
+// What a bare command does to one monitor's record.
 ghost use mathlib.Core.Path.{_≡_};
-ghost use mathlib.Core.Bool.{cond, _&&_};
+ghost use mathlib.Core.Bool.{cond};
 ghost use lib.Bits.{bitAnd};
 ghost use lib.ListN.{length, getD, set};
 ghost use Prim.Native.Nat.{_+_, _≤_};
 ghost use Rattle.records.specs.Record.{cells, statusBits, lastCells, recordSize, bytesOf, anew, isRecord};
-ghost use Rattle.monitor.specs.Effects.{locked, nextCount, counted, cellsTo, done, goodFor, accepts, takes, keeps};
+ghost use Rattle.monitor.specs.Effects.{cellsTo, done};
 use records::Bare;
 use records::CELLS;
 use records::CELLS_SIZE;
 use records::CMF1;
 use records::COUNTER;
-use records::Command;
 use records::LAST_CELLS;
 use records::RECORD_SIZE;
 use records::SNAPSHOT;
 use records::STATUS_BITS;
 use records::UNLOCKED;
-use records::Write;
-use records::data_size;
 use records::in_lpcm;
 use records::is_snapped;
-use records::width_of;
-use writes::needs_check;
-use writes::write;
-
-fn lock(rec: &mut [u8])
-    requires { ⌜ length (now rec) ≡ recordSize ⌝ }
-    ensures { λ _. ⌜ now (rec .exit) ≡ locked (now (rec .entry)) ⌝ }
-{
-    rec[UNLOCKED] = 0;
-}
-
-// After 63 comes 1. A counter above 63 is in no sound record.
-fn next_count(n: u8) -> u8
-    ensures { λ r. ⌜ r ≡ nextCount n ⌝ }
-{
-    if n < 63 { n + 1 } else { 1 }
-}
-
-// Locked, and counted where it is taken: so begins every command that is no read.
-fn begin(rec: &mut [u8], taken: bool)
-    requires { ⌜ length (now rec) ≡ recordSize ⌝ }
-    ensures { λ _. ⌜ now (rec .exit) ≡ cond taken (counted (locked (now (rec .entry)))) (locked (now (rec .entry))) ⌝ }
-{
-    lock(rec);
-    if taken {
-        rec[COUNTER] = next_count(rec[COUNTER]);
-    }
-}
 
 // The code -32768 in every cell, low byte first.
 fn clear_cells(rec: &mut [u8])
@@ -126,12 +95,11 @@ pub fn remember(rec: &mut [u8])
     }
 }
 
-// A bare command at one monitor: counted and done.
-fn act_bare(what: Bare, rec: &mut [u8])
+// What a bare command does beyond what every command does, command by command.
+fn do_bare(what: Bare, rec: &mut [u8])
     requires { ⌜ length (now rec) ≡ recordSize ⌝ }
-    ensures { λ _. ⌜ now (rec .exit) ≡ done what (counted (locked (now (rec .entry)))) ⌝ }
+    ensures { λ _. ⌜ now (rec .exit) ≡ done what (now (rec .entry)) ⌝ }
 {
-    begin(rec, true);
     match what {
         Bare::Mute => rec[STATUS_BITS] = rec[STATUS_BITS] | 0x10,
         Bare::Unmute => rec[STATUS_BITS] = rec[STATUS_BITS] & 0xef,
@@ -145,64 +113,11 @@ fn act_bare(what: Bare, rec: &mut [u8])
     }
 }
 
-// Are a monitor's own bytes good for a write: right, or, where it does not need its check right, whatever bytes they are, if as many?
-fn good_for(what: Write, own: &[u8]) -> bool
-    ensures { λ r. ⌜ r ≡ goodFor what (now (own .entry)) ⌝ }
+// The same, of a slice of any length: one that is no record stays as it is.
+pub fn carry_out(what: Bare, rec: &mut [u8])
+    ensures { λ _. ⌜ now (rec .exit) ≡ cond (isRecord (now (rec .entry))) (done what (now (rec .entry))) (now (rec .entry)) ⌝ }
 {
-    if needs_check(what) {
-        if data_size(what) == 6 {
-            return check_words::number_right(check_words::number_in(own));
-        }
-        return check_words::four_right(own);
-    }
-    own.len() == width_of(Command::Writes(what))
-}
-
-// Does a monitor accept a write: are its own bytes good for it, and is it not in LPCM?
-fn accepts(what: Write, rec: &[u8], own: &[u8]) -> bool
-    ensures { λ r. ⌜ r ≡ accepts what (now (own .entry)) (now (rec .entry)) ⌝ }
-{
-    let asleep = in_lpcm(rec);
-    if asleep {
-        return false;
-    }
-    good_for(what, own)
-}
-
-// A write at one monitor: counted and done where it accepts it.
-fn act_write(what: Write, rec: &mut [u8], own: &[u8]) -> bool
-    requires { ⌜ length (now rec) ≡ recordSize ⌝ }
-    ensures { λ took. ⌜ took ≡ takes (Command.Writes what) (now (own .entry)) (now (rec .entry)) ⌝ }
-    ensures { λ _. ⌜ now (rec .exit) ≡ keeps (Command.Writes what) (now (own .entry)) (now (rec .entry)) ⌝ }
-{
-    let was = rec[UNLOCKED];
-    let took = accepts(what, rec, own);
-    begin(rec, took);
-    if took {
-        write(what, was, rec, own);
-    }
-    took
-}
-
-// What one monitor does with an accepted command: its record changes as the rules say, and the answer is whether it took
-// the command. A slice that is no record stays as it is, and the answer is false.
-pub fn act(command: Command, rec: &mut [u8], own: &[u8]) -> bool
-    ensures { λ took. ⌜ took ≡ (isRecord (now (rec .entry)) && takes command (now (own .entry)) (now (rec .entry))) ⌝ }
-    ensures { λ _. ⌜ now (rec .exit) ≡ cond (isRecord (now (rec .entry))) (keeps command (now (own .entry)) (now (rec .entry))) (now (rec .entry)) ⌝ }
-{
-    if rec.len() != RECORD_SIZE {
-        return false;
-    }
-    match command {
-        Command::Reads(_) => {
-            lock(rec);
-            true
-        }
-        Command::Writes(what) => act_write(what, rec, own),
-        Command::Bares(what) => {
-            act_bare(what, rec);
-            true
-        }
-        Command::Unlisted => false,
+    if rec.len() == RECORD_SIZE {
+        do_bare(what, rec);
     }
 }

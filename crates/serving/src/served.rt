@@ -28,7 +28,7 @@ fn act_at(table: &mut [u8], command: Command, k: usize, own: &[u8]) -> bool
     }
     let at = k * RECORD_SIZE;
     let end = at + RECORD_SIZE;
-    monitor::act(command, &mut table[at..end], own)
+    acting::act(command, &mut table[at..end], own)
 }
 
 // The own bytes of the monitor at k, counted from 0, so many for each; nothing in a bare frame.

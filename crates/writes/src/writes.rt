@@ -1,12 +1,6 @@
-// Whether a write needs its check right, and what a taken write does to its bytes of a record.
+// Which write needs its check right, and what a taken write does to its bytes of a record, as rules.
 ghost use mathlib.Core.Path.{_≡_};
-ghost use mathlib.Core.Bool.{cond, _&&_};
-ghost use Prim.Native.Nat.{_+_, _%_, _<_, _≤_};
-ghost use lib.Dec.{leb};
-ghost use lib.ListN.{length, getD};
-ghost use Rattle.records.specs.Record.{isRecord, anew};
-ghost use Rattle.records.specs.Commands.{dataSize};
-ghost use Rattle.writes.specs.Writes.{rulesOf, storesWhole, changed, opens, written};
+ghost use Rattle.writes.specs.Writes.{rulesOf, storesWhole};
 use records::CONFIGURATION_A;
 use records::CONFIGURATION_B;
 use records::LPCM_CELL_THRESHOLDS;
@@ -15,12 +9,10 @@ use records::LPCM_FLAGS;
 use records::LPCM_GPIO_THRESHOLDS;
 use records::PWM_A;
 use records::PWM_B;
-use records::RECORD_SIZE;
 use records::RETENTION;
 use records::STATUS_C;
 use records::STATUS_D;
 use records::Write;
-use records::data_size;
 
 // Whether a write is taken only with its data check right, where its data bytes go, and what it does to each bit there, by masks of which as
 // many bytes count as it has data: stored bits become as sent, kept bits stay as they were, but for those that are clearable and sent as 1, ones become 1; every other bit
@@ -42,7 +34,7 @@ const NONE: [u8; 6] = [0; 6];
 // The bits of an LPCM threshold register that are there: three thresholds of 12 bits.
 const THRESHOLDS: [u8; 6] = [0xff, 0xff, 0xff, 0xff, 0x0f, 0];
 
-fn rules_of(what: Write) -> Rules
+pub fn rules_of(what: Write) -> Rules
     ensures { λ r. ⌜ r ≡ rulesOf what ⌝ }
 {
     match what {
@@ -156,44 +148,8 @@ pub fn needs_check(what: Write) -> bool
     its.needs_check
 }
 
-// One of a write's bytes by its rules, from what was sent and what it was.
-fn changed_byte(rules: Rules, sent: &[u8], i: usize, old: u8) -> u8
-    requires { ⌜ (i < 6) × (i < length (now sent)) ⌝ }
-    ensures { λ r. ⌜ r ≡ changed rules (now (sent .entry)) i old ⌝ }
-{
-    let byte = sent[i];
-    ((byte & rules.stored[i]) | (old & (rules.kept[i] & !(byte & rules.clearable[i]))))
-        | rules.ones[i]
-}
-
-// So many bytes, which a write changes by its rules.
-fn change(rec: &mut [u8], rules: Rules, sent: &[u8], size: usize)
-    requires { ⌜ (size ≤ 6) × (rules .at + size ≤ length (now rec)) × (size ≤ length (now sent)) ⌝ }
-    ensures { λ _. ⌜ now (rec .exit) ≡ anew (changed rules (now (sent .entry))) (rules .at) size (now (rec .entry)) ⌝ }
-{
-    let at = rules.at;
-    let mut i = 0;
-    while i < size {
-        let place = at + i;
-        rec[place] = changed_byte(rules, sent, i, rec[place]);
-        i += 1;
-    }
-}
-
-// The same where six become as sent: they are copied.
-fn store(rec: &mut [u8], at: usize, sent: &[u8])
-    requires { ⌜ (at + 6 ≤ length (now rec)) × (6 ≤ length (now sent)) ⌝ }
-    ensures { λ _. ⌜ now (rec .exit) ≡ anew (λ i old. getD (now (sent .entry)) i 0 % 256) at 6 (now (rec .entry)) ⌝ }
-{
-    let mut i = 0;
-    while i < 6 {
-        rec[at + i] = sent[i];
-        i += 1;
-    }
-}
-
 // Does a write store six as they are sent?
-fn stores_whole(what: Write) -> bool
+pub fn stores_whole(what: Write) -> bool
     ensures { λ r. ⌜ r ≡ storesWhole what ⌝ }
 {
     match what {
@@ -208,35 +164,5 @@ fn stores_whole(what: Write) -> bool
         Write::Wrcmcellt => false,
         Write::Wrcmgpiot => false,
         Write::Clrcmflag => false,
-    }
-}
-
-// Does a write change something, by the retention byte before the command?
-fn opens_by(rules: Rules, was: u8) -> bool
-    ensures { λ r. ⌜ r ≡ opens rules was ⌝ }
-{
-    let only = rules.only_unlocked;
-    if only { was == 1 } else { true }
-}
-
-// A taken write of the data bytes that were sent first. A slice that is no record stays as it is, and so does a record where fewer
-// were sent than the write has.
-pub fn write(what: Write, was: u8, rec: &mut [u8], sent: &[u8])
-    ensures { λ _. ⌜ now (rec .exit) ≡ cond (isRecord (now (rec .entry)) && leb (dataSize what) (length (now (sent .entry)))) (written what was (now (sent .entry)) (now (rec .entry))) (now (rec .entry)) ⌝ }
-{
-    if rec.len() != RECORD_SIZE {
-        return;
-    }
-    let size = data_size(what);
-    if sent.len() < size {
-        return;
-    }
-    let rules = rules_of(what);
-    if opens_by(rules, was) {
-        if stores_whole(what) {
-            store(rec, rules.at, sent);
-        } else {
-            change(rec, rules, sent, size);
-        }
     }
 }
