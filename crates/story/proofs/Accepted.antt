@@ -178,10 +178,10 @@ module _ (rows : List Row) (table : List ℕ) (position : ℕ) (f : List ℕ →
   is-changed : after ≡ changedAt (position - 1) f table
   is-changed = passes rows (λ r. table) (changedAt (position - 1) f table) none
 
-  own : rowAt recordSize (position - 1) after ≡ f (rowAt recordSize (position - 1) table)
+  pub own : rowAt recordSize (position - 1) after ≡ f (rowAt recordSize (position - 1) table)
   own = ap (rowAt recordSize (position - 1)) is-changed ∙ changed-record (position - 1) f as-long table (fits table position place)
 
-  others : (j : ℕ) → j < monitors table → (j ≡ position - 1 → ⊥) → rowAt recordSize j after ≡ rowAt recordSize j table
+  pub others : (j : ℕ) → j < monitors table → (j ≡ position - 1 → ⊥) → rowAt recordSize j after ≡ rowAt recordSize j table
   others j h apart =
       ap (rowAt recordSize j) is-changed
       ∙ other-record (position - 1) f as-long (monitors table) table (there table position place) (is-sound table (place .its-sound) .whole) j h apart

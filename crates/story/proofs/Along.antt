@@ -1,11 +1,11 @@
 -- Along a run by the rules. The table stays as sound as it was, with its monitors, so that what is accepted of a frame stays accepted. What every
--- command but one, a store and a compare do to a record, a run without that command does to each monitor's. And what is seen at a place of a run is
+-- command but one and every operation do to a record, a run without that command does to each monitor's. And what is seen at a place of a run is
 -- what the event there shows of the table that the events before it leave.
 -- Assumes nothing.
 use mathlib.Core.Path.{_≡_, refl, sym, ap, ap₂, _∙_, subst, subst⁻¹}
 use mathlib.Core.Bool.{Bool, true, false, not}
 use mathlib.Core.List.{List, [], _∷_, _++_}
-use Prim.Native.Nat.{ℕ, _-_, _<_}
+use Prim.Native.Nat.{ℕ, _-_, _*_, _<_}
 use native.Mathlib.Omega.{arith}
 use lib.Dec.{eqb, ltb}
 use lib.IntN.{ℤ}
@@ -13,8 +13,10 @@ use lib.ListN.{length, take}
 use lib.Seq.{take-at}
 use borrow.Author.Tests.{le-ltb, eqb-true, eqb-false}
 use Rattle.laws.specs.Rows.{rowAt}
+use Rattle.laws.proofs.Rows.{row-fits}
+use Rattle.refusals.specs.declared.Refusal.{Refusal}
 use Rattle.refusals.specs.declared.Refusal.the-variants.{TableNotSound}
-use Rattle.refusals.specs.Order.{_gives_, Passed}
+use Rattle.refusals.specs.Order.{Row, _gives_, decide, Passed}
 use Rattle.refusals.proofs.Deciding.{passes}
 use Rattle.records.specs.declared.commands.Bare.{Bare}
 use Rattle.records.specs.declared.commands.Command.{Command}
@@ -30,7 +32,7 @@ use Rattle.judging.specs.Refusals.{commandIn, shortRow, commandRow, listedRow, 
 use Rattle.judging.proofs.Changed.{changed-record, other-record}
 use Rattle.judging.proofs.Decided.{by-passing}
 use Rattle.judging.proofs.Keeps.{Keeps}
-use Rattle.judging.proofs.Place.{Place, there, fits}
+use Rattle.judging.proofs.Place.{Place, there}
 use Rattle.judging.proofs.Soundness.{is-sound}
 use Rattle.serving.specs.Served.{kept}
 use Rattle.serving.proofs.OwnRecord.{own-record}
@@ -39,24 +41,26 @@ use Rattle.chain.specs.Frame.{frameRefusals, tableAfter}
 use Rattle.chain.proofs.FrameKeeps.{frame-keeps}
 use Rattle.cells.specs.Cells.{store, compare}
 use Rattle.cells.proofs.Loaded.{length-store, length-compare}
-use Rattle.loads.specs.Load.{storeRefusals, tableAfterStore, compareRefusals, tableAfterCompare}
-use Rattle.loads.proofs.Keeps.{store-keeps, compare-keeps}
+use Rattle.loads.specs.Load.{storeRefusals, compareRefusals}
 use Rattle.loads.proofs.Place.{compare-place, store-place}
-use Rattle.story.specs.Runs.{Event, Frame, Store, Compare, Step, ruleRefusals, replies, obeyed, ruled, byRules}
+use Rattle.heartbeats.specs.Steps.{towardsA, woken, reached, late}
+use Rattle.heartbeats.proofs.Kept.{length-woken, length-reached, length-late}
+use Rattle.passing.specs.Hops.{wakeLeaves, hopSends, hopLeaves, leftAlong, wayFrom, beatLeaves}
+use Rattle.passing.specs.Operations.{wakeRefusals, relayRefusals, timeOutRefusals}
+use Rattle.passing.proofs.Silent.{wake-keeps, hop-keeps, Within, way-within}
+use Rattle.story.specs.Runs.{Operation, Store, Compare, Wake, Relay, Heartbeat, TimeOut, Event, Frame, Beside, Seen, Step, ruleRefusals, replies, obeyed, operated, ruled, byRules}
 use Rattle.story.specs.Snapshots.{Is, Without, replyOf, replyAt, shownAt}
 use Rattle.story.proofs.Accepted.{frame-whole, frame-right, record-at}
 use Rattle.story.proofs.OurHost.{length-register}
-use Rattle.story.proofs.Runs.{frame-step, store-step, compare-step, full, has-room}
+use Rattle.story.proofs.Operations.{stepTo, operation-keeps, wake-placed, relay-placed, time-placed}
+use Rattle.story.proofs.Runs.{frame-step, full, has-room}
 
 -- ---- the table stays sound, with its monitors
 
 pub step-keeps : (table : List ℕ) (event : Event) → sound table ≡ true → Keeps table (ruled table event .table)
 step-keeps table (Frame frame) s =
     subst (Keeps table) (ap (λ (step : Step). step .table) (frame-step table frame (full table) (has-room table))) (frame-keeps table frame (length (full table)) s)
-step-keeps table (Store position codes) s =
-    subst (Keeps table) (ap (λ (step : Step). step .table) (store-step table position codes)) (store-keeps table position s codes)
-step-keeps table (Compare position) s =
-    subst (Keeps table) (ap (λ (step : Step). step .table) (compare-step table position)) (compare-keeps table position s)
+step-keeps table (Beside operation) s = operation-keeps table operation s
 
 pub rules-keep : (table : List ℕ) (events : List Event) → sound table ≡ true → Keeps table (byRules table events .table)
 unfolding byRules
@@ -111,27 +115,71 @@ read-shows table frame p passed its k h =
 
 module _ (c : Bare) (R : List ℕ → List ℕ → Type 0) (still : (r : List ℕ) → R r r) (then : (r s t : List ℕ) → R r s → R s t → R r t)
     (by-command : (x : Command) → (x ≡ Bares c → ⊥) → (eight r : List ℕ) → length r ≡ recordSize → R r (keeps x eight r))
-    (by-store : (codes : List ℤ) (r : List ℕ) → R r (store codes r)) (by-compare : (r : List ℕ) → R r (compare r)) where
+    (by-store : (codes : List ℤ) (r : List ℕ) → R r (store codes r)) (by-compare : (r : List ℕ) → R r (compare r)) (by-waking : (r : List ℕ) → R r (woken r))
+    (by-reaching : (message r : List ℕ) → R r (reached message r)) (by-time : (r : List ℕ) → R r (late r)) where
   -- the monitor at k of a table, and of what becomes of it
   abbrev At : ℕ → List ℕ → List ℕ → Type 0
   At k table after = R (rowAt recordSize k table) (rowAt recordSize k after)
 
   -- one record made anew
-  changed : (f : List ℕ → List ℕ) → ((r : List ℕ) → length (f r) ≡ length r) → ((r : List ℕ) → R r (f r)) → (table : List ℕ) (position : ℕ) → Place table position
-      → (k : ℕ) → k < monitors table → At k table (changedAt (position - 1) f table)
-  changed f as-long own table position place k h = by (eqb k (position - 1)) refl
+  changed : (f : List ℕ → List ℕ) → ((r : List ℕ) → length (f r) ≡ length r) → ((r : List ℕ) → R r (f r)) → (table : List ℕ) → sound table ≡ true
+      → (j : ℕ) → j < monitors table → (k : ℕ) → k < monitors table → At k table (changedAt j f table)
+  changed f as-long own table s j its-place k h = by (eqb k j) refl
     where
-      by : (same : Bool) → eqb k (position - 1) ≡ same → At k table (changedAt (position - 1) f table)
+      whole : length table ≡ monitors table * recordSize
+      whole = is-sound table s .whole
+
+      by : (same : Bool) → eqb k j ≡ same → At k table (changedAt j f table)
       by true e =
-          subst⁻¹ (λ (j : ℕ). At j table (changedAt (position - 1) f table)) (eqb-true k (position - 1) e)
-          (subst⁻¹ (R (rowAt recordSize (position - 1) table)) (changed-record (position - 1) f as-long table (fits table position place)) (own (rowAt recordSize (position - 1) table)))
+          subst⁻¹ (λ (i : ℕ). At i table (changedAt j f table)) (eqb-true k j e)
+          (subst⁻¹ (R (rowAt recordSize j table)) (changed-record j f as-long table (row-fits recordSize its-place (omega (arith, whole)))) (own (rowAt recordSize j table)))
       by false e =
-          subst⁻¹ (R (rowAt recordSize k table))
-          (other-record (position - 1) f as-long (monitors table) table (there table position place) (is-sound table (place .its-sound) .whole) k h (eqb-false k (position - 1) e))
-          (still (rowAt recordSize k table))
+          subst⁻¹ (R (rowAt recordSize k table)) (other-record j f as-long (monitors table) table its-place whole k h (eqb-false k j e)) (still (rowAt recordSize k table))
+
+  -- bytes that go from monitor to monitor
+  along-way : (n : ℕ) (js bytes table : List ℕ) → sound table ≡ true → monitors table ≡ n → Within n js → (k : ℕ) → k < n → At k table (leftAlong js bytes table)
+  unfolding leftAlong hopLeaves
+  along-way n [] bytes table s e in-it k h = still (rowAt recordSize k table)
+  along-way n (j ∷ js) bytes table s e in-it k h =
+      let here = subst⁻¹ (λ (m : ℕ). j < m) e (in-it .0) in
+      let kept = hop-keeps j table s here bytes in
+      then _ _ _ (changed (reached bytes) (λ r. length-reached r bytes) (by-reaching bytes) table s j here k (subst⁻¹ (λ (m : ℕ). k < m) e h))
+      (along-way n js (hopSends j bytes table) (hopLeaves j bytes table) (kept .sound-after) (kept .monitors-after ∙ e) (in-it .1) k h)
+
+  one-operation : (table : List ℕ) (operation : Operation) → sound table ≡ true → (k : ℕ) → k < monitors table → At k table (ruled table (Beside operation) .table)
+  unfolding ruled operated wakeLeaves hopLeaves beatLeaves
+  one-operation table operation s k h = by operation
+    where
+      -- a refusal changes nothing, and what is done is done at its place
+      done : (rows : List Row) (refused : Refusal → Seen) (after : Step) → (Passed rows → At k table (after .table))
+          → At k table (decide rows (λ r. stepTo table (refused r)) after .table)
+      done rows refused after each = by-passing (λ step. At k table (step .table)) rows (λ r. stepTo table (refused r)) after (λ r. still (rowAt recordSize k table)) each
+
+      its : (f : List ℕ → List ℕ) → ((r : List ℕ) → length (f r) ≡ length r) → ((r : List ℕ) → R r (f r)) → (position : ℕ) → Place table position
+          → At k table (changedAt (position - 1) f table)
+      its f as-long own position place = changed f as-long own table s (position - 1) (there table position place) k h
+
+      by : (operation : Operation) → At k table (operated table operation .table)
+      by (Store position codes) =
+          done (storeRefusals table position codes) _ _ (λ none. its (store codes) (length-store codes) (by-store codes) position (store-place table position codes none))
+      by (Compare position) = done (compareRefusals table position) _ _ (λ none. its compare length-compare by-compare position (compare-place table position none))
+      by (Wake position out) =
+          done (wakeRefusals table position (length out)) _ _ (λ none. its woken length-woken by-waking position (wake-placed table position (length out) none))
+      by (Relay position message out) =
+          done (relayRefusals table position (length message) (length out)) _ _
+          (λ none. its (reached message) (λ r. length-reached r message) (by-reaching message) position (relay-placed table position (length message) (length out) none))
+      by (Heartbeat position out) =
+          done (wakeRefusals table position (length out)) _ _
+          (λ none.
+          let place = wake-placed table position (length out) none in
+          let first = wake-keeps (position - 1) table s (there table position place) in
+          then _ _ _ (its woken length-woken by-waking position place)
+          (along-way (monitors table) (wayFrom (position - 1) table) _ (wakeLeaves (position - 1) table) (first .sound-after) (first .monitors-after)
+          (way-within (towardsA (rowAt recordSize (position - 1) table)) (monitors table) (position - 1) (there table position place)) k h))
+      by (TimeOut position) = done (timeOutRefusals table position) _ _ (λ none. its late length-late by-time position (time-placed table position none))
 
   one-event : (table : List ℕ) (event : Event) → (Is c event → ⊥) → sound table ≡ true → (k : ℕ) → k < monitors table → At k table (ruled table event .table)
-  unfolding tableAfter tableAfterStore tableAfterCompare
+  unfolding tableAfter
   one-event table (Frame frame) other s k h =
       subst (At k table) (ap (λ (step : Step). step .table) (frame-step table frame (full table) (has-room table)))
       (by-passing (At k table) (frameRefusals table frame (length (full table))) (λ r. table) (kept (commandIn frame) (monitors table) table frame)
@@ -140,14 +188,7 @@ module _ (c : Bare) (R : List ℕ → List ℕ → Type 0) (still : (r : List �
       subst⁻¹ (R (rowAt recordSize k table)) (own-record (commandIn frame) (monitors table) table frame k h (sym (is-sound table s .whole)))
       (by-command (commandIn frame) (λ its. other (frame-whole table frame (length (full table)) none its, (frame-right table frame (length (full table)) none, its)))
       _ (rowAt recordSize k table) (record-at table frame (length (full table)) none k h))))
-  one-event table (Store position codes) other s k h =
-      subst (At k table) (ap (λ (step : Step). step .table) (store-step table position codes))
-      (by-passing (At k table) (storeRefusals table position codes) (λ r. table) (changedAt (position - 1) (store codes) table) (λ r. still (rowAt recordSize k table))
-      (λ none. changed (store codes) (length-store codes) (by-store codes) table position (store-place table position codes none) k h))
-  one-event table (Compare position) other s k h =
-      subst (At k table) (ap (λ (step : Step). step .table) (compare-step table position))
-      (by-passing (At k table) (compareRefusals table position) (λ r. table) (changedAt (position - 1) compare table) (λ r. still (rowAt recordSize k table))
-      (λ none. changed compare length-compare by-compare table position (compare-place table position none) k h))
+  one-event table (Beside operation) other s k h = one-operation table operation s k h
 
   pub along-run : (table : List ℕ) (events : List Event) → Without c events → sound table ≡ true → (k : ℕ) → k < monitors table → At k table (byRules table events .table)
   unfolding byRules

@@ -25,8 +25,10 @@ use Rattle.records.specs.declared.commands.Write.{Write}
 use Rattle.records.specs.declared.commands.Bare.{Bare}
 use Rattle.records.proofs as records
 use Rattle.writes.proofs as writes
+use Rattle.writing.proofs as writing
 use Rattle.reads.proofs as reads
 use Rattle.monitor.proofs as monitor
+use Rattle.acting.proofs as acting
 use Rattle.chain.specs.declared.frames.Answer.the-variants.{Refused}
 use Rattle.judging.specs.Refusals.{roomRow}
 use Rattle.chain.specs.Frame.{frameRefusals, answer, tableAfter, replyAfter}
@@ -46,6 +48,11 @@ use Rattle.thresholds.proofs as thresholds
 use Rattle.cells.proofs as cells
 use Rattle.measuring.proofs as measuring
 use Rattle.heartbeats.proofs as heartbeats
+use Rattle.passing.specs.declared.operations.Sent.the-variants.{Unsent}
+use Rattle.passing.specs.declared.operations.Relayed.the-variants.{Unrelayed}
+use Rattle.passing.specs.declared.operations.TimedOut.the-variants.{Untimed}
+use Rattle.passing.specs.Operations.{wakeRefusals, wokenAt, tableAfterWake, outAfterWake, relayRefusals, relayedAt, tableAfterRelay, outAfterRelay, beaten, tableAfterBeat, outAfterBeat, timeOutRefusals, timedOut, tableAfterTimeOut}
+use Rattle.passing.proofs as passing
 use Rattle.loads.proofs as loads
 use Rattle.priorities.proofs as priorities
 use Rattle.discharge.proofs as discharge
@@ -73,10 +80,10 @@ use Rattle.messages.specs.Verdicts.{verdictRefusals, verdict}
 use Rattle.messages.proofs as messages
 use Rattle.readings.specs.Readings.{summaryOf}
 use Rattle.readings.proofs as readings
-use Rattle.story.specs.Numbers.{dischargedNumbers, builtNumbers, checkedNumbers, portNumber, verdictNumbers, lookedNumbers, packNumbers, summaryRefusals, firstNumber, First, order}
+use Rattle.story.specs.Numbers.{dischargedNumbers, sentNumbers, relayedNumbers, timedNumbers, builtNumbers, checkedNumbers, portNumber, verdictNumbers, lookedNumbers, packNumbers, summaryRefusals, firstNumber, First, order}
 use Rattle.story.proofs.OneOutcome.{OneOutcome, one-outcomes}
-use Rattle.story.proofs.Numbers.{number-exactly, zero-exactly, frame-number, store-number, compare-number, load-number, discharge-number, release-number, look-number, built-number, checked-number, port-number, verdict-number, summary-number}
-use Rattle.story.proofs.Stays.{refused-discharge, refused-release, refused-look, refused-build, refused-part}
+use Rattle.story.proofs.Numbers.{number-exactly, zero-exactly, frame-number, store-number, compare-number, load-number, discharge-number, wake-number, beat-number, relay-number, time-number, release-number, look-number, built-number, checked-number, port-number, verdict-number, summary-number}
+use Rattle.story.proofs.Stays.{refused-discharge, refused-wake, refused-beat, refused-relay, refused-time, refused-release, refused-look, refused-build, refused-part}
 
 -- ---- every public function of every library
 
@@ -122,8 +129,11 @@ pub record Promises : Type 2 where
   width-of : Promised records.width_of.Statement.statement records.width_of.Reads.Asked
   reply-of : Promised reads.reply_of.Statement.statement reads.reply_of.Reads.Asked
   needs-check : Promised writes.needs_check.Statement.statement writes.needs_check.Reads.Asked
-  write : Promised writes.write.Statement.statement writes.write.Reads.Asked
-  act : Promised monitor.act.Statement.statement monitor.act.Reads.Asked
+  rules-of : Promised writes.rules_of.Statement.statement writes.rules_of.Reads.Asked
+  stores-whole : Promised writes.stores_whole.Statement.statement writes.stores_whole.Reads.Asked
+  write : Promised writing.write.Statement.statement writing.write.Reads.Asked
+  carry-out : Promised monitor.carry_out.Statement.statement monitor.carry_out.Reads.Asked
+  act : Promised acting.act.Statement.statement acting.act.Reads.Asked
   remember : Promised monitor.remember.Statement.statement monitor.remember.Reads.Asked
   measure : Promised measuring.measure.Statement.statement measuring.measure.Reads.Asked
   wake : Promised heartbeats.wake.Statement.statement heartbeats.wake.Reads.Asked
@@ -156,6 +166,11 @@ pub record Promises : Type 2 where
   store : Promised loads.store.Statement.statement loads.store.Reads.Asked
   compare : Promised loads.compare.Statement.statement loads.compare.Reads.Asked
   load : Promised loads.load.Statement.statement loads.load.Reads.Asked
+  -- a heartbeat in a table
+  table-wake : Promised passing.wake.Statement.statement passing.wake.Reads.Asked
+  table-relay : Promised passing.relay.Statement.statement passing.relay.Reads.Asked
+  table-heartbeat : Promised passing.heartbeat.Statement.statement passing.heartbeat.Reads.Asked
+  table-time-out : Promised passing.time_out.Statement.statement passing.time_out.Reads.Asked
   -- discharge
   put-outputs : Promised priorities.put_outputs.Statement.statement priorities.put_outputs.Reads.Asked
   discharge-outputs : Promised discharge.discharge.Statement.statement discharge.discharge.Reads.Asked
@@ -217,6 +232,22 @@ pub record Demand1 : Type 2 where
   discharge-order : (table : List ℕ) (position phase room : ℕ) → order (dischargeRefusals table position phase room) ≡ 1 ∷ 7 ∷ 7 ∷ 6 ∷ []
   discharge-stays : (table : List ℕ) (position : ℕ) (events : Events) (phase : ℕ) (out : List ℕ) (r : Refusal)
       → discharged table position events phase (length out) ≡ Unasked r → outputsAfter table position events phase out ≡ out
+  -- a heartbeat in a table: `passing::wake`, `passing::relay`, `passing::heartbeat` and `passing::time_out`. 6 also where nothing would be sent
+  wake : (table : List ℕ) (position room : ℕ) → sentNumbers (wokenAt table position room) .number ≡ firstNumber (wakeRefusals table position room)
+  wake-order : (table : List ℕ) (position room : ℕ) → order (wakeRefusals table position room) ≡ 1 ∷ 7 ∷ 6 ∷ []
+  wake-stays : (table : List ℕ) (position : ℕ) (out : List ℕ) (r : Refusal) → wokenAt table position (length out) ≡ Unsent r
+      → (tableAfterWake table position (length out) ≡ table) × (outAfterWake table position out ≡ out)
+  relay : (table : List ℕ) (position : ℕ) (message : List ℕ) (room : ℕ)
+      → relayedNumbers (relayedAt table position message room) .number ≡ firstNumber (relayRefusals table position (length message) room)
+  relay-order : (table : List ℕ) (position bytes room : ℕ) → order (relayRefusals table position bytes room) ≡ 1 ∷ 7 ∷ 5 ∷ 6 ∷ []
+  relay-stays : (table : List ℕ) (position : ℕ) (out : List ℕ) (r : Refusal) (message : List ℕ) → relayedAt table position message (length out) ≡ Unrelayed r
+      → (tableAfterRelay table position message (length out) ≡ table) × (outAfterRelay table position message out ≡ out)
+  heartbeat : (table : List ℕ) (position room : ℕ) → sentNumbers (beaten table position room) .number ≡ firstNumber (wakeRefusals table position room)
+  heartbeat-stays : (table : List ℕ) (position : ℕ) (out : List ℕ) (r : Refusal) → beaten table position (length out) ≡ Unsent r
+      → (tableAfterBeat table position (length out) ≡ table) × (outAfterBeat table position out ≡ out)
+  time-out : (table : List ℕ) (position : ℕ) → timedNumbers (timedOut table position) .number ≡ firstNumber (timeOutRefusals table position)
+  time-out-order : (table : List ℕ) (position : ℕ) → order (timeOutRefusals table position) ≡ 1 ∷ 7 ∷ []
+  time-out-stays : (table : List ℕ) (position : ℕ) (r : Refusal) → timedOut table position ≡ Untimed r → tableAfterTimeOut table position ≡ table
   -- a host's frame: `host::build`
   build : (code n : ℕ) (values : List ℕ) (room : ℕ) → builtNumbers (built code n values room) .number ≡ firstNumber (buildRefusals code n values room)
   build-order : (code n : ℕ) (values : List ℕ) (room : ℕ) → order (buildRefusals code n values room) ≡ 4 ∷ 7 ∷ 8 ∷ 6 ∷ []
@@ -283,8 +314,11 @@ proved =
       width-of = (λ M. records.width_of.Met.met, λ κ a. tt);
       reply-of = (λ M. reads.reply_of.Met.met, λ κ a. tt);
       needs-check = (λ M. writes.needs_check.Met.met, λ κ a. tt);
-      write = (λ M. writes.write.Met.met, λ κ a. tt);
-      act = (λ M. monitor.act.Met.met, λ κ a. tt);
+      rules-of = (λ M. writes.rules_of.Met.met, λ κ a. tt);
+      stores-whole = (λ M. writes.stores_whole.Met.met, λ κ a. tt);
+      write = (λ M. writing.write.Met.met, λ κ a. tt);
+      carry-out = (λ M. monitor.carry_out.Met.met, λ κ a. tt);
+      act = (λ M. acting.act.Met.met, λ κ a. tt);
       remember = (λ M. monitor.remember.Met.met, λ κ a. tt);
       measure = (λ M. measuring.measure.Met.met, λ κ a. tt);
       wake = (λ M. heartbeats.wake.Met.met, λ κ a. tt);
@@ -315,6 +349,10 @@ proved =
       store = (λ M. loads.store.Met.met, λ κ a. tt);
       compare = (λ M. loads.compare.Met.met, λ κ a. tt);
       load = (λ M. loads.load.Met.met, λ κ a. tt);
+      table-wake = (λ M. passing.wake.Met.met, λ κ a. tt);
+      table-relay = (λ M. passing.relay.Met.met, λ κ a. tt);
+      table-heartbeat = (λ M. passing.heartbeat.Met.met, λ κ a. tt);
+      table-time-out = (λ M. passing.time_out.Met.met, λ κ a. tt);
       put-outputs = (λ M. priorities.put_outputs.Met.met, λ κ a. tt);
       discharge-outputs = (λ M. discharge.discharge.Met.met, λ κ a. tt);
       start = (λ M. clock_state.start.Met.met, λ κ a. tt);
@@ -339,7 +377,7 @@ proved =
     }
 
 pub demand-1 : Demand1
-unfolding frameRefusals storeRefusals compareRefusals loadRefusals dischargeRefusals buildRefusals checkRefusals portRefusals verdictRefusals releaseRefusals lookRefusals
+unfolding frameRefusals storeRefusals compareRefusals loadRefusals dischargeRefusals wakeRefusals relayRefusals timeOutRefusals buildRefusals checkRefusals portRefusals verdictRefusals releaseRefusals lookRefusals
 demand-1 =
     record {
       promises = proved;
@@ -363,6 +401,17 @@ demand-1 =
       discharge = discharge-number;
       discharge-order = λ table position phase room. refl;
       discharge-stays = refused-discharge;
+      wake = wake-number;
+      wake-order = λ table position room. refl;
+      wake-stays = refused-wake;
+      relay = relay-number;
+      relay-order = λ table position bytes room. refl;
+      relay-stays = refused-relay;
+      heartbeat = beat-number;
+      heartbeat-stays = refused-beat;
+      time-out = time-number;
+      time-out-order = λ table position. refl;
+      time-out-stays = refused-time;
       build = built-number;
       build-order = λ code n values room. refl;
       build-stays = refused-build;

@@ -1,6 +1,6 @@
 -- Demand 2. What the chain does with a frame is what the data sheet says as document 01 condenses it, with the requests of document 02 that
--- have landed (L1, L2, L3, L6, L7, and of L8 the settings and enabling, one monitor's measurement and turn, and the host's verdict),
--- monitor by monitor. What our host writes hands each monitor its own data bytes: nearest first in our list, farthest first on the wire. Monitors are counted from 0 here: monitor 1 of the paper is k = 0. Each field is proved where it is cited from.
+-- have landed (L1, L2, L3, L6, L7, L8), monitor by monitor. What our host writes hands each monitor its own data bytes: nearest first in our list, farthest
+-- first on the wire. Monitors are counted from 0 here: monitor 1 of the paper is k = 0. Each field is proved where it is cited from.
 -- Assumes nothing.
 use mathlib.Core.Path.{_≡_, refl}
 use mathlib.Core.Bool.{Bool, true, false, cond, not, _&&_, _||_}
@@ -103,6 +103,23 @@ use Rattle.story.proofs.Retention.{wrrr-unlocked, wrrr-locked, ulrr-unl
 use Rattle.story.proofs.AsBefore.{as-before, front-awake, cmf0-stays, last-stays, reply-as-before, pwm-stays, a-stays, b-stays, copy-stays}
 use Rattle.story.proofs.Snapshot.{snap-takes, snap-again, snap-again-shows, snap-st, snap-copies, store-snap-st, store-copy, compare-snap-st, compare-copy, shows-the-cells, shows-as-it-lies}
 use Rattle.story.proofs.Lpcm.{cmen-enables, cmen-again, enabled-after, last-cells, clrcmflag-clears}
+use Rattle.passing.specs.declared.operations.Sent.the-variants.{Nothing as NotSent, TowardsA, TowardsB}
+use Rattle.passing.specs.declared.operations.Relayed.the-variants.{Stopped, SentOn}
+use Rattle.passing.specs.declared.operations.TimedOut.the-variants.{NoTimeoutMonitor, RanOut}
+use Rattle.passing.specs.Hops.{bytesSent, wakeSends, wakeLeaves, hops, behind, way, wayFrom, sentAlong, leftAlong, beatSends, beatLeaves}
+use Rattle.passing.specs.Operations.{handedOut, sentTowards, sentOn, wakeRefusals, wokenAt, tableAfterWake, outAfterWake, relayRefusals, relayedAt, tableAfterRelay, outAfterRelay, beaten, tableAfterBeat, outAfterBeat, timeOutRefusals, timedOut, tableAfterTimeOut}
+use Rattle.guarding.specs.Chains.{Guarded, FromTheEnd, Watched, passing, union, less, Struck}
+use Rattle.guarding.specs.InTurn.{sentByTurns, leftByTurns}
+use Rattle.guarding.proofs.Arrives.{arrives, number, exactly-all, verdict-passed as beat-passed, verdict-exactly}
+use Rattle.guarding.proofs.AllMeasured.{all-measured}
+use Rattle.guarding.proofs.Struck.{struck-hop, struck-last}
+use Rattle.guarding.proofs.Stopped.{stopped, no-beat}
+use Rattle.guarding.proofs.Untouched.{untouched}
+use Rattle.guarding.proofs.Examples.{Examples, examples as chain-examples}
+use Rattle.guarding.proofs.Watched.{watched}
+use Rattle.guarding.proofs.InTurn.{in-turn}
+use Rattle.story.proofs.Operations.{wake-placed, wake-room}
+use Rattle.story.proofs.Heartbeats.{nothing-handed, message-handed, nothing-told, message-told, Turned, wake-done, beat-done, relay-done, time-done}
 use Rattle.story.proofs.Beats.{manager-wakes, no-manager-sleeps, monitor-sends-on, timeout-judges, time-runs-out}
 use Rattle.story.proofs.Muting.{mute-answers, unmute-answers}
 use Rattle.story.proofs.BothEnds.{the-replies, handed-from-a, handed-from-b}
@@ -250,7 +267,7 @@ pub record Demand2 : Type 0 where
   -- CLRCMFLAG, its two data bytes and their check right: each bit of the first that is 1 clears that bit of CMF0, and whatever the second is CMF1, a byte, stays
   clrcmflag-clears : (own r : List ℕ) → length r ≡ recordSize → inLpcm r ≡ false → sealedRight 2 own ≡ true → getD own 0 0 < 256 → byteOf cmf1 r < 256
       → keeps (Writes Clrcmflag) own r ≡ onBytes cmf0 (λ i old. bitAnd old (255 - getD own 0 0)) (counted (locked r))
-  -- so CMF0 changes by CLRCMFLAG alone, and stays at CMEN and CMDIS; the last measurement changes by CMEN alone
+  -- so of the commands CLRCMFLAG alone changes CMF0, which stays at CMEN and CMDIS, and CMEN alone the last measurement
   cmf0-stays : (c : Command) (own r : List ℕ) → (c ≡ Writes Clrcmflag → ⊥) → partOf cmf0 (keeps c own r) ≡ partOf cmf0 r
   last-stays : (c : Command) (own r : List ℕ) → (c ≡ Bares Cmen → ⊥) → partOf lastCells (keeps c own r) ≡ partOf lastCells r
   last-taken : (own r : List ℕ) → length r ≡ recordSize
@@ -553,6 +570,94 @@ pub record Demand2 : Type 0 where
       → (inLpcm (woken r) ≡ inLpcm r) × (inLpcm (reached message r) ≡ inLpcm r) × (inLpcm (late r) ≡ inLpcm r)
   -- the sheet's chain of six, and both ends of a timeout monitor's verdict
   turns : Turns
+  -- ---- LPCM: a heartbeat in a chain, `passing::wake`, `passing::relay`, `passing::heartbeat` and `passing::time_out`. Positions
+  -- count from 1; k is one less, as the records lie
+
+  -- the exact refusals, in their order; a whole heartbeat's are a wake's. 6 is given also where nothing would be sent
+  wake-refusals : (table : List ℕ) (position room : ℕ) → wakeRefusals table position room
+      ≡ (not (sound table) gives TableNotSound) ∷ (not (leb 1 position && leb position (monitors table)) gives PositionWrong) ∷ (ltb room 8 gives NoRoom) ∷ []
+  relay-refusals : (table : List ℕ) (position bytes room : ℕ) → relayRefusals table position bytes room
+      ≡ (not (sound table) gives TableNotSound)
+      ∷ (not (leb 1 position && leb position (monitors table)) gives PositionWrong)
+      ∷ (not (eqb bytes 8) gives LengthWrong)
+      ∷ (ltb room 8 gives NoRoom)
+      ∷ []
+  time-out-refusals : (table : List ℕ) (position : ℕ) → timeOutRefusals table position
+      ≡ (not (sound table) gives TableNotSound) ∷ (not (leb 1 position && leb position (monitors table)) gives PositionWrong) ∷ []
+  -- none holds: the monitor at the position takes its turn. Its record becomes what that makes of it, and every other stays (`Turned`); what it sends is handed out;
+  -- and the answer tells the end that it is sent towards, whether it is sent on, or whether it is a timeout monitor at which the time ran out
+  wake-done : (table : List ℕ) (position : ℕ) (out : List ℕ) → Passed (wakeRefusals table position (length out))
+      → let r = rowAt recordSize (position - 1) table in
+      (wokenAt table position (length out) ≡ sentTowards r (bytesSent (wakes r)))
+      × (outAfterWake table position out ≡ handedOut (bytesSent (wakes r)) out)
+      × Turned table position (tableAfterWake table position (length out)) (woken r)
+  relay-done : (table : List ℕ) (position : ℕ) (message out : List ℕ) → Passed (relayRefusals table position (length message) (length out))
+      → let r = rowAt recordSize (position - 1) table in
+      (relayedAt table position message (length out) ≡ sentOn (bytesSent (answers message r)))
+      × (outAfterRelay table position message out ≡ handedOut (bytesSent (answers message r)) out)
+      × Turned table position (tableAfterRelay table position message (length out)) (reached message r)
+  time-out-done : (table : List ℕ) (position : ℕ) → Passed (timeOutRefusals table position)
+      → let r = rowAt recordSize (position - 1) table in
+      (timedOut table position ≡ cond (isTimeout r) RanOut NoTimeoutMonitor) × Turned table position (tableAfterTimeOut table position) (late r)
+  -- a message is handed out at the start of the buffer, and the bytes past its eight stay; where nothing is sent all of them do
+  nothing-handed : (out : List ℕ) → handedOut [] out ≡ out
+  message-handed : (c f : ℕ) (out : List ℕ) → handedOut (message c f) out ≡ message c f ++ drop 8 out
+  nothing-told : (r : List ℕ) → (sentTowards r [] ≡ NotSent) × (sentOn [] ≡ Stopped)
+  message-told : (r : List ℕ) (c f : ℕ) → (sentTowards r (message c f) ≡ cond (towardsA r) TowardsA TowardsB) × (sentOn (message c f) ≡ SentOn)
+  -- a whole heartbeat hands out what leaves the chain, and leaves what every monitor's turn leaves: from the one that wakes to the others on its way, nearest
+  -- to it first, each reached by what the one before it sent. Towards port A its way goes down to the first monitor, else up to the last
+  beat-done : (table : List ℕ) (position : ℕ) (out : List ℕ) → Passed (wakeRefusals table position (length out))
+      → (beaten table position (length out) ≡ sentTowards (rowAt recordSize (position - 1) table) (beatSends (position - 1) table))
+      × (outAfterBeat table position out ≡ handedOut (beatSends (position - 1) table) out)
+      × (tableAfterBeat table position (length out) ≡ beatLeaves (position - 1) table)
+  ways : (n k : ℕ) → (way true n k ≡ tabulate (λ i. k - suc i) 0 k) × (way false n k ≡ tabulate (λ i. k + suc i) 0 (n - suc k))
+  -- and that is what `passing::wake` and then `passing::relay` at each position on the way leave and hand out, a buffer lent anew for each (`sentByTurns`,
+  -- `leftByTurns`), until nothing is handed out
+  in-turn : (table : List ℕ) (position : ℕ) (out : List ℕ) → Passed (wakeRefusals table position (length out))
+      → (tableAfterBeat table position (length out) ≡ leftByTurns out table position)
+      × (outAfterBeat table position out ≡ handedOut (sentByTurns out table position) out)
+      × (beaten table position (length out) ≡ sentTowards (rowAt recordSize (position - 1) table) (sentByTurns out table position))
+  -- where the one that is to wake is no manager in LPCM nothing is sent, and nothing changes
+  beat-none : (k : ℕ) (table : List ℕ) → isManager (rowAt recordSize k table) ≡ false → (beatSends k table ≡ []) × (beatLeaves k table ≡ table)
+  -- a manager at the end that it sends away from, the far one towards the host or the near one, and every other monitor in LPCM, no manager and no timeout monitor
+  -- (`Guarded`, `FromTheEnd`), for every N: the message arrives. CMC_NDEV, a byte, less its count, in eight bits, is how many passed, which is N exactly where all
+  -- did, and its flags are the union of all. Where CMC_NDEV is N + 42 (hex) the verdict is `passed` exactly where all did; with any other it never is, so that no
+  -- monitor can be missing. And every monitor was measured
+  beat-arrives : (toA : Bool) (k : ℕ) (table : List ℕ) → Guarded toA k table → FromTheEnd toA k (monitors table) → ndev (rowAt recordSize k table) < 256
+      → beatSends k table ≡ message (less (ndev (rowAt recordSize k table)) (count passes (rows recordSize (monitors table) table))) (union (rows recordSize (monitors table) table))
+  beat-number : (toA : Bool) (k : ℕ) (table : List ℕ) → Guarded toA k table → FromTheEnd toA k (monitors table)
+      → let passed = count passes (rows recordSize (monitors table) table) in
+      ndev (rowAt recordSize k table) < 256 → less (ndev (rowAt recordSize k table)) (less (ndev (rowAt recordSize k table)) passed) ≡ passed
+  beat-all : (table : List ℕ)
+      → (count passes (rows recordSize (monitors table) table) ≡ monitors table) ↔ (all passes (rows recordSize (monitors table) table) ≡ true)
+  beat-passed : (toA : Bool) (k : ℕ) (table : List ℕ) → Guarded toA k table → FromTheEnd toA k (monitors table) → ndev (rowAt recordSize k table) ≡ monitors table + 0x42
+      → (verdict (beatSends k table) false ≡ Good) ↔ (all passes (rows recordSize (monitors table) table) ≡ true)
+  beat-exactly : (toA : Bool) (k : ℕ) (table : List ℕ) → Guarded toA k table → FromTheEnd toA k (monitors table) → ndev (rowAt recordSize k table) < 256
+      → (verdict (beatSends k table) false ≡ Good)
+      ↔ ((all passes (rows recordSize (monitors table) table) ≡ true) × (ndev (rowAt recordSize k table) ≡ monitors table + 0x42))
+  beat-measures : (toA : Bool) (k : ℕ) (table : List ℕ) → Guarded toA k table → FromTheEnd toA k (monitors table) → (j : ℕ) → j < monitors table
+      → rowAt recordSize j (beatLeaves k table) ≡ measured (rowAt recordSize j table)
+  -- in such a chain, wherever the manager is: a message that is struck behind h hops (`Struck`: one bit or more, within ten places in a row of the last four bytes or
+  -- within fifteen of the first four) comes to nothing, and the table stays as it then is, in which every monitor from there on is as it was (`beat-untouched`);
+  -- struck on its way out it is damaged in the host's eyes
+  beat-struck : (toA : Bool) (k : ℕ) (table : List ℕ) → Guarded toA k table → (h : ℕ) → h < hops toA (monitors table) k → (came : List ℕ)
+      → Struck (sentAlong (take h (wayFrom k table)) (wakeSends k table) (wakeLeaves k table)) came
+      → let left = leftAlong (take h (wayFrom k table)) (wakeSends k table) (wakeLeaves k table) in
+      (sentAlong (drop h (wayFrom k table)) came left ≡ []) × (leftAlong (drop h (wayFrom k table)) came left ≡ left)
+  beat-untouched : (toA : Bool) (k : ℕ) (table : List ℕ) → Guarded toA k table → (h j : ℕ) → h ≤ j → j < hops toA (monitors table) k
+      → rowAt recordSize (behind toA k j) (leftAlong (take h (wayFrom k table)) (wakeSends k table) (wakeLeaves k table)) ≡ rowAt recordSize (behind toA k j) table
+  beat-struck-last : (toA : Bool) (k : ℕ) (table : List ℕ) → Guarded toA k table → (came : List ℕ) → Struck (beatSends k table) came → verdict came false ≡ Damaged
+  -- in any chain, a monitor not in LPCM anywhere on the way: nothing leaves the chain
+  beat-stopped : (k : ℕ) (table : List ℕ) → sound table ≡ true → k < monitors table
+      → let toA = towardsA (rowAt recordSize k table) in
+      (i : ℕ) → i < hops toA (monitors table) k → inLpcm (rowAt recordSize (behind toA k i) table) ≡ false → beatSends k table ≡ []
+  -- N of 2 or more, a manager at the far end that sends towards the host, a timeout monitor nearest it, and between them monitors in LPCM that are neither (`Watched`),
+  -- CMC_NDEV N + 42 (hex): the timeout monitor's two flags are clear afterwards exactly where all N passed
+  beat-watched : (k : ℕ) (table : List ℕ) → Watched k table → ndev (rowAt recordSize k table) ≡ monitors table + 0x42
+      → let watch = byteOf cmf1 (rowAt recordSize 0 (beatLeaves k table)) in
+      ((bitAt 0 watch ≡ false) × (bitAt 1 watch ≡ false)) ↔ (all passes (rows recordSize (monitors table) table) ≡ true)
+  -- such chains there are: two of two, written down
+  chains : Examples
   -- ---- the host's verdict on a heartbeat: `messages::verdict_on`, of the bytes that came and whether the time ran out, yes or no
 
   -- the exact refusal: another length than eight, but for nothing at all with the time run out
@@ -583,7 +688,7 @@ pub record Demand2 : Type 0 where
   examples : EitherSide
 
 pub demand-2 : Demand2
-unfolding commandOf commands ownIn frameRefusals storeRefusals compareRefusals loadRefusals dischargeRefusals muted snapped inLpcm byteOf locked done shownCells outputs tabulate phases table27 outputOf keeps reply verdictRefusals countIn flagsByte violates cuv cov manages isManager isTimeout ndev towardsA
+unfolding commandOf commands ownIn frameRefusals storeRefusals compareRefusals loadRefusals dischargeRefusals muted snapped inLpcm byteOf locked done shownCells outputs tabulate phases table27 outputOf keeps reply wakeRefusals relayRefusals timeOutRefusals hops behind way passing verdictRefusals countIn flagsByte violates cuv cov manages isManager isTimeout ndev towardsA
 demand-2 =
     record {
       refusals = λ table frame room. refl;
@@ -773,6 +878,32 @@ demand-2 =
       spike-wrrr-locked = λ table sent came room s struck k h. struck-wrrr-locked table s struck room k h;
       spike-refused = λ table sent came buffer s c n struck. struck-refused struck table buffer s;
       sharp = sharp;
+      wake-refusals = λ table position room. refl;
+      relay-refusals = λ table position bytes room. refl;
+      time-out-refusals = λ table position. refl;
+      wake-done = wake-done;
+      relay-done = relay-done;
+      time-out-done = time-done;
+      nothing-handed = nothing-handed;
+      message-handed = message-handed;
+      nothing-told = nothing-told;
+      message-told = message-told;
+      beat-done = beat-done;
+      ways = λ n k. (refl, refl);
+      in-turn = λ table position out none. in-turn table position out (wake-placed table position (length out) none) (wake-room table position (length out) none);
+      beat-none = no-beat;
+      beat-arrives = arrives;
+      beat-number = number;
+      beat-all = exactly-all;
+      beat-passed = beat-passed;
+      beat-exactly = verdict-exactly;
+      beat-measures = all-measured;
+      beat-struck = struck-hop;
+      beat-untouched = untouched;
+      beat-struck-last = struck-last;
+      beat-stopped = stopped;
+      beat-watched = watched;
+      chains = chain-examples;
       verdict-refusals = λ bytes late. refl;
       verdict-refused = λ bytes late r. exactly bytes late (Unjudged r);
       verdict-timed-out = λ bytes late. exactly bytes late TimedOut;

@@ -1,5 +1,6 @@
--- Demand 3. For 1 to 32 monitors, a sound table and any list of frames with readings stored and compared between them, the whole-frame
--- engine and the clocked engine end in the same table and give the same answers and reply bytes, both judged by the rules of demand 2.
+-- Demand 3. For 1 to 32 monitors, a sound table and any list of frames with operations on the table between them, readings stored and compared and heartbeats
+-- in their parts and as a whole, the whole-frame engine and the clocked engine end in the same table and give the same answers, reply bytes and lent buffers,
+-- both judged by the rules of demand 2.
 -- So by either engine what is said of whole runs: MUTE and UNMUTE, that a long read in a snapshot is of one moment, and what a spike can do.
 -- What the three runs are stands in specs/Runs.antt. By going along the events: one event by either engine is one by the rules
 -- (Runs.antt), and the number of monitors stays, so that the reply buffer keeps its room.
@@ -47,9 +48,8 @@ use Rattle.judging.proofs.Soundness.{is-sound}
 use Rattle.loads.specs.declared.loads.Loaded.{Loaded}
 use Rattle.loads.specs.declared.loads.Loaded.the-variants.{Unloaded, Done}
 use Rattle.loads.specs.Load.{stored, tableAfterStore, tableAfterCompare, loaded, tableAfterLoad}
-use Rattle.loads.proofs.Judging.{stop-1 as cells-stop-1, refused-before, as-stored}
-use Rattle.loads.proofs.Refused.{table-stored, refused-store, table-compared, refused-load}
-use Rattle.loads.proofs.Keeps.{store-keeps, compare-keeps}
+use Rattle.loads.proofs.Judging.{as-stored}
+use Rattle.loads.proofs.Refused.{refused-store, refused-load}
 use Rattle.loads.proofs.Halves.{compare-after-store, store-and-compare}
 use Rattle.priorities.specs.declared.outputs.Events.{Events}
 use Rattle.priorities.specs.Switches.{muted}
@@ -61,7 +61,7 @@ use Rattle.clock_state.specs.State.{stateSize, idle}
 use Rattle.clocking.specs.Bytes.{clockOf, stateAfter}
 use Rattle.clocking.proofs.View.{view}
 use Rattle.clocked.proofs.Whole.{released-read}
-use Rattle.story.specs.Runs.{Event, Frame, Store, Compare, Answered, StoreAnswered, CompareAnswered, Left, saw, replyBytes, Step, ruleRefusals, byRules, byFrames, stateAfterAll, cameBack, byBytes, Engine, WholeFrames, ClockedBytes, Ready, by}
+use Rattle.story.specs.Runs.{Store, Compare, Event, Frame, Beside, Answered, StoreAnswered, CompareAnswered, Left, saw, replyBytes, Step, ruleRefusals, byRules, promised, byFrames, stateAfterAll, cameBack, byBytes, Engine, WholeFrames, ClockedBytes, Ready, by}
 use Rattle.story.specs.Spikes.{StruckData, StruckCommand, ownIn, unhit, unhitAwake}
 use Rattle.story.specs.Snapshots.{Without, replyAt, shownAt, shownBehind, ReadIn, LongRead, longShown}
 use Rattle.story.proofs.Along.{rules-keep, bare-passes, write-passes, ruled-frame}
@@ -71,17 +71,19 @@ use Rattle.story.proofs.OneMoment.{lent-read, frozen-read, one-moment, 
 use Rattle.story.proofs.ByteFour.{only-byte-four, at-byte-four, noted-stays, another-n}
 use Rattle.story.proofs.Muting.{mute-answers, unmute-answers}
 use Rattle.story.proofs.Spikes.{struck-answer, struck-fewer, struck-hit, struck-unhit, struck-kept, struck-wrrr-answer, struck-refused}
-use Rattle.story.proofs.Runs.{frame-step, length-after, store-step, compare-step, full, has-room, clock-whole, back-whole, clocked-step}
+use Rattle.story.proofs.Operations.{operation-step, operation-monitors}
+use Rattle.story.proofs.Runs.{frame-step, length-after, full, has-room, clock-whole, back-whole, clocked-step}
 
 -- ---- the demand. It asks for a sound table; the engines agree on any: one that is not sound is refused by both
 
 pub record Demand3 : Type 0 where
   -- a sound table has 1 to 32 monitors
   one-to-32 : (table : List ℕ) → sound table ≡ true → (1 ≤ monitors table) × (monitors table ≤ mostMonitors)
-  -- `chain::handle`, `loads::store` and `loads::compare`, lent any reply buffer with room for eight bytes a monitor, do what the rules say
+  -- `chain::handle`, lent any reply buffer with room for eight bytes a monitor, and the functions of the operations (`loads::store`, `loads::compare`,
+  -- `passing::wake`, `passing::relay`, `passing::heartbeat` and `passing::time_out`) do what the rules say
   by-frames : (table buffer : List ℕ) (events : List Event) → payloadSize * monitors table ≤ length buffer
       → byFrames table buffer events ≡ byRules table events
-  -- `clocked::start`, `clocked::clock`, `clocked::release`, `loads::store` and `loads::compare`, lent any state, do what the rules say
+  -- `clocked::start`, `clocked::clock` and `clocked::release`, lent any state, and the functions of the operations do what the rules say
   by-bytes : (table state : List ℕ) (events : List Event) → byBytes table state events ≡ byRules table events
   -- so the two engines end in the same table and give the same answers and reply bytes
   alike : (table buffer state : List ℕ) (events : List Event) → payloadSize * monitors table ≤ length buffer
@@ -89,10 +91,10 @@ pub record Demand3 : Type 0 where
   -- a load, `loads::load`, is a store and a compare: where it is done the events after it find what both leave, and where it is refused
   -- what its store leaves, which is refused by the same number
   load-done : (table : List ℕ) (position : ℕ) (codes : List ℤ) (events : List Event) → loaded table position codes ≡ Done
-      → byRules table (Store position codes ∷ Compare position ∷ events)
+      → byRules table (Beside (Store position codes) ∷ Beside (Compare position) ∷ events)
       ≡ saw (StoreAnswered Done) (saw (CompareAnswered Done) (byRules (tableAfterLoad table position codes) events))
   load-refused : (table : List ℕ) (position : ℕ) (codes : List ℤ) (events : List Event) (r : Refusal) → loaded table position codes ≡ Unloaded r
-      → byRules table (Store position codes ∷ events) ≡ saw (StoreAnswered (Unloaded r)) (byRules (tableAfterLoad table position codes) events)
+      → byRules table (Beside (Store position codes) ∷ events) ≡ saw (StoreAnswered (Unloaded r)) (byRules (tableAfterLoad table position codes) events)
   -- so through either engine, after a MUTE and without a shutdown every output of every monitor is off by row 6
   mute : (engine : Engine) (table frame : List ℕ) → Ready engine table → Passed (ruleRefusals table frame) → commandIn frame ≡ Bares Mute
       → (position : ℕ) (events : Events) (phase : ℕ) (out : List ℕ) → events .shutdown ≡ false
@@ -197,15 +199,6 @@ module _ (table : List ℕ) where
   as-many-frame frame buffer =
       either-table (monitors-after-frame table frame (length buffer)) (λ e. the-table table frame buffer (stop-unsound table frame (length buffer) e))
 
-  as-many-store : (position : ℕ) (codes : List ℤ) → monitors (tableAfterStore table position codes) ≡ monitors table
-  as-many-store position codes =
-      either-table (λ s. store-keeps table position s codes .monitors-after)
-      (λ e. table-stored table position codes (refused-before codes table position (cells-stop-1 table position e)))
-
-  as-many-compare : (position : ℕ) → monitors (tableAfterCompare table position) ≡ monitors table
-  as-many-compare position =
-      either-table (λ s. compare-keeps table position s .monitors-after) (λ e. table-compared table position (cells-stop-1 table position e))
-
 -- ---- along the events
 
 -- one event, and what the later ones leave
@@ -221,41 +214,37 @@ frames-by-rules table buffer (Frame frame ∷ events) room =
     along-rules events (frame-step table frame buffer room)
     (frames-by-rules (tableAfter table frame (length buffer)) (replyAfter table frame buffer) events
     (omega (arith, as-many-frame table frame buffer, length-after table frame buffer room)))
-frames-by-rules table buffer (Store position codes ∷ events) room =
-    along-rules events (store-step table position codes)
-    (frames-by-rules (tableAfterStore table position codes) buffer events (omega (arith, as-many-store table position codes)))
-frames-by-rules table buffer (Compare position ∷ events) room =
-    along-rules events (compare-step table position)
-    (frames-by-rules (tableAfterCompare table position) buffer events (omega (arith, as-many-compare table position)))
+frames-by-rules table buffer (Beside operation ∷ events) room =
+    along-rules events (operation-step table operation)
+    (frames-by-rules (promised table operation .table) buffer events (omega (arith, operation-monitors table operation)))
 
 bytes-by-rules : (table state : List ℕ) (events : List Event) → byBytes table state events ≡ byRules table events
 unfolding byBytes byRules
 bytes-by-rules table state [] = refl
 bytes-by-rules table state (Frame frame ∷ events) = along-rules events (clocked-step table frame) (bytes-by-rules _ idle events)
-bytes-by-rules table state (Store position codes ∷ events) = along-rules events (store-step table position codes) (bytes-by-rules _ state events)
-bytes-by-rules table state (Compare position ∷ events) = along-rules events (compare-step table position) (bytes-by-rules _ state events)
+bytes-by-rules table state (Beside operation ∷ events) = along-rules events (operation-step table operation) (bytes-by-rules _ state events)
 
 -- ---- a load, by its halves
 
 module _ (table : List ℕ) (position : ℕ) (codes : List ℤ) (events : List Event) where
   halves-by-rules : loaded table position codes ≡ Done
-      → byRules table (Store position codes ∷ Compare position ∷ events)
+      → byRules table (Beside (Store position codes) ∷ Beside (Compare position) ∷ events)
       ≡ saw (StoreAnswered Done) (saw (CompareAnswered Done) (byRules (tableAfterLoad table position codes) events))
-  unfolding byRules
+  unfolding byRules promised
   halves-by-rules e =
       let done = sym (as-stored table position codes) ∙ e in
       let after = tableAfterStore table position codes in
-      sym (along-rules (Compare position ∷ events) (store-step table position codes) refl)
-      ∙ ap (saw (StoreAnswered (stored table position codes))) (sym (along-rules events (compare-step after position) refl))
+      sym (along-rules (Beside (Compare position) ∷ events) (operation-step table (Store position codes)) refl)
+      ∙ ap (saw (StoreAnswered (stored table position codes))) (sym (along-rules events (operation-step after (Compare position)) refl))
       ∙ ap₂ (λ (a b : Loaded). saw (StoreAnswered a) (saw (CompareAnswered b) (byRules (tableAfterCompare after position) events))) done (compare-after-store table position codes done)
       ∙ ap (λ (t : List ℕ). saw (StoreAnswered Done) (saw (CompareAnswered Done) (byRules t events))) (store-and-compare table position codes done)
 
   refused-by-rules : (r : Refusal) → loaded table position codes ≡ Unloaded r
-      → byRules table (Store position codes ∷ events) ≡ saw (StoreAnswered (Unloaded r)) (byRules (tableAfterLoad table position codes) events)
-  unfolding byRules
+      → byRules table (Beside (Store position codes) ∷ events) ≡ saw (StoreAnswered (Unloaded r)) (byRules (tableAfterLoad table position codes) events)
+  unfolding byRules promised
   refused-by-rules r e =
       let refused = sym (as-stored table position codes) ∙ e in
-      sym (along-rules events (store-step table position codes) refl)
+      sym (along-rules events (operation-step table (Store position codes)) refl)
       ∙ ap₂ (λ (a : Loaded) (t : List ℕ). saw (StoreAnswered a) (byRules t events)) refused
       (refused-store table position codes r refused ∙ sym (refused-load table position codes r e))
 

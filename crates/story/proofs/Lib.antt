@@ -6,7 +6,9 @@ pub mod OneOutcome
 pub mod Numbers
 pub mod Stays
 pub mod Accepted
+pub mod Operations
 pub mod Runs
+pub mod Heartbeats
 pub mod Demand1
 pub mod Demand2
 pub mod ByteFour

@@ -6,7 +6,8 @@ use mathlib.Core.Bool.{Bool, true, false, cond, not}
 use mathlib.Core.List.{List, [], _∷_}
 use mathlib.Core.Logic.{inl, inr, _↔_}
 use lib.IntN.{ℤ}
-use lib.ListN.{getD}
+use lib.Dec.{eqb}
+use lib.ListN.{length, getD}
 use native.Mathlib.Omega.{arith}
 use Prim.Native.Nat.{ℕ, _-_, _≤_}
 use Rattle.refusals.specs.declared.Refusal.{Refusal}
@@ -14,7 +15,9 @@ use Rattle.refusals.specs.declared.Refusal.the-variants.{TableNotSound, FrameSh
 use Rattle.refusals.specs.Numbers.{numberOf}
 use Rattle.refusals.specs.Order.{Row, decide, Passed}
 use Rattle.refusals.proofs.Deciding.{holds-here, holds-not, decide-map, passes, has-passed}
+use Rattle.laws.specs.Rows.{rowAt}
 use Rattle.pec.specs.Words.{payloadRight}
+use Rattle.records.specs.Record.{recordSize}
 use Rattle.chain.specs.declared.frames.Answer.the-variants.{Refused as Refuses}
 use Rattle.chain.specs.Frame.{frameRefusals, answer}
 use Rattle.chain.specs.Numbers.{numbersOf}
@@ -37,9 +40,15 @@ use Rattle.ports.specs.Ports.{partA, portRefusals, portOf}
 use Rattle.messages.specs.declared.verdicts.Verdict.the-variants.{Refused as Unjudged, Passed as Good, Failed, Damaged, TimedOut}
 use Rattle.messages.specs.Messages.{countIn, flagsIn, messageRight, isPass}
 use Rattle.messages.specs.Verdicts.{verdictRefusals, verdictOf, verdict}
+use Rattle.heartbeats.specs.Steps.{isTimeout, towardsA}
+use Rattle.passing.specs.declared.operations.Sent.the-variants.{Unsent, Nothing as None, TowardsA, TowardsB}
+use Rattle.passing.specs.declared.operations.Relayed.the-variants.{Unrelayed, Stopped, SentOn}
+use Rattle.passing.specs.declared.operations.TimedOut.the-variants.{Untimed, NoTimeoutMonitor, RanOut}
+use Rattle.passing.specs.Hops.{hopSends}
+use Rattle.passing.specs.Operations.{sentTowards, wakeRefusals, wokenAt, relayRefusals, relayedAt, beaten, timeOutRefusals, timedOut}
 use Rattle.readings.specs.declared.pack_summary.Pack.the-variants.{Refused as Unsummed}
 use Rattle.readings.specs.Readings.{measured, wholeOf, summaryOf}
-use Rattle.story.specs.Numbers.{dischargedNumbers, builtNumbers, checkedNumbers, portNumber, verdictNumbers, lookedNumbers, packNumbers, summaryRefusals, firstNumber, First}
+use Rattle.story.specs.Numbers.{dischargedNumbers, sentNumbers, relayedNumbers, timedNumbers, builtNumbers, checkedNumbers, portNumber, verdictNumbers, lookedNumbers, packNumbers, summaryRefusals, firstNumber, First}
 
 -- ---- which refusal it is
 
@@ -157,6 +166,44 @@ port-number a b n k = number-by portNumber (portRefusals a b n k) Refused _ (λ 
     either : (c : Bool) → portNumber (cond c A B) ≡ 0
     either true = refl
     either false = refl
+
+-- what is sent, or sent on, or no timeout monitor, is no refusal
+sent-accepted : (r bytes : List ℕ) → sentNumbers (sentTowards r bytes) .number ≡ 0
+unfolding sentTowards
+sent-accepted r bytes = by (eqb (length bytes) 0) (towardsA r)
+  where
+    by : (none toA : Bool) → sentNumbers (cond none None (cond toA TowardsA TowardsB)) .number ≡ 0
+    by true toA = refl
+    by false true = refl
+    by false false = refl
+
+module _ (table : List ℕ) (position : ℕ) where
+  pub wake-number : (room : ℕ) → sentNumbers (wokenAt table position room) .number ≡ firstNumber (wakeRefusals table position room)
+  unfolding wokenAt
+  wake-number room = number-by (λ x. sentNumbers x .number) (wakeRefusals table position room) Unsent _ (λ r. refl) (sent-accepted _ _)
+
+  pub beat-number : (room : ℕ) → sentNumbers (beaten table position room) .number ≡ firstNumber (wakeRefusals table position room)
+  unfolding beaten
+  beat-number room = number-by (λ x. sentNumbers x .number) (wakeRefusals table position room) Unsent _ (λ r. refl) (sent-accepted _ _)
+
+  pub relay-number : (message : List ℕ) (room : ℕ) → relayedNumbers (relayedAt table position message room) .number ≡ firstNumber (relayRefusals table position (length message) room)
+  unfolding relayedAt
+  relay-number message room =
+      number-by (λ x. relayedNumbers x .number) (relayRefusals table position (length message) room) Unrelayed _ (λ r. refl)
+      (by (eqb (length (hopSends (position - 1) message table)) 0))
+    where
+      by : (none : Bool) → relayedNumbers (cond none Stopped SentOn) .number ≡ 0
+      by true = refl
+      by false = refl
+
+  pub time-number : timedNumbers (timedOut table position) .number ≡ firstNumber (timeOutRefusals table position)
+  unfolding timedOut
+  time-number =
+      number-by (λ x. timedNumbers x .number) (timeOutRefusals table position) Untimed _ (λ r. refl) (by (isTimeout (rowAt recordSize (position - 1) table)))
+    where
+      by : (its : Bool) → timedNumbers (cond its RanOut NoTimeoutMonitor) .number ≡ 0
+      by true = refl
+      by false = refl
 
 pub verdict-number : (bytes : List ℕ) (late : Bool) → verdictNumbers (verdict bytes late) .number ≡ firstNumber (verdictRefusals bytes late)
 unfolding verdict verdictOf

@@ -1,5 +1,5 @@
 -- A long read is of one moment, by the rules. While no UNSNAP comes, a SNAP_ST that is set stays set and the copy stays what it was, whatever frames
--- come and whatever is stored and compared: so a cell read, wherever it stands, shows its part of the copy, after a SNAP its part of the cells as they
+-- come and whatever is done beside them: so a cell read, wherever it stands, shows its part of the copy, after a SNAP its part of the cells as they
 -- were shown at the SNAP, and the six together all of them. After an UNSNAP, and while no SNAP comes, SNAP_ST stays clear, and a read shows its part
 -- as it then is.
 -- Assumes nothing.
@@ -33,7 +33,7 @@ use Rattle.chain.specs.Frame.{frameRefusals}
 use Rattle.story.proofs.Accepted.{frame-sound, kept-table, ownAt, record-at, kept-at}
 use Rattle.story.proofs.Along.{judged-alike, rules-keep, bare-passes, ruled-frame, read-shows, along-run, seen-there, without-both}
 use Rattle.story.proofs.Runs.{full}
-use Rattle.story.proofs.Snapshot.{snap-st, snap-copies, copy-kept, store-snap-st, store-copy, compare-snap-st, compare-copy, shows-its-part, together, length-shown}
+use Rattle.story.proofs.Snapshot.{snap-st, snap-copies, copy-kept, store-snap-st, store-copy, compare-snap-st, compare-copy, woken-snap-st, woken-copy, reached-snap-st, reached-copy, late-snap-st, late-copy, shows-its-part, together, length-shown}
 
 -- ---- one monitor: a snapshot stays on, with its copy; and off
 
@@ -86,13 +86,17 @@ held-along =
     (λ c other own r whole. record { held = λ on. (stays-on own r whole c other on, copy-kept own r whole on c) })
     (λ codes r. record { held = λ on. (store-snap-st codes r ∙ on, store-copy codes r) })
     (λ r. record { held = λ on. (compare-snap-st r ∙ on, compare-copy r) })
+    (λ r. record { held = λ on. (woken-snap-st r ∙ on, woken-copy r) })
+    (λ message r. record { held = λ on. (reached-snap-st message r ∙ on, reached-copy message r) })
+    (λ r. record { held = λ on. (late-snap-st r ∙ on, late-copy r) })
 
 off-along : (table : List ℕ) (events : List Event) → Without Snap events → sound table ≡ true → (k : ℕ) → k < monitors table
     → Off (rowAt recordSize k table) (rowAt recordSize k (byRules table events .table))
 off-along =
     along-run Snap Off (λ r. record { off = λ e. e }) (λ r s t one two. record { off = λ e. two .off (one .off e) })
     (λ c other own r whole. record { off = stays-off own r whole c other }) (λ codes r. record { off = λ e. store-snap-st codes r ∙ e })
-    (λ r. record { off = λ e. compare-snap-st r ∙ e })
+    (λ r. record { off = λ e. compare-snap-st r ∙ e }) (λ r. record { off = λ e. woken-snap-st r ∙ e })
+    (λ message r. record { off = λ e. reached-snap-st message r ∙ e }) (λ r. record { off = λ e. late-snap-st r ∙ e })
 
 -- ---- the events up to a read, and the read
 

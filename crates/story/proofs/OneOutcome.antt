@@ -25,14 +25,16 @@ use Rattle.wire.specs.Order.{writePayloads}
 use Rattle.records.specs.Commands.{commands, commandOf, isListed, frameLength, mostMonitors, replyLength, dataSize, widthOf}
 use Rattle.records.specs.Record.{cellCount, lastCells, byteIn, snapped, inLpcm, isRecord, recordSound, recordSize}
 use Rattle.reads.specs.Reply.{reply}
-use Rattle.writes.specs.Writes.{rulesOf, written}
+use Rattle.writes.specs.Writes.{rulesOf, storesWhole, written}
 use Rattle.thresholds.specs.Thresholds.{lower, upper, vuv, vov, codesOf}
-use Rattle.monitor.specs.Effects.{cellsTo, takes, keeps}
+use Rattle.monitor.specs.Effects.{cellsTo, done, takes, keeps}
 use Rattle.cells.specs.Cells.{codeIn, store, compare}
 use Rattle.records.proofs as records
 use Rattle.writes.proofs as writes
+use Rattle.writing.proofs as writing
 use Rattle.reads.proofs as reads
 use Rattle.monitor.proofs as monitor
+use Rattle.acting.proofs as acting
 use Rattle.judging.specs.Table.{monitors, wholeTable, sound}
 use Rattle.judging.specs.Refusals.{commandIn}
 use Rattle.replying.specs.Replied.{replied, repliesFit, repliesInto}
@@ -49,6 +51,8 @@ use Rattle.measuring.proofs as measuring
 use Rattle.heartbeats.specs.declared.steps.Beat.the-variants.{Silent}
 use Rattle.heartbeats.specs.Steps.{isTimeout, towardsA, woken, wakes, reached, answers, late}
 use Rattle.heartbeats.proofs as heartbeats
+use Rattle.passing.specs.Operations.{wokenAt, tableAfterWake, outAfterWake, relayedAt, tableAfterRelay, outAfterRelay, beaten, tableAfterBeat, outAfterBeat, timedOut, tableAfterTimeOut}
+use Rattle.passing.proofs as passing
 use Rattle.loads.proofs as loads
 use Rattle.judging.specs.Places.{placed as placeOf}
 use Rattle.priorities.specs.Outputs.{outputs, countOn}
@@ -154,9 +158,13 @@ pub record OneOutcome : Type 0 where
   width-of : Settles records.width_of.Reads.Post (λ κ z e. leaves z []) (λ κ a. leaves (widthOf (a .0)) [])
   reply-of : Settles reads.reply_of.Reads.Post (λ κ z e. leaves z []) (λ κ a. leaves (reply (a .0) (now (a .1 .0))) [])
   needs-check : Settles writes.needs_check.Reads.Post (λ κ z e. leaves z []) (λ κ a. leaves (rulesOf (a .0) .«needs_check») [])
-  write : Settles writes.write.Reads.Post (λ κ z e. leaves z (now (e .1 .1 .0) ∷ []))
+  rules-of : Settles writes.rules_of.Reads.Post (λ κ z e. leaves z []) (λ κ a. leaves (rulesOf (a .0)) [])
+  stores-whole : Settles writes.stores_whole.Reads.Post (λ κ z e. leaves z []) (λ κ a. leaves (storesWhole (a .0)) [])
+  write : Settles writing.write.Reads.Post (λ κ z e. leaves z (now (e .1 .1 .0) ∷ []))
       (λ κ a. leaves tt (cond (isRecord (now (a .1 .1 .0)) && leb (dataSize (a .0)) (length (now (a .1 .1 .1 .0)))) (written (a .0) (a .1 .0) (now (a .1 .1 .1 .0)) (now (a .1 .1 .0))) (now (a .1 .1 .0)) ∷ []))
-  act : Settles monitor.act.Reads.Post (λ κ z e. leaves z (now (e .1 .0) ∷ []))
+  carry-out : Settles monitor.carry_out.Reads.Post (λ κ z e. leaves z (now (e .1 .0) ∷ []))
+      (λ κ a. leaves tt (cond (isRecord (now (a .1 .0))) (done (a .0) (now (a .1 .0))) (now (a .1 .0)) ∷ []))
+  act : Settles acting.act.Reads.Post (λ κ z e. leaves z (now (e .1 .0) ∷ []))
       (λ κ a. leaves (isRecord (now (a .1 .0)) && takes (a .0) (now (a .1 .1 .0)) (now (a .1 .0))) (cond (isRecord (now (a .1 .0))) (keeps (a .0) (now (a .1 .1 .0)) (now (a .1 .0))) (now (a .1 .0)) ∷ []))
   remember : Settles monitor.remember.Reads.Post (λ κ z e. leaves z (now (e .0) ∷ [])) (λ κ a. leaves tt (cond (isRecord (now (a .0))) (cellsTo lastCells (now (a .0))) (now (a .0)) ∷ []))
   measure : Settles measuring.measure.Reads.Post (λ κ z e. leaves z (now (e .0) ∷ []))
@@ -204,6 +212,15 @@ pub record OneOutcome : Type 0 where
       (λ κ a. leaves (compared (now (a .0)) (a .1 .0)) (tableAfterCompare (now (a .0)) (a .1 .0) ∷ []))
   load : Settles loads.load.Reads.Post (λ κ z e. leaves z (now (e .0) ∷ []))
       (λ κ a. leaves (loaded (now (a .0)) (a .1 .0) (now (a .1 .1 .0))) (tableAfterLoad (now (a .0)) (a .1 .0) (now (a .1 .1 .0)) ∷ []))
+  -- a heartbeat in a table
+  table-wake : Settles passing.wake.Reads.Post (λ κ z e. leaves z (now (e .0) ∷ now (e .1 .1 .0) ∷ []))
+      (λ κ a. leaves (wokenAt (now (a .0)) (a .1 .0) (length (now (a .1 .1 .0)))) (tableAfterWake (now (a .0)) (a .1 .0) (length (now (a .1 .1 .0))) ∷ outAfterWake (now (a .0)) (a .1 .0) (now (a .1 .1 .0)) ∷ []))
+  table-relay : Settles passing.relay.Reads.Post (λ κ z e. leaves z (now (e .0) ∷ now (e .1 .1 .1 .0) ∷ []))
+      (λ κ a. leaves (relayedAt (now (a .0)) (a .1 .0) (now (a .1 .1 .0)) (length (now (a .1 .1 .1 .0)))) (tableAfterRelay (now (a .0)) (a .1 .0) (now (a .1 .1 .0)) (length (now (a .1 .1 .1 .0))) ∷ outAfterRelay (now (a .0)) (a .1 .0) (now (a .1 .1 .0)) (now (a .1 .1 .1 .0)) ∷ []))
+  table-heartbeat : Settles passing.heartbeat.Reads.Post (λ κ z e. leaves z (now (e .0) ∷ now (e .1 .1 .0) ∷ []))
+      (λ κ a. leaves (beaten (now (a .0)) (a .1 .0) (length (now (a .1 .1 .0)))) (tableAfterBeat (now (a .0)) (a .1 .0) (length (now (a .1 .1 .0))) ∷ outAfterBeat (now (a .0)) (a .1 .0) (now (a .1 .1 .0)) ∷ []))
+  table-time-out : Settles passing.time_out.Reads.Post (λ κ z e. leaves z (now (e .0) ∷ []))
+      (λ κ a. leaves (timedOut (now (a .0)) (a .1 .0)) (tableAfterTimeOut (now (a .0)) (a .1 .0) ∷ []))
   -- discharge
   put-outputs : Settles priorities.put_outputs.Reads.Post (λ κ z e. leaves z (now (e .1 .1 .1 .0) ∷ []))
       (λ κ a. leaves (cond (leb cellCount (length (now (a .1 .1 .1 .0)))) (countOn (a .1 .0) (a .1 .1 .0) (now (a .0))) 0) (cond (leb cellCount (length (now (a .1 .1 .1 .0)))) (outputs (a .1 .0) (a .1 .1 .0) (now (a .0)) ++ drop cellCount (now (a .1 .1 .1 .0))) (now (a .1 .1 .1 .0)) ∷ []))
@@ -274,7 +291,10 @@ one-outcomes =
       width-of = settles (λ κ a z e p i. leaves (p .0 i) []);
       reply-of = settles (λ κ a z e p i. leaves (p i) []);
       needs-check = settles (λ κ a z e p i. leaves (p i) []);
+      rules-of = settles (λ κ a z e p i. leaves (p i) []);
+      stores-whole = settles (λ κ a z e p i. leaves (p i) []);
       write = settles (λ κ a z e p i. leaves z (p i ∷ []));
+      carry-out = settles (λ κ a z e p i. leaves z (p i ∷ []));
       act = settles (λ κ a z e p i. leaves (p .0 i) (p .1 i ∷ []));
       remember = settles (λ κ a z e p i. leaves z (p i ∷ []));
       measure = settles (λ κ a z e p i. leaves (p .0 i) (p .1 i ∷ []));
@@ -306,6 +326,10 @@ one-outcomes =
       store-one = settles (λ κ a z e p i. leaves (p .0 i) (p .1 i ∷ []));
       compare-one = settles (λ κ a z e p i. leaves (p .0 i) (p .1 i ∷ []));
       load = settles (λ κ a z e p i. leaves (p .0 i) (p .1 i ∷ []));
+      table-wake = settles (λ κ a z e p i. leaves (p .0 i) (p .1 .0 i ∷ p .1 .1 i ∷ []));
+      table-relay = settles (λ κ a z e p i. leaves (p .0 i) (p .1 .0 i ∷ p .1 .1 i ∷ []));
+      table-heartbeat = settles (λ κ a z e p i. leaves (p .0 i) (p .1 .0 i ∷ p .1 .1 i ∷ []));
+      table-time-out = settles (λ κ a z e p i. leaves (p .0 i) (p .1 i ∷ []));
       put-outputs = settles (λ κ a z e p i. leaves (p .0 i) (p .1 i ∷ []));
       discharge-outputs = settles (λ κ a z e p i. leaves (p .0 i) (p .1 i ∷ []));
       start = settles (λ κ a z e p i. leaves z (p i ∷ []));

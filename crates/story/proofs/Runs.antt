@@ -9,7 +9,6 @@ use Prim.Native.Nat.{ℕ, _-_, _*_, _≤_}
 use native.Mathlib.Nat.{le-trans, mul-comm}
 use native.Mathlib.Omega.{arith}
 use lib.Dec.{eqb}
-use lib.IntN.{ℤ}
 use lib.ListN.{length, take, drop, replicate, length-map, length-drop, length-replicate}
 use lib.Seq.{take-at}
 use borrow.Author.Tests.{le-ltb, eq-eqb, eqb-true, not-false}
@@ -19,7 +18,7 @@ use Rattle.laws.proofs.Rows.{length-rows, length-joined, every-image, along-sam
 use Rattle.wire.specs.Order.{replyData}
 use Rattle.wire.proofs.Order.{every-writePayloads}
 use Rattle.refusals.specs.declared.Refusal.{Refusal}
-use Rattle.refusals.specs.Order.{Row, decide, Passed}
+use Rattle.refusals.specs.Order.{decide, Passed}
 use Rattle.pec.specs.Words.{sealedRight}
 use Rattle.refusals.proofs.Deciding.{decide-append, passes, passed-agree}
 use Rattle.records.specs.declared.commands.Command.{Command}
@@ -42,8 +41,6 @@ use Rattle.chain.specs.Frame.{frameRefusals, answer, tableAfter, replyAfter}
 use Rattle.replying.proofs.OwnReply.{length-replied}
 use Rattle.judging.proofs.Decided.{either-way}
 use Rattle.serving.proofs.Taken.{taken-read, taken-bare, taken-none}
-use Rattle.loads.specs.declared.loads.Loaded.the-variants.{Unloaded}
-use Rattle.loads.specs.Load.{storeRefusals, stored, tableAfterStore, compareRefusals, compared, tableAfterCompare}
 use Rattle.clocking.specs.Clock.{Clock, start, answered}
 use Rattle.releasing.specs.Release.{released, tableReleased}
 use Rattle.clocked.specs.Frames.{clockedAll, answeredAll}
@@ -53,21 +50,8 @@ use Rattle.clocking.proofs.Known.{reply-short}
 use Rattle.clocking.proofs.Lengths.{length-stateAfter}
 use Rattle.clocking.proofs.View.{view, view-idle}
 use Rattle.clocked.proofs.Whole.{released-whole, table-released-whole, reply-whole}
-use Rattle.story.specs.Runs.{Frame, Store, Compare, Seen, Answered, StoreAnswered, CompareAnswered, Step, replyBytes, ruleRefusals, takesWrite, takersOf, replies, obeyed, ruled, stateAfterAll, cameBack}
-
--- ---- two questions with the same refusals, as one
-
-decide-both : {A B C : Type 0} (f : A → B → C) (rows : List Row) (a : Refusal → A) (b : Refusal → B) (x : A) (y : B)
-    → f (decide rows a x) (decide rows b y) ≡ decide rows (λ r. f (a r) (b r)) (f x y)
-unfolding decide
-decide-both f [] a b x y = refl
-decide-both {A} {B} {C} f (row ∷ rows) a b x y = by (row .holds) (decide-both f rows a b x y)
-  where
-    by : (t : Bool) → f (decide rows a x) (decide rows b y) ≡ decide rows (λ r. f (a r) (b r)) (f x y)
-        → f (cond t (a (row .refusal)) (decide rows a x)) (cond t (b (row .refusal)) (decide rows b y))
-        ≡ cond t (f (a (row .refusal)) (b (row .refusal))) (decide rows (λ r. f (a r) (b r)) (f x y))
-    by true rest = refl
-    by false rest = rest
+use Rattle.story.proofs.Operations.{decide-three, stepTo}
+use Rattle.story.specs.Runs.{Frame, Seen, Answered, Step, replyBytes, ruleRefusals, takesWrite, takersOf, replies, obeyed, ruled, stateAfterAll, cameBack}
 
 -- ---- what an accepted frame makes, in the rules' words
 
@@ -114,9 +98,6 @@ same-replies Unlisted n table buffer = refl
 abbrev seenIn : Answer → List ℕ → Seen
 seenIn said left = Answered said (take (replyBytes said) left)
 
-abbrev stepTo : List ℕ → Seen → Step
-stepTo table seen = record { table = table; seen = seen }
-
 module _ (table frame buffer : List ℕ) (room : payloadSize * monitors table ≤ length buffer) where
   abbrev c : Command
   c = commandIn frame
@@ -142,8 +123,7 @@ module _ (table frame buffer : List ℕ) (room : payloadSize * monitors table �
   unfolding tableAfter answer replyAfter ruled obeyed kept
   frame-step =
       let rows = frameRefusals table frame (length buffer) in
-      ap (stepTo (tableAfter table frame (length buffer))) (decide-both seenIn rows Refused (λ r. buffer) _ _)
-      ∙ decide-both stepTo rows (λ r. table) (λ r. Answered (Refused r) []) _ _
+      decide-three seenIn rows table Refused buffer _ _ _
       ∙ no-sixth (λ r. stepTo table (Answered (Refused r) [])) _
       ∙ passed-agree (ruleRefusals table frame) (λ r. stepTo table (Answered (Refused r) [])) _ _
       (λ p. ap₂ (λ (taken : ℕ) (back : List ℕ). stepTo (kept c n table frame) (Answered (Accepted taken (replyLength c n)) back))
@@ -155,18 +135,6 @@ module _ (table frame buffer : List ℕ) (room : payloadSize * monitors table �
   length-after =
       either-way (λ (left : List ℕ). length left ≡ length buffer) (frameRefusals table frame (length buffer)) (λ r. buffer) (replied c n table buffer)
       (λ r. refl) (length-replied c n table buffer (le-trans (reply-short c n) room))
-
--- ---- a store and a compare
-
-pub store-step : (table : List ℕ) (position : ℕ) (codes : List ℤ)
-    → stepTo (tableAfterStore table position codes) (StoreAnswered (stored table position codes)) ≡ ruled table (Store position codes)
-unfolding tableAfterStore stored ruled
-store-step table position codes = decide-both (λ after said. stepTo after (StoreAnswered said)) (storeRefusals table position codes) (λ r. table) Unloaded _ _
-
-pub compare-step : (table : List ℕ) (position : ℕ)
-    → stepTo (tableAfterCompare table position) (CompareAnswered (compared table position)) ≡ ruled table (Compare position)
-unfolding tableAfterCompare compared ruled
-compare-step table position = decide-both (λ after said. stepTo after (CompareAnswered said)) (compareRefusals table position) (λ r. table) Unloaded _ _
 
 -- ---- a clocked frame
 

@@ -1,4 +1,4 @@
--- A snapshot at one monitor. What becomes of SNAP_ST and of the copy, whatever command comes, and at a store and a compare; and what the six cell
+-- A snapshot at one monitor. What becomes of SNAP_ST and of the copy, whatever command comes, at a store, a compare and a turn in a heartbeat; and what the six cell
 -- reads show together: the copy while SNAP_ST is set, the live cells where it is not.
 -- Assumes nothing.
 use mathlib.Core.Path.{_≡_, refl, sym, ap, ap₂, _∙_, subst, subst⁻¹}
@@ -26,13 +26,15 @@ use Rattle.records.specs.declared.record.Part.{Part}
 use Rattle.records.specs.Record.{cells, flags, snapshot, statusBits, configurationA, counter, unlocked, recordSize, snapped, inLpcm, bytesOf, byteOf, onBytes}
 use Rattle.records.specs.Commands.{rdcva, rdcvb, rdcvc, rdcvd, rdcve, rdcvf}
 use Rattle.records.proofs.Anew.{length-anew, anew-inside}
-use Rattle.records.proofs.Parts.{part-of-part, made-of, length-part, outside-anew}
+use Rattle.records.proofs.Parts.{byte-of-part, part-of-part, made-of, length-part, outside-anew}
 use Rattle.records.proofs.Modes.{snapped-elsewhere}
 use Rattle.writes.specs.Writes.{rulesOf, changed, byRules}
 use Rattle.monitor.specs.Effects.{locked, counted, cellsTo, copied, enabled, done, keeps}
 use Rattle.monitor.specs.Spares.{Apart}
 use Rattle.monitor.proofs.Spares.{counted-spares}
 use Rattle.cells.specs.Cells.{store, compare}
+use Rattle.heartbeats.specs.Steps.{woken, reached, late}
+use Rattle.heartbeats.proofs.Kept.{woken-spares, late-spares, reached-spares}
 use Rattle.reads.specs.Shown.{cellReads, ofCells, copyOf, shownPart, shownCells}
 use Rattle.reads.specs.Reply.{sixBytes, sixIn, register}
 use Rattle.reads.proofs.Parts.{of-cells, shows-copy, shows-live, shows-other}
@@ -199,6 +201,33 @@ module _ (r : List ℕ) where
   pub compare-copy : bytesOf snapshot (compare r) ≡ bytesOf snapshot r
   unfolding compare
   compare-copy = outside snapshot flags _ r (inl (lit≤ tt))
+
+-- ---- a turn in a heartbeat changes neither
+
+module _ (r : List ℕ) where
+  as-snapped : (after : List ℕ) → bytesOf statusBits after ≡ bytesOf statusBits r → snapped after ≡ snapped r
+  unfolding snapped byteOf
+  as-snapped after e =
+      ap (bitAt 5) (sym (byte-of-part statusBits after {i = 0} (lit< tt)) ∙ ap (λ (l : List ℕ). getD l 0 0) e ∙ byte-of-part statusBits r {i = 0} (lit< tt))
+
+  pub woken-snap-st : snapped (woken r) ≡ snapped r
+  woken-snap-st = as-snapped (woken r) (woken-spares r statusBits (inr (lit≤ tt)) (inr (lit≤ tt)))
+
+  pub woken-copy : bytesOf snapshot (woken r) ≡ bytesOf snapshot r
+  woken-copy = woken-spares r snapshot (inr (lit≤ tt)) (inr (lit≤ tt))
+
+  pub late-snap-st : snapped (late r) ≡ snapped r
+  late-snap-st = as-snapped (late r) (late-spares r statusBits (inr (lit≤ tt)))
+
+  pub late-copy : bytesOf snapshot (late r) ≡ bytesOf snapshot r
+  late-copy = late-spares r snapshot (inr (lit≤ tt))
+
+module _ (message r : List ℕ) where
+  pub reached-snap-st : snapped (reached message r) ≡ snapped r
+  reached-snap-st = as-snapped r (reached message r) (reached-spares r message statusBits (inr (lit≤ tt)) (inr (lit≤ tt)) (inr (lit≤ tt)))
+
+  pub reached-copy : bytesOf snapshot (reached message r) ≡ bytesOf snapshot r
+  reached-copy = reached-spares r message snapshot (inr (lit≤ tt)) (inr (lit≤ tt)) (inr (lit≤ tt))
 
 -- ---- what the cell reads show
 

@@ -2,17 +2,27 @@
 -- refusals, and an accepted answer is no refusal. That of a whole frame is in `chain`, that of a store, a compare and a load in `loads`.
 -- Assumes nothing.
 use mathlib.Core.Path.{_≡_, ap, _∙_}
+use mathlib.Core.Bool.{Bool, true, false, cond}
 use mathlib.Core.List.{List, []}
-use Prim.Native.Nat.{ℕ}
+use Prim.Native.Nat.{ℕ, _-_}
 use native.Mathlib.Omega.{arith}
+use lib.Dec.{eqb}
 use lib.ListN.{length}
+use Rattle.laws.specs.Rows.{rowAt}
 use Rattle.refusals.specs.declared.Refusal.{Refusal}
+use Rattle.records.specs.Record.{recordSize}
 use Rattle.chain.specs.declared.frames.Answer.the-variants.{Refused, Accepted}
 use Rattle.chain.proofs.Refused.{accepted-apart}
 use Rattle.judging.proofs.Decided.{stays-so}
 use Rattle.priorities.specs.declared.outputs.Events.{Events}
 use Rattle.discharge.specs.declared.question.Discharged.the-variants.{Refused as Unasked, On}
 use Rattle.discharge.specs.Question.{dischargeRefusals, discharged, outputsAfter}
+use Rattle.heartbeats.specs.Steps.{isTimeout, towardsA}
+use Rattle.passing.specs.declared.operations.Sent.the-variants.{Unsent, Nothing as None, TowardsA, TowardsB}
+use Rattle.passing.specs.declared.operations.Relayed.the-variants.{Unrelayed, Stopped, SentOn}
+use Rattle.passing.specs.declared.operations.TimedOut.the-variants.{Untimed, NoTimeoutMonitor, RanOut}
+use Rattle.passing.specs.Hops.{hopSends}
+use Rattle.passing.specs.Operations.{sentTowards, wakeRefusals, wokenAt, tableAfterWake, outAfterWake, relayRefusals, relayedAt, tableAfterRelay, outAfterRelay, beaten, tableAfterBeat, outAfterBeat, timeOutRefusals, timedOut, tableAfterTimeOut}
 use Rattle.releasing.specs.declared.looks.Looked.the-variants.{Refused as Unseen, Holds}
 use Rattle.clocking.specs.Clock.{Clock}
 use Rattle.releasing.specs.Release.{releaseRefusals, released, tableReleased}
@@ -38,6 +48,50 @@ pub refused-discharge : (table : List ℕ) (position : ℕ) (events : Events) (p
 unfolding discharged outputsAfter
 refused-discharge table position events phase out r e =
     stays-so (dischargeRefusals table position phase (length out)) Unasked _ r out _ (on-apart _ r) e
+
+-- a heartbeat: what comes of it where no refusal holds is no refusal
+sent-apart : (r bytes : List ℕ) (e : Refusal) → sentTowards r bytes ≡ Unsent e → ⊥
+unfolding sentTowards
+sent-apart r bytes e = by (eqb (length bytes) 0) (towardsA r)
+  where
+    by : (none toA : Bool) → cond none None (cond toA TowardsA TowardsB) ≡ Unsent e → ⊥
+    by true toA q = let z : _≡_ {A = ℕ} 0 1 = cc in omega arith
+    by false true q = let z : _≡_ {A = ℕ} 0 1 = cc in omega arith
+    by false false q = let z : _≡_ {A = ℕ} 0 1 = cc in omega arith
+
+module _ (table : List ℕ) (position : ℕ) (out : List ℕ) (r : Refusal) where
+  pub refused-wake : wokenAt table position (length out) ≡ Unsent r → (tableAfterWake table position (length out) ≡ table) × (outAfterWake table position out ≡ out)
+  unfolding wokenAt tableAfterWake outAfterWake
+  refused-wake e =
+      let rows = wakeRefusals table position (length out) in
+      (stays-so rows Unsent _ r table _ (sent-apart _ _ r) e, stays-so rows Unsent _ r out _ (sent-apart _ _ r) e)
+
+  pub refused-beat : beaten table position (length out) ≡ Unsent r → (tableAfterBeat table position (length out) ≡ table) × (outAfterBeat table position out ≡ out)
+  unfolding beaten tableAfterBeat outAfterBeat
+  refused-beat e =
+      let rows = wakeRefusals table position (length out) in
+      (stays-so rows Unsent _ r table _ (sent-apart _ _ r) e, stays-so rows Unsent _ r out _ (sent-apart _ _ r) e)
+
+  pub refused-relay : (message : List ℕ) → relayedAt table position message (length out) ≡ Unrelayed r
+      → (tableAfterRelay table position message (length out) ≡ table) × (outAfterRelay table position message out ≡ out)
+  unfolding relayedAt tableAfterRelay outAfterRelay
+  refused-relay message e =
+      let rows = relayRefusals table position (length message) (length out) in
+      let sent = apart (eqb (length (hopSends (position - 1) message table)) 0) in
+      (stays-so rows Unrelayed _ r table _ sent e, stays-so rows Unrelayed _ r out _ sent e)
+    where
+      apart : (none : Bool) → cond none Stopped SentOn ≡ Unrelayed r → ⊥
+      apart true q = let z : _≡_ {A = ℕ} 0 1 = cc in omega arith
+      apart false q = let z : _≡_ {A = ℕ} 0 1 = cc in omega arith
+
+pub refused-time : (table : List ℕ) (position : ℕ) (r : Refusal) → timedOut table position ≡ Untimed r → tableAfterTimeOut table position ≡ table
+unfolding timedOut tableAfterTimeOut
+refused-time table position r e =
+    stays-so (timeOutRefusals table position) Untimed _ r table _ (apart (isTimeout (rowAt recordSize (position - 1) table))) e
+  where
+    apart : (its : Bool) → cond its RanOut NoTimeoutMonitor ≡ Untimed r → ⊥
+    apart true q = let z : _≡_ {A = ℕ} 0 1 = cc in omega arith
+    apart false q = let z : _≡_ {A = ℕ} 0 1 = cc in omega arith
 
 -- a look
 holds-apart : (n : ℕ) (r : Refusal) → Holds n ≡ Unseen r → ⊥

@@ -18,6 +18,10 @@ use Rattle.chain.specs.Frame.{frameRefusals, answer, tableAfter, replyAfter}
 use Rattle.loads.specs.Load.{storeRefusals, stored, tableAfterStore, compareRefusals, compared, tableAfterCompare, loadRefusals, loaded, tableAfterLoad}
 use Rattle.priorities.specs.declared.outputs.Events.{Events}
 use Rattle.discharge.specs.Question.{dischargeRefusals, discharged, outputsAfter}
+use Rattle.passing.specs.declared.operations.Sent.{Sent}
+use Rattle.passing.specs.declared.operations.Relayed.{Relayed}
+use Rattle.passing.specs.declared.operations.TimedOut.{TimedOut}
+use Rattle.passing.specs.Operations.{wakeRefusals, wokenAt, tableAfterWake, outAfterWake, relayRefusals, relayedAt, tableAfterRelay, outAfterRelay, beaten, tableAfterBeat, outAfterBeat, timeOutRefusals, timedOut, tableAfterTimeOut}
 use Rattle.clocking.specs.Clock.{Clock, answered}
 use Rattle.releasing.specs.Release.{releaseRefusals, released, tableReleased}
 use Rattle.releasing.specs.Look.{lookRefusals, looked, outAfter}
@@ -34,14 +38,14 @@ use Rattle.readings.specs.Readings.{microvolts, readingOf, summaryOf}
 use Rattle.story.specs.Numbers.{firstNumber, summaryRefusals}
 use Rattle.story.proofs.OneOutcome.{Settles, leaves, settles}
 use Rattle.story.proofs.Demand1.{Promised}
-use Rattle.oskorbine.specs.Packed.{packed, apart, refused, accepted, frameParts, loadParts, dischargedParts, builtParts, checkedParts, portParts, verdictParts, pointed, lookedParts}
+use Rattle.oskorbine.specs.Packed.{packed, apart, refused, accepted, frameParts, loadParts, dischargedParts, sentParts, relayedParts, timedParts, builtParts, checkedParts, portParts, verdictParts, pointed, lookedParts}
 use Rattle.oskorbine.specs.Events.{eventsIn}
 use Rattle.oskorbine.specs.Volts.{voltsOrNan, roomRow, summaryParts, summaryOut}
 use Rattle.oskorbine.proofs.Packed.{apart-packed}
-use Rattle.oskorbine.proofs.Fits.{frame-fits, release-fits, load-fits, discharge-fits, built-fits, checked-fits, verdict-fits, port-fits, look-fits, byte-fits, summary-fits}
+use Rattle.oskorbine.proofs.Fits.{frame-fits, release-fits, load-fits, discharge-fits, sent-fits, relayed-fits, timed-fits, built-fits, checked-fits, verdict-fits, port-fits, look-fits, byte-fits, summary-fits}
 use Rattle.oskorbine.proofs.Pointed.{pointed-bytes}
 use Rattle.story.proofs.Numbers.{store-number, compare-number, load-number}
-use Rattle.story.proofs.SurfaceNumbers.{frame-number, discharge-number, release-number, look-number, built-number, checked-number, verdict-number, port-number, summary-number, summary-stays, nothing-stays}
+use Rattle.story.proofs.SurfaceNumbers.{frame-number, discharge-number, wake-number, beat-number, relay-number, time-number, release-number, look-number, built-number, checked-number, verdict-number, port-number, summary-number, summary-stays, nothing-stays}
 use Rattle.oskorbine.proofs as oskorbine
 
 -- ---- every function
@@ -52,6 +56,10 @@ pub record Promises : Type 2 where
   compare : Promised oskorbine.osk_compare.Statement.statement oskorbine.osk_compare.Reads.Asked
   load : Promised oskorbine.osk_load.Statement.statement oskorbine.osk_load.Reads.Asked
   discharge : Promised oskorbine.osk_discharge.Statement.statement oskorbine.osk_discharge.Reads.Asked
+  wake : Promised oskorbine.osk_wake.Statement.statement oskorbine.osk_wake.Reads.Asked
+  relay : Promised oskorbine.osk_relay.Statement.statement oskorbine.osk_relay.Reads.Asked
+  heartbeat : Promised oskorbine.osk_heartbeat.Statement.statement oskorbine.osk_heartbeat.Reads.Asked
+  time-out : Promised oskorbine.osk_time_out.Statement.statement oskorbine.osk_time_out.Reads.Asked
   host-frame : Promised oskorbine.osk_host_frame.Statement.statement oskorbine.osk_host_frame.Reads.Asked
   check : Promised oskorbine.osk_check.Statement.statement oskorbine.osk_check.Reads.Asked
   verdict-on : Promised oskorbine.osk_verdict.Statement.statement oskorbine.osk_verdict.Reads.Asked
@@ -77,6 +85,14 @@ pub record Outcomes : Type 0 where
       (λ κ a. leaves (packed (loadParts (loaded (now (a .0)) (a .1 .0) (now (a .1 .1 .0))))) (tableAfterLoad (now (a .0)) (a .1 .0) (now (a .1 .1 .0)) ∷ []))
   discharge : Settles oskorbine.osk_discharge.Reads.Post (λ κ z e. leaves z (now (e .1 .1 .1 .1 .0) ∷ []))
       (λ κ a. leaves (packed (dischargedParts (discharged (now (a .0)) (a .1 .0) (eventsIn (a .1 .1 .0)) (a .1 .1 .1 .0) (length (now (a .1 .1 .1 .1 .0)))))) (outputsAfter (now (a .0)) (a .1 .0) (eventsIn (a .1 .1 .0)) (a .1 .1 .1 .0) (now (a .1 .1 .1 .1 .0)) ∷ []))
+  wake : Settles oskorbine.osk_wake.Reads.Post (λ κ z e. leaves z (now (e .0) ∷ now (e .1 .1 .0) ∷ []))
+      (λ κ a. leaves (packed (sentParts (wokenAt (now (a .0)) (a .1 .0) (length (now (a .1 .1 .0)))))) (tableAfterWake (now (a .0)) (a .1 .0) (length (now (a .1 .1 .0))) ∷ outAfterWake (now (a .0)) (a .1 .0) (now (a .1 .1 .0)) ∷ []))
+  relay : Settles oskorbine.osk_relay.Reads.Post (λ κ z e. leaves z (now (e .0) ∷ now (e .1 .1 .1 .0) ∷ []))
+      (λ κ a. leaves (packed (relayedParts (relayedAt (now (a .0)) (a .1 .0) (now (a .1 .1 .0)) (length (now (a .1 .1 .1 .0)))))) (tableAfterRelay (now (a .0)) (a .1 .0) (now (a .1 .1 .0)) (length (now (a .1 .1 .1 .0))) ∷ outAfterRelay (now (a .0)) (a .1 .0) (now (a .1 .1 .0)) (now (a .1 .1 .1 .0)) ∷ []))
+  heartbeat : Settles oskorbine.osk_heartbeat.Reads.Post (λ κ z e. leaves z (now (e .0) ∷ now (e .1 .1 .0) ∷ []))
+      (λ κ a. leaves (packed (sentParts (beaten (now (a .0)) (a .1 .0) (length (now (a .1 .1 .0)))))) (tableAfterBeat (now (a .0)) (a .1 .0) (length (now (a .1 .1 .0))) ∷ outAfterBeat (now (a .0)) (a .1 .0) (now (a .1 .1 .0)) ∷ []))
+  time-out : Settles oskorbine.osk_time_out.Reads.Post (λ κ z e. leaves z (now (e .0) ∷ []))
+      (λ κ a. leaves (packed (timedParts (timedOut (now (a .0)) (a .1 .0)))) (tableAfterTimeOut (now (a .0)) (a .1 .0) ∷ []))
   host-frame : Settles oskorbine.osk_host_frame.Reads.Post (λ κ z e. leaves z (now (e .1 .1 .1 .0) ∷ []))
       (λ κ a. leaves (packed (builtParts (built (a .0) (a .1 .0) (now (a .1 .1 .0)) (length (now (a .1 .1 .1 .0)))))) (bufferAfter (a .0) (a .1 .0) (now (a .1 .1 .0)) (now (a .1 .1 .1 .0)) ∷ []))
   check : Settles oskorbine.osk_check.Reads.Post (λ κ z e. leaves z []) (λ κ a. leaves (packed (checkedParts (checked (now (a .0))))) [])
@@ -105,6 +121,9 @@ pub record Surface : Type 2 where
   load-apart : (l : Loaded) → apart (packed (loadParts l)) ≡ loadParts l
   discharge-apart : (table : List ℕ) (position : ℕ) (events : Events) (phase room : ℕ)
       → apart (packed (dischargedParts (discharged table position events phase room))) ≡ dischargedParts (discharged table position events phase room)
+  sent-apart : (s : Sent) → apart (packed (sentParts s)) ≡ sentParts s
+  relayed-apart : (m : Relayed) → apart (packed (relayedParts m)) ≡ relayedParts m
+  timed-apart : (t : TimedOut) → apart (packed (timedParts t)) ≡ timedParts t
   host-frame-apart : (code n : ℕ) (values : List ℕ) (room : ℕ) → apart (packed (builtParts (built code n values room))) ≡ builtParts (built code n values room)
   check-apart : (c : Checked) → apart (packed (checkedParts c)) ≡ checkedParts c
   verdict-apart : (bytes : List ℕ) (late : Bool) → ((k : ℕ) → getD bytes k 0 < 256) → apart (packed (verdictParts (verdict bytes late))) ≡ verdictParts (verdict bytes late)
@@ -120,6 +139,11 @@ pub record Surface : Type 2 where
   load-number : (table : List ℕ) (position : ℕ) (codes : List ℤ) → loadParts (loaded table position codes) .number ≡ firstNumber (loadRefusals table position codes)
   discharge-number : (table : List ℕ) (position : ℕ) (events : Events) (phase room : ℕ)
       → dischargedParts (discharged table position events phase room) .number ≡ firstNumber (dischargeRefusals table position phase room)
+  wake-number : (table : List ℕ) (position room : ℕ) → sentParts (wokenAt table position room) .number ≡ firstNumber (wakeRefusals table position room)
+  relay-number : (table : List ℕ) (position : ℕ) (message : List ℕ) (room : ℕ)
+      → relayedParts (relayedAt table position message room) .number ≡ firstNumber (relayRefusals table position (length message) room)
+  heartbeat-number : (table : List ℕ) (position room : ℕ) → sentParts (beaten table position room) .number ≡ firstNumber (wakeRefusals table position room)
+  time-out-number : (table : List ℕ) (position : ℕ) → timedParts (timedOut table position) .number ≡ firstNumber (timeOutRefusals table position)
   host-frame-number : (code n : ℕ) (values : List ℕ) (room : ℕ) → builtParts (built code n values room) .number ≡ firstNumber (buildRefusals code n values room)
   check-number : (payload : List ℕ) → checkedParts (checked payload) .number ≡ firstNumber (checkRefusals payload)
   verdict-number : (bytes : List ℕ) (late : Bool) → verdictParts (verdict bytes late) .number ≡ firstNumber (verdictRefusals bytes late)
@@ -145,6 +169,10 @@ proved =
       compare = (λ M. oskorbine.osk_compare.Met.met, λ κ a. tt);
       load = (λ M. oskorbine.osk_load.Met.met, λ κ a. tt);
       discharge = (λ M. oskorbine.osk_discharge.Met.met, λ κ a. tt);
+      wake = (λ M. oskorbine.osk_wake.Met.met, λ κ a. tt);
+      relay = (λ M. oskorbine.osk_relay.Met.met, λ κ a. tt);
+      heartbeat = (λ M. oskorbine.osk_heartbeat.Met.met, λ κ a. tt);
+      time-out = (λ M. oskorbine.osk_time_out.Met.met, λ κ a. tt);
       host-frame = (λ M. oskorbine.osk_host_frame.Met.met, λ κ a. tt);
       check = (λ M. oskorbine.osk_check.Met.met, λ κ a. tt);
       verdict-on = (λ M. oskorbine.osk_verdict.Met.met, λ κ a. tt);
@@ -166,6 +194,10 @@ settled =
       compare = settles (λ κ a z e p i. leaves (p .0 i) (p .1 i ∷ []));
       load = settles (λ κ a z e p i. leaves (p .0 i) (p .1 i ∷ []));
       discharge = settles (λ κ a z e p i. leaves (p .0 i) (p .1 i ∷ []));
+      wake = settles (λ κ a z e p i. leaves (p .0 i) (p .1 .0 i ∷ p .1 .1 i ∷ []));
+      relay = settles (λ κ a z e p i. leaves (p .0 i) (p .1 .0 i ∷ p .1 .1 i ∷ []));
+      heartbeat = settles (λ κ a z e p i. leaves (p .0 i) (p .1 .0 i ∷ p .1 .1 i ∷ []));
+      time-out = settles (λ κ a z e p i. leaves (p .0 i) (p .1 i ∷ []));
       host-frame = settles (λ κ a z e p i. leaves (p .0 i) (p .1 i ∷ []));
       check = settles (λ κ a z e p i. leaves (p i) []);
       verdict-on = settles (λ κ a z e p i. leaves (p i) []);
@@ -187,6 +219,9 @@ surface =
       frame-apart = λ table frame room. apart-packed _ (frame-fits table frame room);
       load-apart = λ l. apart-packed _ (load-fits l);
       discharge-apart = λ table position events phase room. apart-packed _ (discharge-fits table position events phase room);
+      sent-apart = λ s. apart-packed _ (sent-fits s);
+      relayed-apart = λ m. apart-packed _ (relayed-fits m);
+      timed-apart = λ t. apart-packed _ (timed-fits t);
       host-frame-apart = λ code n values room. apart-packed _ (built-fits code n values room);
       check-apart = λ c. apart-packed _ (checked-fits c);
       verdict-apart = λ bytes late small. apart-packed _ (verdict-fits bytes late small);
@@ -200,6 +235,10 @@ surface =
       compare-number = compare-number;
       load-number = load-number;
       discharge-number = discharge-number;
+      wake-number = wake-number;
+      relay-number = relay-number;
+      heartbeat-number = beat-number;
+      time-out-number = time-number;
       host-frame-number = built-number;
       check-number = checked-number;
       verdict-number = verdict-number;

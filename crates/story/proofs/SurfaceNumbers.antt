@@ -34,11 +34,19 @@ use Rattle.messages.specs.declared.verdicts.Verdict.the-variants.{Refused as Un
 use Rattle.messages.specs.Messages.{countIn, flagsIn, messageRight, isPass}
 use Rattle.messages.specs.Verdicts.{verdictRefusals, verdictOf, verdict}
 use Rattle.ports.specs.Ports.{partA, portRefusals, portOf}
+use Rattle.passing.specs.declared.operations.Sent.{Sent}
+use Rattle.passing.specs.declared.operations.Sent.the-variants.{Unsent, Nothing as None, TowardsA, TowardsB}
+use Rattle.passing.specs.declared.operations.Relayed.{Relayed}
+use Rattle.passing.specs.declared.operations.Relayed.the-variants.{Unrelayed, Stopped, SentOn}
+use Rattle.passing.specs.declared.operations.TimedOut.{TimedOut as Timed}
+use Rattle.passing.specs.declared.operations.TimedOut.the-variants.{Untimed, NoTimeoutMonitor, RanOut}
+use Rattle.passing.specs.Operations.{wakeRefusals, wokenAt, relayRefusals, relayedAt, beaten, timeOutRefusals, timedOut}
 use Rattle.readings.specs.declared.pack_summary.Pack.{Pack}
 use Rattle.readings.specs.declared.pack_summary.Pack.the-variants.{Refused as Unsummed, Nothing, Whole}
 use Rattle.readings.specs.Readings.{measured, wholeOf, summaryOf}
-use Rattle.story.specs.Numbers.{firstNumber, summaryRefusals}
-use Rattle.oskorbine.specs.Packed.{Parts, refused, accepted, frameParts, dischargedParts, builtParts, checkedParts, portParts, verdictParts, lookedParts}
+use Rattle.story.specs.Numbers.{sentNumbers, relayedNumbers, timedNumbers, firstNumber, summaryRefusals}
+use Rattle.story.proofs.Numbers.{wake-number as told-wake, beat-number as told-beat, relay-number as told-relay, time-number as told-time}
+use Rattle.oskorbine.specs.Packed.{Parts, refused, accepted, frameParts, dischargedParts, sentParts, relayedParts, timedParts, builtParts, checkedParts, portParts, verdictParts, lookedParts}
 use Rattle.oskorbine.specs.Volts.{summarySize, roomRow, summaryParts, summaryOut}
 
 pub frame-number : (table frame : List ℕ) (room : ℕ) → frameParts (answer table frame room) .number ≡ firstNumber (frameRefusals table frame room)
@@ -70,6 +78,36 @@ checked-number payload =
     none : (right : Bool) → checkedParts (cond right Right Wrong) .number ≡ 0
     none true = refl
     none false = refl
+
+-- the parts of an answer of a heartbeat have the number that demand 1 has
+same-sent : (s : Sent) → sentParts s .number ≡ sentNumbers s .number
+same-sent (Unsent r) = refl
+same-sent None = refl
+same-sent TowardsA = refl
+same-sent TowardsB = refl
+
+same-relayed : (m : Relayed) → relayedParts m .number ≡ relayedNumbers m .number
+same-relayed (Unrelayed r) = refl
+same-relayed Stopped = refl
+same-relayed SentOn = refl
+
+same-timed : (t : Timed) → timedParts t .number ≡ timedNumbers t .number
+same-timed (Untimed r) = refl
+same-timed NoTimeoutMonitor = refl
+same-timed RanOut = refl
+
+module _ (table : List ℕ) (position : ℕ) where
+  pub wake-number : (room : ℕ) → sentParts (wokenAt table position room) .number ≡ firstNumber (wakeRefusals table position room)
+  wake-number room = same-sent (wokenAt table position room) ∙ told-wake table position room
+
+  pub beat-number : (room : ℕ) → sentParts (beaten table position room) .number ≡ firstNumber (wakeRefusals table position room)
+  beat-number room = same-sent (beaten table position room) ∙ told-beat table position room
+
+  pub relay-number : (message : List ℕ) (room : ℕ) → relayedParts (relayedAt table position message room) .number ≡ firstNumber (relayRefusals table position (length message) room)
+  relay-number message room = same-relayed (relayedAt table position message room) ∙ told-relay table position message room
+
+  pub time-number : timedParts (timedOut table position) .number ≡ firstNumber (timeOutRefusals table position)
+  time-number = same-timed (timedOut table position) ∙ told-time table position
 
 pub verdict-number : (bytes : List ℕ) (late : Bool) → verdictParts (verdict bytes late) .number ≡ firstNumber (verdictRefusals bytes late)
 unfolding verdict verdictOf

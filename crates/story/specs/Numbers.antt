@@ -1,4 +1,4 @@
--- Document 01, "Numbers that come back", for the discharge outputs, the host, a verdict, a look and the summary: the paper's number and values for each case of an
+-- Document 01, "Numbers that come back", for the discharge outputs, a heartbeat, the host, a verdict, a look and the summary: the paper's number and values for each case of an
 -- answer. A refusal returns its number only; where nothing is refused the number is 0. The chain's own are in `chain`. And what it
 -- is that a condition is the first to hold.
 -- Assumes nothing.
@@ -26,6 +26,12 @@ use Rattle.ports.specs.declared.ports.Port.{Port}
 use Rattle.ports.specs.declared.ports.Port.the-variants.{Refused, A, B}
 use Rattle.messages.specs.declared.verdicts.Verdict.{Verdict}
 use Rattle.messages.specs.declared.verdicts.Verdict.the-variants.{Refused as Unjudged, Passed, Failed, Damaged, TimedOut}
+use Rattle.passing.specs.declared.operations.Sent.{Sent}
+use Rattle.passing.specs.declared.operations.Sent.the-variants.{Unsent, Nothing as None, TowardsA, TowardsB}
+use Rattle.passing.specs.declared.operations.Relayed.{Relayed}
+use Rattle.passing.specs.declared.operations.Relayed.the-variants.{Unrelayed, Stopped, SentOn}
+use Rattle.passing.specs.declared.operations.TimedOut.{TimedOut as Timed}
+use Rattle.passing.specs.declared.operations.TimedOut.the-variants.{Untimed, NoTimeoutMonitor, RanOut}
 use Rattle.readings.specs.declared.pack_summary.Pack.{Pack}
 use Rattle.readings.specs.declared.pack_summary.Pack.the-variants.{Refused as Unsummed, Nothing, Whole}
 use Rattle.readings.specs.declared.pack_summary.Summary.{Summary}
@@ -40,6 +46,25 @@ pub record Numbered (Value : Type 0) : Type 0 where
 abbrev pub dischargedNumbers : Discharged → Numbered ℕ
 dischargedNumbers (Unasked r) = record { number = numberOf r; values = [] }
 dischargedNumbers (On n) = record { number = 0; values = n ∷ [] }
+
+-- a manager that wakes, and a whole heartbeat: the port that a message is sent towards, or left at. Its bytes come beside it
+abbrev pub sentNumbers : Sent → Numbered ℕ
+sentNumbers (Unsent r) = record { number = numberOf r; values = [] }
+sentNumbers None = record { number = 0; values = 0 ∷ [] }
+sentNumbers TowardsA = record { number = 0; values = 1 ∷ [] }
+sentNumbers TowardsB = record { number = 0; values = 2 ∷ [] }
+
+-- a message that reaches a monitor: is it sent on
+abbrev pub relayedNumbers : Relayed → Numbered Bool
+relayedNumbers (Unrelayed r) = record { number = numberOf r; values = [] }
+relayedNumbers Stopped = record { number = 0; values = false ∷ [] }
+relayedNumbers SentOn = record { number = 0; values = true ∷ [] }
+
+-- the time that runs out: is it a timeout monitor's
+abbrev pub timedNumbers : Timed → Numbered Bool
+timedNumbers (Untimed r) = record { number = numberOf r; values = [] }
+timedNumbers NoTimeoutMonitor = record { number = 0; values = false ∷ [] }
+timedNumbers RanOut = record { number = 0; values = true ∷ [] }
 
 -- a host's frame: its length
 abbrev pub builtNumbers : Built → Numbered ℕ

@@ -1,6 +1,6 @@
--- Demand 3's three runs: what a list of frames, with stores and compares between them, comes to. By the rules of demand 2; by whole
--- frames; by bytes clocked one at a time. The last two are put together from what the functions of the engines promise. Each gives
--- the table afterwards and, event by event, what was seen.
+-- Demand 3's three runs: what a list of frames, with operations on the table between them, comes to: stores, compares, and a heartbeat in its parts and as
+-- a whole. By the rules of demand 2; by whole frames; by bytes clocked one at a time. The last two are put together from what the functions of the engines
+-- and of the operations promise. Each gives the table afterwards and, event by event, what was seen.
 -- Assumes nothing.
 use mathlib.Core.Bool.{Bool, not, _&&_, _||_}
 use mathlib.Core.List.{List, [], _∷_, map}
@@ -8,7 +8,7 @@ use Prim.Native.Nat.{ℕ, _-_, _*_, _≤_}
 use lib.IntN.{ℤ}
 use lib.ListN.{length, take, drop}
 use Rattle.laws.specs.Counts.{count}
-use Rattle.laws.specs.Rows.{rows, joined, along}
+use Rattle.laws.specs.Rows.{rows, rowAt, joined, along}
 use Rattle.pec.specs.Words.{sealedRight}
 use Rattle.wire.specs.Order.{replyData}
 use Rattle.refusals.specs.Order.{Row, decide}
@@ -31,6 +31,34 @@ use Rattle.cells.specs.Cells.{store, compare}
 use Rattle.loads.specs.declared.loads.Loaded.{Loaded}
 use Rattle.loads.specs.declared.loads.Loaded.the-variants.{Unloaded, Done}
 use Rattle.loads.specs.Load.{storeRefusals, stored, tableAfterStore, compareRefusals, compared, tableAfterCompare}
+use Rattle.heartbeats.specs.Steps.{late}
+use Rattle.passing.specs.declared.operations.Sent.{Sent}
+use Rattle.passing.specs.declared.operations.Sent.the-variants.{Unsent}
+use Rattle.passing.specs.declared.operations.Relayed.{Relayed}
+use Rattle.passing.specs.declared.operations.Relayed.the-variants.{Unrelayed}
+use Rattle.passing.specs.declared.operations.TimedOut.{TimedOut}
+use Rattle.passing.specs.declared.operations.TimedOut.the-variants.{Untimed}
+use Rattle.passing.specs.Hops.{wakeSends, wakeLeaves, hopSends, hopLeaves, beatSends, beatLeaves}
+use Rattle.passing.specs.Operations.{
+  handedOut,
+  sentTowards,
+  sentOn,
+  ranOut,
+  wakeRefusals,
+  wokenAt,
+  tableAfterWake,
+  outAfterWake,
+  relayRefusals,
+  relayedAt,
+  tableAfterRelay,
+  outAfterRelay,
+  beaten,
+  tableAfterBeat,
+  outAfterBeat,
+  timeOutRefusals,
+  timedOut,
+  tableAfterTimeOut,
+}
 use Rattle.clocking.specs.Clock.{answered}
 use Rattle.releasing.specs.Release.{released, tableReleased}
 use Rattle.clock_state.specs.State.{idle}
@@ -38,19 +66,36 @@ use Rattle.clocking.specs.Bytes.{clockOf, stateAfter}
 
 -- ---- what happens to a chain, and what is seen of it
 
+-- on the table, by no frame
+pub data Operation : Type 0 where
+  -- a position and the codes to store there
+  Store : ℕ → List ℤ → Operation
+  -- a position, whose stored cells are compared
+  Compare : ℕ → Operation
+  -- a position, where the manager wakes, and the buffer lent for what it sends
+  Wake : ℕ → List ℕ → Operation
+  -- a position, the bytes that reach the monitor there, and the buffer lent for what it sends on
+  Relay : ℕ → List ℕ → List ℕ → Operation
+  -- a position, where the manager starts a whole heartbeat, and the buffer lent for what leaves the chain
+  Heartbeat : ℕ → List ℕ → Operation
+  -- a position, where the time runs out
+  TimeOut : ℕ → Operation
+
 pub data Event : Type 0 where
   -- a frame's bytes
   Frame : List ℕ → Event
-  -- a position and the codes to store there
-  Store : ℕ → List ℤ → Event
-  -- a position, whose stored cells are compared
-  Compare : ℕ → Event
+  Beside : Operation → Event
 
 pub data Seen : Type 0 where
   -- a frame's answer and the bytes of its reply: none where it is refused or no read
   Answered : Answer → List ℕ → Seen
   StoreAnswered : Loaded → Seen
   CompareAnswered : Loaded → Seen
+  -- with the lent buffer as it then is
+  WakeAnswered : Sent → List ℕ → Seen
+  RelayAnswered : Relayed → List ℕ → Seen
+  HeartbeatAnswered : Sent → List ℕ → Seen
+  TimeOutAnswered : TimedOut → Seen
 
 -- the table afterwards, and what was seen, event by event
 pub record Left : Type 0 where
@@ -109,22 +154,59 @@ obeyed c n table frame =
     }
 
 -- a refusal gives its number and changes nothing
+unfoldable pub operated : List ℕ → Operation → Step
+operated table (Store position codes) =
+    decide (storeRefusals table position codes) (λ r. record { table = table; seen = StoreAnswered (Unloaded r) })
+    (record { table = changedAt (position - 1) (store codes) table; seen = StoreAnswered Done })
+operated table (Compare position) =
+    decide (compareRefusals table position) (λ r. record { table = table; seen = CompareAnswered (Unloaded r) })
+    (record { table = changedAt (position - 1) compare table; seen = CompareAnswered Done })
+operated table (Wake position out) =
+    let k = position - 1 in
+    decide (wakeRefusals table position (length out)) (λ r. record { table = table; seen = WakeAnswered (Unsent r) out })
+    (record { table = wakeLeaves k table; seen = WakeAnswered (sentTowards (rowAt recordSize k table) (wakeSends k table)) (handedOut (wakeSends k table) out) })
+operated table (Relay position message out) =
+    let k = position - 1 in
+    decide (relayRefusals table position (length message) (length out)) (λ r. record { table = table; seen = RelayAnswered (Unrelayed r) out })
+    (record { table = hopLeaves k message table; seen = RelayAnswered (sentOn (hopSends k message table)) (handedOut (hopSends k message table) out) })
+operated table (Heartbeat position out) =
+    let k = position - 1 in
+    decide (wakeRefusals table position (length out)) (λ r. record { table = table; seen = HeartbeatAnswered (Unsent r) out })
+    (record { table = beatLeaves k table; seen = HeartbeatAnswered (sentTowards (rowAt recordSize k table) (beatSends k table)) (handedOut (beatSends k table) out) })
+operated table (TimeOut position) =
+    let k = position - 1 in
+    decide (timeOutRefusals table position) (λ r. record { table = table; seen = TimeOutAnswered (Untimed r) })
+    (record { table = changedAt k late table; seen = TimeOutAnswered (ranOut (rowAt recordSize k table)) })
+
 unfoldable pub ruled : List ℕ → Event → Step
 ruled table (Frame frame) =
     decide (ruleRefusals table frame) (λ r. record { table = table; seen = Answered (Refused r) [] }) (obeyed (commandIn frame) (monitors table) table frame)
-ruled table (Store position codes) =
-    decide (storeRefusals table position codes) (λ r. record { table = table; seen = StoreAnswered (Unloaded r) })
-    (record { table = changedAt (position - 1) (store codes) table; seen = StoreAnswered Done })
-ruled table (Compare position) =
-    decide (compareRefusals table position) (λ r. record { table = table; seen = CompareAnswered (Unloaded r) })
-    (record { table = changedAt (position - 1) compare table; seen = CompareAnswered Done })
+ruled table (Beside operation) = operated table operation
 
 unfoldable pub byRules : List ℕ → List Event → Left
 byRules table [] = record { table = table; seen = [] }
 byRules table (event ∷ events) = saw (ruled table event .seen) (byRules (ruled table event .table) events)
 
--- ---- by whole frames: `chain::handle` promises `answer`, `tableAfter` and `replyAfter`, `loads::store` `stored` and `tableAfterStore`,
--- `loads::compare` `compared` and `tableAfterCompare`. A reply buffer is lent, and lent again as it was left; a reply is its first bytes
+-- ---- an operation, which goes by no engine: `loads::store` promises `stored` and `tableAfterStore`, `loads::compare` `compared` and `tableAfterCompare`,
+-- `passing::wake` `wokenAt`, `tableAfterWake` and `outAfterWake`, `passing::relay` `relayedAt`, `tableAfterRelay` and `outAfterRelay`, `passing::heartbeat`
+-- `beaten`, `tableAfterBeat` and `outAfterBeat`, and `passing::time_out` `timedOut` and `tableAfterTimeOut`
+
+unfoldable pub promised : List ℕ → Operation → Step
+promised table (Store position codes) = record { table = tableAfterStore table position codes; seen = StoreAnswered (stored table position codes) }
+promised table (Compare position) = record { table = tableAfterCompare table position; seen = CompareAnswered (compared table position) }
+promised table (Wake position out) =
+    record { table = tableAfterWake table position (length out); seen = WakeAnswered (wokenAt table position (length out)) (outAfterWake table position out) }
+promised table (Relay position message out) =
+    record {
+      table = tableAfterRelay table position message (length out);
+      seen = RelayAnswered (relayedAt table position message (length out)) (outAfterRelay table position message out);
+    }
+promised table (Heartbeat position out) =
+    record { table = tableAfterBeat table position (length out); seen = HeartbeatAnswered (beaten table position (length out)) (outAfterBeat table position out) }
+promised table (TimeOut position) = record { table = tableAfterTimeOut table position; seen = TimeOutAnswered (timedOut table position) }
+
+-- ---- by whole frames: `chain::handle` promises `answer`, `tableAfter` and `replyAfter`. A reply buffer is lent, and lent again as it was left; a reply is its
+-- first bytes
 
 unfoldable pub byFrames : List ℕ → List ℕ → List Event → Left
 byFrames table buffer [] = record { table = table; seen = [] }
@@ -132,9 +214,8 @@ byFrames table buffer (Frame frame ∷ events) =
     let said = answer table frame (length buffer) in
     let left = replyAfter table frame buffer in
     saw (Answered said (take (replyBytes said) left)) (byFrames (tableAfter table frame (length buffer)) left events)
-byFrames table buffer (Store position codes ∷ events) =
-    saw (StoreAnswered (stored table position codes)) (byFrames (tableAfterStore table position codes) buffer events)
-byFrames table buffer (Compare position ∷ events) = saw (CompareAnswered (compared table position)) (byFrames (tableAfterCompare table position) buffer events)
+byFrames table buffer (Beside operation ∷ events) =
+    let step = promised table operation in saw (step .seen) (byFrames (step .table) buffer events)
 
 -- ---- by clocked bytes: `clocked::start` promises `idle` of the state, `clocked::clock` `stateAfter` and the byte `answered`, and
 -- `clocked::release` `released`, `tableReleased`, and `idle` of the state. A state is lent, and lent again as it was left; a reply is
@@ -162,9 +243,8 @@ byBytes table state (Frame frame ∷ events) =
     let said = released clock table in
     let back = drop 4 (cameBack table frame (started state)) in
     saw (Answered said (take (replyBytes said) back)) (byBytes (tableReleased clock table) idle events)
-byBytes table state (Store position codes ∷ events) =
-    saw (StoreAnswered (stored table position codes)) (byBytes (tableAfterStore table position codes) state events)
-byBytes table state (Compare position ∷ events) = saw (CompareAnswered (compared table position)) (byBytes (tableAfterCompare table position) state events)
+byBytes table state (Beside operation ∷ events) =
+    let step = promised table operation in saw (step .seen) (byBytes (step .table) state events)
 
 -- ---- by either engine
 

@@ -15,7 +15,7 @@ use Rattle.records.specs.declared.commands.Command.the-variants.{Reads, Writes,
 use Rattle.records.specs.declared.record.Part.{Part}
 use Rattle.records.specs.Commands.{rdcva, rdcvb, rdcvc, rdcvd, rdcve, rdcvf, registerSize, payloadSize}
 use Rattle.judging.specs.Refusals.{commandIn}
-use Rattle.story.specs.Runs.{Event, Frame, Store, Compare, Seen, Answered, StoreAnswered, CompareAnswered, ruleRefusals}
+use Rattle.story.specs.Runs.{Event, Frame, Beside, Seen, Answered, StoreAnswered, CompareAnswered, WakeAnswered, RelayAnswered, HeartbeatAnswered, TimeOutAnswered, ruleRefusals}
 
 -- ---- SNAP_ST after a command
 
@@ -41,8 +41,7 @@ snappedAfter Unlisted on = on
 -- an event that is one: its four bytes, with their check right
 abbrev pub Is : Bare → Event → Type 0
 Is c (Frame frame) = (length frame ≡ 4) × ((commandRight (take 4 frame) ≡ true) × (commandIn frame ≡ Bares c))
-Is c (Store position codes) = ⊥
-Is c (Compare position) = ⊥
+Is c (Beside operation) = ⊥
 
 abbrev pub Without : Bare → List Event → Type 0
 Without c [] = Unit {0}
@@ -50,11 +49,15 @@ Without c (event ∷ events) = (Is c event → ⊥) × Without c events
 
 -- ---- what a monitor shows
 
--- the reply that was seen of an event; none of a store or a compare
+-- the reply that was seen of an event; none of an operation beside frames
 abbrev pub replyOf : Seen → List ℕ
 replyOf (Answered said bytes) = bytes
 replyOf (StoreAnswered said) = []
 replyOf (CompareAnswered said) = []
+replyOf (WakeAnswered said out) = []
+replyOf (RelayAnswered said out) = []
+replyOf (HeartbeatAnswered said out) = []
+replyOf (TimeOutAnswered said) = []
 
 -- and at a place of what was seen, counted from 0
 abbrev pub replyAt : ℕ → List Seen → List ℕ
