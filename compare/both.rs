@@ -1,10 +1,12 @@
-//! The same call to the library and to the model, and everything compared after it. The clocked engine has a file of its own.
+//! The same call to the library and to the model, and everything compared after it. The clocked engine and the heartbeat have
+//! files of their own.
 
 use crate::cells;
 use crate::difference::{listed, refused, Difference, Faults};
 use crate::effects;
-use crate::inputs::{head, is_damaged, shape, values_owed, Shape, CMHB, MOST};
+use crate::inputs::{shape, values_owed, Shape, CMHB, MOST};
 use crate::lent::{Both, Lent};
+use crate::messages::{Message, PASS_COUNT};
 use crate::outputs::{self, Question};
 use crate::run::{Done, Run};
 use crate::surface::{self, Function};
@@ -92,19 +94,32 @@ fn with_codes(
 }
 
 pub fn compare(run: &mut Run, table: &mut Both<u8>, position: usize) -> Answered {
+    let answer = at_position(run, Function::Compare, (surface::compare, model::compare), table, position)?;
+    if !refused(answer) {
+        cells::note_compare(run, table, position);
+    }
+    Ok(answer)
+}
+
+type AtPosition = fn(&mut [u8], usize) -> u32;
+
+/// A call that is lent a table and a position alone.
+pub fn at_position(
+    run: &mut Run,
+    function: Function,
+    (of_library, of_model): (AtPosition, AtPosition),
+    table: &mut Both<u8>,
+    position: usize,
+) -> Answered {
     table.lend();
     run.begin();
-    let library = surface::compare(table.library.part_mut(), position);
-    let model = model::compare(&mut table.model, position);
+    let library = of_library(table.library.part_mut(), position);
+    let model = of_model(&mut table.model, position);
 
     let mut faults = Faults::new();
     faults.answer(library, model);
     faults.written("table", table, refused(library));
-    run.settle(Function::Compare, library, faults, || vec![("table", listed(&table.before)), ("position", position.to_string())])?;
-    if !refused(library) {
-        cells::note_compare(run, table, position);
-    }
-    Ok(library)
+    run.settle(function, library, faults, || vec![("table", listed(&table.before)), ("position", position.to_string())])
 }
 
 /// The buffer for the outputs has `room` bytes. The table is only read.
@@ -233,20 +248,18 @@ fn note_verdict(run: &mut Run, message: &[u8], time_ran_out: u8, answer: u32) {
     tally.saw_if(Situation::VerdictOfNothing, answer == 5 && message.is_empty());
     tally.saw_if(Situation::LengthInTime, answer == 5 && !late && !message.is_empty());
     tally.saw_if(Situation::LengthLate, answer == 5 && late);
-    if message.len() == 8 {
-        let (command, payload) = message.split_at(4);
-        let (of_heartbeat, data_right) = (command == head(CMHB), !is_damaged(payload));
-        let (counter, pass_count, no_flags) = (payload[2] >> 2, payload[0] == 0x42, payload[1] == 0);
-        tally.saw_if(Situation::LateRight, first == 4 && of_heartbeat && data_right);
-        tally.saw_if(Situation::LateDamaged, first == 4 && !(of_heartbeat && data_right));
-        tally.saw_if(Situation::Passed, first == 1 && counter == 0);
-        tally.saw_if(Situation::PassedWithCounter, first == 1 && counter != 0);
+    if let Some(came) = Message::of(message) {
+        let (pass_count, no_flags) = (came.count == PASS_COUNT, came.flags == 0);
+        tally.saw_if(Situation::LateRight, first == 4 && came.right());
+        tally.saw_if(Situation::LateDamaged, first == 4 && !came.right());
+        tally.saw_if(Situation::Passed, first == 1 && came.counter == 0);
+        tally.saw_if(Situation::PassedWithCounter, first == 1 && came.counter != 0);
         tally.saw_if(Situation::FailedByCount, first == 2 && no_flags);
         tally.saw_if(Situation::FailedByFlags, first == 2 && pass_count);
         tally.saw_if(Situation::FailedByBoth, first == 2 && !no_flags && !pass_count);
-        tally.saw_if(Situation::DamagedInCommand, first == 3 && data_right);
-        tally.saw_if(Situation::DamagedInData, first == 3 && of_heartbeat);
-        tally.saw_if(Situation::DamagedInBoth, first == 3 && !of_heartbeat && !data_right);
+        tally.saw_if(Situation::DamagedInCommand, first == 3 && came.data_right);
+        tally.saw_if(Situation::DamagedInData, first == 3 && came.of_heartbeat);
+        tally.saw_if(Situation::DamagedInBoth, first == 3 && !came.of_heartbeat && !came.data_right);
     }
 }
 

@@ -1,10 +1,12 @@
 //! One chain twice: a table that is lent with whole frames, and one whose frames are clocked. The two must stay the same.
 
-use crate::both::{compare, discharge, frame_into, load, reply_buffer, store, Written};
+use crate::beats::{heartbeat, relay, time_out, wake};
+use crate::both::{built, compare, discharge, frame_into, load, reply_buffer, store, Written};
 use crate::clocks::Clocks;
 use crate::difference::{listed, refused, Difference, Faults};
 use crate::inputs::{self, Shape, RECORD};
 use crate::lent::{Both, Lent};
+use crate::messages::LENGTH;
 use crate::outputs::{Question, OUTPUTS};
 use crate::run::{expect, Done, Run};
 use crate::surface::Function;
@@ -88,6 +90,41 @@ impl Chain {
         Ok(whole)
     }
 
+    /// The manager at a position wakes. The message, where one is sent.
+    pub fn wake(&mut self, run: &mut Run, position: usize) -> Written {
+        let whole = wake(run, &mut self.whole, position, LENGTH)?;
+        let clocked = wake(run, &mut self.clocked, position, LENGTH)?;
+        self.same_sent(run, Function::Wake, (whole, clocked), position)
+    }
+
+    /// A message reaches the monitor at a position.
+    pub fn relay(&mut self, run: &mut Run, position: usize, message: &[u8]) -> Written {
+        let whole = relay(run, &mut self.whole, position, message, LENGTH)?;
+        let clocked = relay(run, &mut self.clocked, position, message, LENGTH)?;
+        self.same_sent(run, Function::Relay, (whole, clocked), position)
+    }
+
+    pub fn heartbeat(&mut self, run: &mut Run, position: usize) -> Written {
+        let whole = heartbeat(run, &mut self.whole, position, LENGTH)?;
+        let clocked = heartbeat(run, &mut self.clocked, position, LENGTH)?;
+        self.same_sent(run, Function::Heartbeat, (whole, clocked), position)
+    }
+
+    /// Where nothing is sent the two buffers stay, each as it was filled.
+    fn same_sent(&self, run: &mut Run, function: Function, (whole, clocked): ((u32, Vec<u8>), (u32, Vec<u8>)), position: usize) -> Written {
+        self.same(run, function, clocked.0, position)?;
+        let sent = |(answer, out): &(u32, Vec<u8>)| (*answer, if answer >> 16 == 0 { Vec::new() } else { out.clone() });
+        expect(run, function, (sent(&clocked), sent(&whole)), self.table(), position)?;
+        Ok(whole)
+    }
+
+    pub fn time_out(&mut self, run: &mut Run, position: usize) -> Done {
+        let whole = time_out(run, &mut self.whole, position)?;
+        let clocked = time_out(run, &mut self.clocked, position)?;
+        expect(run, Function::TimeOut, (clocked, whole), self.table(), position)?;
+        self.same(run, Function::TimeOut, clocked, position)
+    }
+
     fn same(&self, run: &mut Run, function: Function, answer: u32, position: usize) -> Done {
         let mut faults = Faults::new();
         self.compare_tables(&mut faults);
@@ -102,6 +139,19 @@ impl Chain {
         if whole != clocked {
             faults.add(format!("table: whole {}, clocked {}", listed(whole), listed(clocked)));
         }
+    }
+
+    /// The frame that the host builds of these values, as the next one.
+    pub fn host(&mut self, run: &mut Run, code: u16, values: &[u8]) -> Written {
+        let frame = built(run, code, self.monitors, values)?;
+        self.frame(run, &frame)
+    }
+
+    /// A read, and the six bytes that each monitor shows.
+    pub fn read(&mut self, run: &mut Run, code: u16) -> Result<Vec<Vec<u8>>, Box<Difference>> {
+        let frame = inputs::frame_of(&mut run.random, code, self.monitors);
+        let (_, reply) = self.frame(run, &frame)?;
+        Ok(reply.chunks(inputs::REPLY).map(|eight| inputs::data_of(eight).to_vec()).collect())
     }
 
     /// The answer and, where it is an accepted read's, the reply.

@@ -1,8 +1,11 @@
-//! What may come on a chain between the frames of a long read, and leaves the copy of a snapshot alone. By both engines.
+//! What may come on a chain between the frames of a long read, and leaves the copy of a snapshot alone: other frames, stores, compares,
+//! loads, and heartbeats. By both engines.
 
+use crate::asleep::on_the_way;
 use crate::chain::Chain;
 use crate::difference::refused;
-use crate::inputs::{self, head, own_bytes, payload, UNSNAP};
+use crate::inputs::{self, damage, head, own_bytes, payload, UNSNAP};
+use crate::messages::message;
 use crate::run::{expect, Done, Run};
 use crate::surface::Function;
 
@@ -77,6 +80,39 @@ pub fn any_frame(run: &mut Run, chain: &mut Chain) -> Done {
     };
     chain.frame(run, &frame)?;
     Ok(())
+}
+
+/// A wake, and where a message is sent the next monitor on its way is reached by it, struck now and then.
+pub fn wake(run: &mut Run, chain: &mut Chain) -> Done {
+    let position = any_position(run, chain);
+    let (answer, mut message) = chain.wake(run, position)?;
+    let way = on_the_way(chain.monitors(), position, answer >> 8 & 0xFF);
+    if let Some(&next) = way.first().filter(|_| answer != 0) {
+        if run.random.once_in(3) {
+            damage(&mut run.random, &mut message);
+        }
+        chain.relay(run, next, &message)?;
+    }
+    Ok(())
+}
+
+/// Any message reaches any monitor.
+pub fn relay(run: &mut Run, chain: &mut Chain) -> Done {
+    let position = any_position(run, chain);
+    let came = message(&mut run.random);
+    chain.relay(run, position, &came)?;
+    Ok(())
+}
+
+pub fn heartbeat(run: &mut Run, chain: &mut Chain) -> Done {
+    let position = any_position(run, chain);
+    chain.heartbeat(run, position)?;
+    Ok(())
+}
+
+pub fn time_out(run: &mut Run, chain: &mut Chain) -> Done {
+    let position = any_position(run, chain);
+    chain.time_out(run, position)
 }
 
 /// With one wrong bit, which the check always tells, cut short, or with bytes after it.

@@ -294,7 +294,7 @@ pub fn record(random: &mut Random) -> Vec<u8> {
     if random.once_in(3) {
         let edges = [(-2048, 2047), (2047, -2048), (0, 0), (-1, 0), (0, -1), (-2048, -2048), (2047, 2047), (-1, -1), (100, 100)];
         let (vuv, vov) = random.pick(&edges);
-        set_thresholds(&mut record, vuv, vov);
+        set_thresholds(&mut record, at::CONFIGURATION_B, vuv, vov);
     }
     if random.once_in(2) {
         set_copy(random, &mut record);
@@ -355,11 +355,12 @@ pub fn set_lpcm(record: &mut [u8], on: bool) {
     *flags = *flags & !CMC_EN | if on { CMC_EN } else { 0 };
 }
 
-fn set_thresholds(record: &mut [u8], vuv: i16, vov: i16) {
-    let (vuv, vov) = (vuv as u16 & 0xFFF, vov as u16 & 0xFFF);
-    record[6] = vuv as u8;
-    record[7] = (vuv >> 8 | (vov & 0xF) << 4) as u8;
-    record[8] = (vov >> 4) as u8;
+/// A lower and an upper threshold in the three bytes from this one on: VUV and VOV, or CUV and COV.
+pub fn set_thresholds(record: &mut [u8], first: usize, lower: i16, upper: i16) {
+    let (lower, upper) = (lower as u16 & 0xFFF, upper as u16 & 0xFFF);
+    record[first] = lower as u8;
+    record[first + 1] = (lower >> 8 | (upper & 0xF) << 4) as u8;
+    record[first + 2] = (upper >> 4) as u8;
 }
 
 /// A record with clear flags and this threshold, VUV or VOV; the other one is any.
@@ -438,10 +439,14 @@ pub fn first_of(reasons: &[(bool, u32)]) -> u32 {
 
 /// The codes that the cells of a record are compared with: 16 VUV and 16 VOV.
 pub fn limits(record: &[u8]) -> (i32, i32) {
-    let vuv = i32::from(record[6]) | i32::from(record[7] & 0x0F) << 8;
-    let vov = i32::from(record[7] >> 4) | i32::from(record[8]) << 4;
+    limits_from(record, at::CONFIGURATION_B)
+}
+
+/// The same of the three bytes from this one on.
+pub fn limits_from(record: &[u8], first: usize) -> (i32, i32) {
+    let [low, middle, high] = [0, 1, 2].map(|byte| i32::from(record[first + byte]));
     let codes = |step: i32| 16 * if step >= 2048 { step - 4096 } else { step };
-    (codes(vuv), codes(vov))
+    (codes(low | (middle & 0x0F) << 8), codes(middle >> 4 | high << 4))
 }
 
 /// A position that a chain of so many monitors does not have; one of them times a record's bytes would wrap and lie within the table.

@@ -1,6 +1,8 @@
 //! Compares the library (target/c/liboskorbine.a) with a second implementation of the papers, the crate `model`: every function of
 //! include/oskorbine.h, after each call the answer and every byte of every buffer. Usage: compare [SEED [ROUNDS]]
 
+mod asleep;
+mod beats;
 mod both;
 mod cases;
 mod cells;
@@ -13,6 +15,8 @@ mod events;
 mod inputs;
 mod lent;
 mod lpcm;
+mod measured;
+mod messages;
 mod outputs;
 mod random;
 mod run;
@@ -21,6 +25,7 @@ mod spike;
 mod struck;
 mod surface;
 mod tally;
+mod turns;
 
 use run::{Run, CALLS};
 use std::process::ExitCode;

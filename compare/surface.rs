@@ -1,4 +1,4 @@
-//! The sixteen functions of include/oskorbine.h, behind safe wrappers: a slice is a pointer and a length that belong together, and Rust
+//! The twenty functions of include/oskorbine.h, behind safe wrappers: a slice is a pointer and a length that belong together, and Rust
 //! sees to it that a written one overlaps no other. An empty slice must still have a real address (the header asks for it), so callers
 //! take theirs from `Lent`.
 
@@ -12,6 +12,10 @@ pub enum Function {
     Compare,
     Load,
     Discharge,
+    Wake,
+    Relay,
+    Heartbeat,
+    TimeOut,
     HostFrame,
     Check,
     TwoPorts,
@@ -26,12 +30,16 @@ pub enum Function {
 }
 
 impl Function {
-    pub const ALL: [Function; 16] = [
+    pub const ALL: [Function; 20] = [
         Function::Frame,
         Function::Store,
         Function::Compare,
         Function::Load,
         Function::Discharge,
+        Function::Wake,
+        Function::Relay,
+        Function::Heartbeat,
+        Function::TimeOut,
         Function::HostFrame,
         Function::Check,
         Function::TwoPorts,
@@ -52,6 +60,10 @@ impl Function {
             Function::Compare => "osk_compare",
             Function::Load => "osk_load",
             Function::Discharge => "osk_discharge",
+            Function::Wake => "osk_wake",
+            Function::Relay => "osk_relay",
+            Function::Heartbeat => "osk_heartbeat",
+            Function::TimeOut => "osk_time_out",
             Function::HostFrame => "osk_host_frame",
             Function::Check => "osk_check",
             Function::TwoPorts => "osk_two_ports",
@@ -71,8 +83,9 @@ impl Function {
         match self {
             Function::Frame => &[1, 2, 3, 4, 5, 6],
             Function::Store | Function::Load => &[1, 7, 8, 9],
-            Function::Compare => &[1, 7],
-            Function::Discharge => &[1, 6, 7],
+            Function::Compare | Function::TimeOut => &[1, 7],
+            Function::Discharge | Function::Wake | Function::Heartbeat => &[1, 6, 7],
+            Function::Relay => &[1, 5, 6, 7],
             Function::HostFrame => &[4, 6, 7, 8],
             Function::Check | Function::Verdict => &[5],
             Function::TwoPorts => &[5, 7, 10],
@@ -106,6 +119,18 @@ mod c {
             out: *mut u8,
             out_length: usize,
         ) -> u32;
+        pub fn osk_wake(table: *mut u8, table_length: usize, position: usize, out: *mut u8, out_length: usize) -> u32;
+        pub fn osk_relay(
+            table: *mut u8,
+            table_length: usize,
+            position: usize,
+            message: *const u8,
+            message_length: usize,
+            out: *mut u8,
+            out_length: usize,
+        ) -> u32;
+        pub fn osk_heartbeat(table: *mut u8, table_length: usize, position: usize, out: *mut u8, out_length: usize) -> u32;
+        pub fn osk_time_out(table: *mut u8, table_length: usize, position: usize) -> u32;
         pub fn osk_host_frame(
             command: u16,
             monitors: usize,
@@ -145,6 +170,22 @@ pub fn load(table: &mut [u8], position: usize, codes: &[i16]) -> u32 {
 
 pub fn discharge(table: &[u8], position: usize, events: u8, phase: u8, out: &mut [u8]) -> u32 {
     unsafe { c::osk_discharge(table.as_ptr(), table.len(), position, events, phase, out.as_mut_ptr(), out.len()) }
+}
+
+pub fn wake(table: &mut [u8], position: usize, out: &mut [u8]) -> u32 {
+    unsafe { c::osk_wake(table.as_mut_ptr(), table.len(), position, out.as_mut_ptr(), out.len()) }
+}
+
+pub fn relay(table: &mut [u8], position: usize, message: &[u8], out: &mut [u8]) -> u32 {
+    unsafe { c::osk_relay(table.as_mut_ptr(), table.len(), position, message.as_ptr(), message.len(), out.as_mut_ptr(), out.len()) }
+}
+
+pub fn heartbeat(table: &mut [u8], position: usize, out: &mut [u8]) -> u32 {
+    unsafe { c::osk_heartbeat(table.as_mut_ptr(), table.len(), position, out.as_mut_ptr(), out.len()) }
+}
+
+pub fn time_out(table: &mut [u8], position: usize) -> u32 {
+    unsafe { c::osk_time_out(table.as_mut_ptr(), table.len(), position) }
 }
 
 pub fn host_frame(command: u16, monitors: usize, values: &[u8], out: &mut [u8]) -> u32 {

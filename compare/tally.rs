@@ -234,6 +234,137 @@ situations! { Situation:
     LastOfFirstCmen: "CMEN, a store, CMEN, and the last measurement is of the first",
     LastOfLaterCmen: "CMEN, a store, CMDIS, CMEN, and the last measurement is another",
     LiveInSnapshot: "SNAP, a store, CMEN: the last measurement is of the store, and the cell reads show the copy",
+    CuvAlone: "a measurement makes CUV alone of no flag",
+    CovAlone: "a measurement makes COV alone of no flag",
+    CdvnAlone: "a measurement makes CDVN alone of no flag",
+    CdvpAlone: "a measurement makes CDVP alone of no flag",
+    AtCuv: "the lowest cell is at 16 CUV, and CUV stays clear",
+    BelowCuv: "the lowest cell is one code below 16 CUV, and CUV is set",
+    AtCov: "the highest cell is at 16 COV, and COV stays clear",
+    AboveCov: "the highest cell is one code above 16 COV, and COV is set",
+    FallOfCdv: "the farthest fall is of 8 CDV, and CDVN stays clear",
+    FallOfMore: "the farthest fall is of one code more than 8 CDV, and CDVN is set",
+    RiseOfCdv: "the farthest rise is of 8 CDV, and CDVP stays clear",
+    RiseOfMore: "the farthest rise is of one code more than 8 CDV, and CDVP is set",
+    CuvBelowZero: "a CUV below 0, and CUV stays clear",
+    CovBelowZero: "a COV below 0, and COV is set",
+    CdvWithoutSign: "a CDV of 800 or more (hex), and neither CDVN nor CDVP is set",
+    CdvBitsAbove: "bits stand above CDV, and CDVN or CDVP is set",
+    WideJump: "a jump of more than 32767 codes is flagged",
+    AllLeftOut: "all cells are left out, and the monitor passes",
+    LeftOut: "a cell that is left out is past a limit whose flag stays clear",
+    LeftOutKept: "the code of a cell that is left out becomes another last measurement",
+    ClearedIsLow: "CUV is set for cleared cells alone",
+    ClearedPasses: "a cleared cell passes",
+    NotTheCopy: "a measurement while a snapshot is on flags otherwise than the copy calls for",
+    NotByVuvAndVov: "a measurement does not flag what VUV and VOV would call for",
+    SameMeasurement: "a measurement of the cells of the last one",
+    DiagnosticPending: "a pending diagnostic makes all eight flags of none",
+    OtherStatusBits: "other bits of both bytes of status C are set, and the monitor passes",
+    FlagsStay: "flags that stood are all that stand after a measurement",
+    FlagsJoin: "a measurement joins flags to others that stood",
+    WokeToA: "a manager wakes and sends towards port A",
+    WokeToB: "a manager wakes and sends towards port B",
+    ManagerPasses: "a manager wakes and passes",
+    ManagerFails: "a manager wakes and fails",
+    ManagerFromZero: "a manager with CMC_NDEV 0 wakes and passes",
+    ManagerOfBoth: "a manager with CMC_BTM set wakes",
+    NoManager: "a monitor in LPCM that is no manager wakes, which a measurement would change",
+    NoManagerButTimeout: "a timeout monitor wakes, which a measurement would change",
+    ManagerAwake: "a manager that is not in LPCM wakes, which a measurement would change",
+    RelayPasses: "a message without flags reaches a monitor that passes",
+    RelayPassesFailed: "a message with flags reaches a monitor that passes",
+    RelayFails: "a message without flags reaches a monitor that fails",
+    RelayJoins: "a message reaches a monitor, and each has flags that the other has not",
+    RelayFromZero: "a message of count 0 reaches a monitor that passes",
+    RelayCounter: "a message with other counter bits than 0 is sent on",
+    IgnoredForCommand: "a message is ignored for its command alone by a monitor that a measurement would change",
+    IgnoredForData: "a message is ignored for its data alone by a monitor that a measurement would change",
+    IgnoredForBoth: "a message is ignored for its command and its data by a monitor that a measurement would change",
+    IgnoredByTimeout: "a message that is not right is ignored by a timeout monitor that a measurement would change",
+    ManagerIgnores: "a right message is ignored by a manager that a measurement would change",
+    AwakeIgnores: "a right message is ignored by a monitor not in LPCM that a measurement would change",
+    TimeoutClears: "a timeout monitor passes a heartbeat and clears both flags",
+    TimeoutClearsOne: "a timeout monitor passes a heartbeat and clears one flag",
+    TimeoutByCount: "a timeout monitor that passes fails a heartbeat by its count alone",
+    TimeoutByFlags: "a timeout monitor that passes fails a heartbeat by its flags alone",
+    TimeoutByOwn: "a timeout monitor fails a heartbeat by its own measurement alone",
+    TimeoutBeforeItsStep: "a timeout monitor that passes fails a heartbeat that came as 42 and 00",
+    TimeoutSets: "a timeout monitor fails a heartbeat and sets its flag of that, where none stood",
+    TimeoutKeepsLate: "a timeout monitor fails a heartbeat where its flag of the time stood",
+    TimeRanOut: "the time runs out at a timeout monitor",
+    TimeRanOutAgain: "the time runs out at a timeout monitor whose flag of it stood",
+    NoTimeoutMonitor: "the time runs out at a monitor in LPCM that is no timeout monitor",
+    TimeOutAtManager: "the time runs out at a manager with CMC_BTM set",
+    TimeOutAwake: "the time runs out at a monitor with CMC_BTM set that is not in LPCM",
+    NoHeartbeat: "a heartbeat of no manager in LPCM, which a measurement would change",
+    LeftAtA: "a heartbeat passes others and leaves the chain at port A",
+    LeftAtB: "a heartbeat passes others and leaves the chain at port B",
+    LeftAtOnce: "a heartbeat leaves the chain at the manager's own end",
+    OtherSide: "a heartbeat leaves alone a monitor on the other side, which a measurement would change",
+    AllPassed: "a heartbeat of several that all pass",
+    OneFailed: "a heartbeat of several of which one fails",
+    SomeFailed: "a heartbeat of several of which some fail, with other flags, and some pass",
+    StoppedByManager: "a heartbeat is stopped by a second manager, behind others",
+    StoppedByTimeout: "a heartbeat is stopped by a timeout monitor, behind others",
+    StoppedByAwake: "a heartbeat is stopped by a monitor not in LPCM, behind others",
+    NotReached: "a heartbeat leaves alone a monitor behind the one that stopped it, which a measurement would change",
+    InTurn: "a heartbeat that leaves the chain, and the same by a wake and several relays",
+    InTurnStopped: "a heartbeat that is stopped, and the same by a wake and several relays",
+    HostPassed: "a heartbeat from one end to the other, and the host's verdict is passed",
+    HostFailed: "a heartbeat from one end to the other, and the host's verdict is failed",
+    HostOtherCount: "a heartbeat that all pass, with another CMC_NDEV, and the host's verdict is failed",
+    HostDamaged: "a heartbeat struck by a spike on the last hop, and the host's verdict is damaged",
+    HopStruck: "a heartbeat struck by a spike between monitors, and none from that hop on changes",
+    BridgelessPassed: "a heartbeat to a timeout monitor nearest the host, and its flags are clear",
+    BridgelessFailed: "a heartbeat to a timeout monitor nearest the host that not all pass, and its flag is set",
+    NightPassed: "settings by the host, CMEN, a heartbeat, and the host's verdict is passed",
+    NightFailed: "in LPCM a store past a limit, a heartbeat, and the host's verdict is failed",
+    NightJump: "in LPCM a store of a jump, and its flag stays in the next heartbeat",
+    BridgelessNightPassed: "RDCMFLAG shows a timeout monitor's flags after CMEN, a heartbeat that passes, the end of the time, and another",
+    BridgelessNightFailed: "RDCMFLAG shows a timeout monitor's flags after CMEN, a heartbeat that fails, the end of the time, and another",
+    NightCleared: "CMDIS, CLRCMFLAG, CMEN, a heartbeat, and the host's verdict is passed again",
+}
+
+// What must come up for each operation of the heartbeat that it can come up for.
+situations! { OfOperation:
+    UnsoundBeforePosition: "refused with 1, with a wrong position",
+    UnsoundBeforeRoom: "refused with 1, with too little room",
+    PositionNone: "refused with 7 for position 0",
+    PositionBehind: "refused with 7 for position N + 1",
+    PositionLargest: "refused with 7 for the largest position",
+    PositionBeforeRoom: "refused with 7, with too little room",
+    PositionBeforeLength: "refused with 7, with a message of another length",
+    LengthBeforeRoom: "refused with 5, with too little room",
+    NoMessage: "refused with 5 for no message",
+    MessageOfSeven: "refused with 5 for a message of seven bytes",
+    MessageOfNine: "refused with 5 for a message of nine bytes",
+    RoomToSend: "refused with 6 by a monitor that would send",
+    RoomForNothing: "refused with 6 by a monitor that would not send",
+    RoomOfSeven: "refused with 6 for seven bytes",
+    RoomOfEight: "sends into exactly eight bytes",
+    RoomOfMore: "sends into more than eight bytes",
+    NothingSent: "accepted with nothing done",
+    Only: "done by the only monitor",
+    Nearest: "done by the nearest monitor of several",
+    Farthest: "done by the farthest monitor of several",
+    Between: "done by a monitor between others",
+    OfMost: "done by a monitor of 32",
+}
+
+impl OfOperation {
+    const OPERATIONS: [Function; 4] = [Function::Wake, Function::Relay, Function::Heartbeat, Function::TimeOut];
+
+    fn concerns(self, function: Function) -> bool {
+        match self {
+            OfOperation::PositionBeforeLength | OfOperation::LengthBeforeRoom => function == Function::Relay,
+            OfOperation::NoMessage | OfOperation::MessageOfSeven | OfOperation::MessageOfNine => function == Function::Relay,
+            OfOperation::UnsoundBeforeRoom | OfOperation::PositionBeforeRoom => function != Function::TimeOut,
+            OfOperation::RoomToSend | OfOperation::RoomForNothing | OfOperation::RoomOfSeven => function != Function::TimeOut,
+            OfOperation::RoomOfEight | OfOperation::RoomOfMore => function != Function::TimeOut,
+            _ => true,
+        }
+    }
 }
 
 // What must come up for each command that it can come up for. Each must come up in both engines.
@@ -299,6 +430,7 @@ pub struct Tally {
     kinds: Vec<(&'static str, [Answers; Function::ALL.len()])>,
     frames: [Frames; 2],
     host: BTreeMap<(usize, usize), u64>,
+    operations: BTreeMap<(usize, OfOperation), u64>,
     situations: BTreeMap<Situation, u64>,
     kind: usize,
 }
@@ -351,6 +483,12 @@ impl Tally {
     pub fn host(&mut self, code: u16, number: usize) {
         if let Some(place) = place_of(code) {
             *self.host.entry((place, number)).or_default() += 1;
+        }
+    }
+
+    pub fn of_operation_if(&mut self, function: Function, what: OfOperation, came_up: bool) {
+        if came_up {
+            *self.operations.entry((function as usize, what)).or_default() += 1;
         }
     }
 
@@ -416,6 +554,12 @@ impl Tally {
         }
         for ((place, (code, name)), number) in LISTED.iter().enumerate().flat_map(|listed| HOST_ANSWERS.map(|number| (listed, number))) {
             want(self.host.get(&(place, number)).copied().unwrap_or(0), format!("{name} ({code:04X}) answered by the host with {number}"));
+        }
+        for (what, words) in OfOperation::ALL {
+            for function in OfOperation::OPERATIONS.into_iter().filter(|function| what.concerns(*function)) {
+                let count = self.operations.get(&(function as usize, *what)).copied().unwrap_or(0);
+                want(count, format!("{} {words}", function.name()));
+            }
         }
         for (situation, name) in Situation::ALL {
             want(self.situations.get(situation).copied().unwrap_or(0), name.to_string());

@@ -1,6 +1,6 @@
 //! Which outputs are on, and by which row of Table 27: every event and phase, every duty, every refusal, and questions between frames.
 
-use crate::both::{built, discharge};
+use crate::both::discharge;
 use crate::chain::Chain;
 use crate::inputs::{self, first_of, MOST, RECORD};
 use crate::lent::Both;
@@ -143,22 +143,15 @@ fn every_refusal(run: &mut Run) -> Done {
     Ok(())
 }
 
-/// The host's frame of a command, through both engines.
-fn send(run: &mut Run, chain: &mut Chain, code: u16, values: &[u8]) -> Done {
-    let frame = built(run, code, chain.monitors(), values)?;
-    chain.frame(run, &frame)?;
-    Ok(())
-}
-
 /// Duties as the host writes them, with no DCC bit and no mute: each monitor's outputs go by its own values.
 fn by_the_hosts_writes(run: &mut Run) -> Done {
     for monitors in [1, 2, 3, 5, 8, MOST] {
         let mut chain = Chain::out_of_lpcm(run, monitors)?;
         let [duties_a, duties_b] = [(); 2].map(|()| run.random.bytes(6 * monitors));
-        send(run, &mut chain, WRPWMA, &duties_a)?;
-        send(run, &mut chain, WRCFGB, &vec![0; 6 * monitors])?;
-        send(run, &mut chain, WRPWMB, &duties_b)?;
-        send(run, &mut chain, UNMUTE, &[])?;
+        chain.host(run, WRPWMA, &duties_a)?;
+        chain.host(run, WRCFGB, &vec![0; 6 * monitors])?;
+        chain.host(run, WRPWMB, &duties_b)?;
+        chain.host(run, UNMUTE, &[])?;
         for position in 1..=monitors {
             let phase = any_phase(run);
             let (_, out) = chain.discharge(run, Question { position, events: 0, phase })?;
@@ -208,16 +201,16 @@ fn muted_and_unmuted(run: &mut Run) -> Done {
         let mut chain = Chain::of(run, &bytes)?;
         let before = chain.discharge(run, question)?;
 
-        send(run, &mut chain, MUTE, &[])?;
+        chain.host(run, MUTE, &[])?;
         if turn % 4 == 0 {
             let values = run.random.bytes(6 * monitors);
-            send(run, &mut chain, WRCFGA, &values)?;
+            chain.host(run, WRCFGA, &values)?;
         }
         let row = if question.events & event::SHUTDOWN != 0 { 0x07 } else { 0x06 };
         let muted = chain.discharge(run, question)?;
         expect(run, Function::Discharge, (muted, (0, vec![row; OUTPUTS])), chain.table(), question.position)?;
 
-        send(run, &mut chain, UNMUTE, &[])?;
+        chain.host(run, UNMUTE, &[])?;
         let after = chain.discharge(run, question)?;
         let was_muted = bytes[RECORD * (question.position - 1) + 5] & MUTE_ST != 0;
         if !was_muted {

@@ -1,8 +1,9 @@
-//! Lists of events on one chain: the same frames, stores, compares, loads and questions by four ways (the library whole and clocked, the
-//! model whole and clocked), whose tables must be one and the same after each event.
+//! Lists of events on one chain: the same frames, stores, compares, loads, questions and operations of the heartbeat by four ways (the library
+//! whole and clocked, the model whole and clocked), whose tables must be one and the same after each event.
 
 use crate::chain::Chain;
 use crate::inputs::{self, at, MOST, RECORD, STATUS_D};
+use crate::messages::message;
 use crate::outputs::Question;
 use crate::run::{Done, Run};
 use crate::tally::Situation;
@@ -22,15 +23,22 @@ pub fn cases(run: &mut Run) -> Done {
 fn long_run(run: &mut Run, monitors: usize, events: usize) -> Done {
     let mut chain = Chain::new(run, monitors)?;
     for _ in 0..events {
-        if run.random.once_in(4) {
+        if run.random.once_in(3) {
             // A position beyond the chain now and then: a refused call leaves both alone.
             let beyond = usize::from(run.random.once_in(9));
             let position = run.random.within(1, monitors + beyond);
             let codes = chain.codes_for(run, position.min(monitors));
-            match run.random.below(4) {
+            match run.random.below(8) {
                 0 => chain.store(run, position, &codes)?,
                 1 => chain.compare(run, position)?,
                 2 => chain.load(run, position, &codes)?,
+                3 => chain.time_out(run, position)?,
+                4 => drop(chain.wake(run, position)?),
+                5 => {
+                    let came = message(&mut run.random);
+                    chain.relay(run, position, &came)?;
+                }
+                6 => drop(chain.heartbeat(run, position)?),
                 _ => {
                     let (events, phase) = (inputs::events(&mut run.random), run.random.below(16) as u8);
                     chain.discharge(run, Question { position, events, phase })?;

@@ -4,7 +4,7 @@
 use crate::both::{built, Written};
 use crate::chain::Chain;
 use crate::difference::Difference;
-use crate::events::{any_frame, clrcell, load, store};
+use crate::events::{any_frame, clrcell, heartbeat, load, relay, store};
 use crate::inputs::{
     self, at, data_of, head, in_lpcm, own_bytes, part_shown, payload, values_owed, writes, CELLS, CELL_READS, CLRCMFLAG, CMDIS, CMEN, CMF0,
     CMF1, CMHB, COPY, LAST, MOST, RDCMCELLT, RDCMCFG, RDCMFLAG, RDCMGPIOT, RECORD, SNAP, UNSNAP, WRCMCELLT, WRCMCFG, WRCMGPIOT, WRRR,
@@ -42,13 +42,6 @@ fn written(run: &mut Run, chain: &mut Chain, code: u16) -> Result<(u32, Vec<Vec<
     Ok((answer, values.chunks(own_bytes(code) - 2).map(<[u8]>::to_vec).collect()))
 }
 
-/// The six bytes that each monitor shows.
-fn read(run: &mut Run, chain: &mut Chain, code: u16) -> Result<Vec<Vec<u8>>, Box<Difference>> {
-    let frame = inputs::frame_of(&mut run.random, code, chain.monitors());
-    let (_, reply) = chain.frame(run, &frame)?;
-    Ok(reply.chunks(8).map(|eight| data_of(eight).to_vec()).collect())
-}
-
 /// The answer of a write that all monitors take but those in LPCM.
 fn out_of_lpcm(table: &[u8]) -> u32 {
     (table.chunks(RECORD).filter(|record| !in_lpcm(record)).count() as u32) << 8
@@ -76,7 +69,7 @@ fn written_and_read(
     let due: Vec<Vec<u8>> = stood.iter().zip(&sent).map(|(stood, sent)| due(stood, sent)).collect();
     let lpcm: Vec<bool> = before.chunks(RECORD).map(in_lpcm).collect();
     let expected = (0..chain.monitors()).map(|index| if lpcm[index] { &stood[index] } else { &due[index] }.clone()).collect();
-    let found = read(run, chain, show)?;
+    let found = chain.read(run, show)?;
     expect(run, Function::Frame, (found, expected), &before, chain.monitors())?;
     for (situation, on) in situations.into_iter().zip([false, true]) {
         run.tally.saw_if(situation, (0..chain.monitors()).any(|index| lpcm[index] == on && due[index] != stood[index]));
@@ -145,7 +138,7 @@ fn in_any_order(run: &mut Run) -> Done {
     for (monitors, events) in [(1, 200), (2, 200), (3, 100), (6, 60), (MOST, 15)] {
         let mut chain = Chain::new(run, monitors)?;
         for _ in 0..events {
-            let event = run.random.pick(&[store, load, clrcell, any_frame, any_frame]);
+            let event = run.random.pick(&[store, load, clrcell, any_frame, any_frame, heartbeat, relay]);
             event(run, &mut chain)?;
             if run.random.once_in(3) {
                 let code = run.random.pick(&[CMEN, CMDIS, CMDIS]);
@@ -212,7 +205,7 @@ fn retention(run: &mut Run) -> Done {
         let (answer, _) = chain.frame(run, &frame)?;
         expect(run, Function::Frame, (answer, 0), chain.table(), monitors)?;
         let sent: Vec<Vec<u8>> = frame[4..].chunks(8).rev().map(|eight| data_of(eight).to_vec()).collect();
-        let found = read(run, &mut chain, RDRR)?;
+        let found = chain.read(run, RDRR)?;
         run.tally.saw_if(Situation::RetentionInLpcm, sent != stood);
         expect(run, Function::Frame, (found, stood), chain.table(), monitors)?;
     }
@@ -263,7 +256,7 @@ fn in_a_snapshot(run: &mut Run) -> Done {
             six
         });
         let expected = of_copy.collect();
-        let found = read(run, &mut chain, code)?;
+        let found = chain.read(run, code)?;
         expect(run, Function::Frame, (found, expected), chain.table(), monitors)?;
         run.tally.saw_if(Situation::LiveInSnapshot, chain.table().chunks(RECORD).any(|record| record[LAST] != record[COPY]));
     }

@@ -3,13 +3,17 @@
 mod clocked;
 mod discharge;
 mod frames;
+mod heartbeats;
 mod host_frames;
 mod loads;
 mod long_runs;
 mod lpcm;
+mod measurements;
 mod never_started;
+mod nights;
 mod payloads;
 mod readings;
+mod relays;
 mod retention;
 mod snapshots;
 mod spikes;
@@ -20,7 +24,7 @@ mod verdicts;
 use crate::run::{Done, Run};
 use crate::tally::NEVER_STARTED;
 
-pub const KINDS: [(&str, fn(&mut Run) -> Done); 16] = [
+pub const KINDS: [(&str, fn(&mut Run) -> Done); 20] = [
     ("frames", frames::cases),
     ("tables", tables::cases),
     ("stores", stores::cases),
@@ -34,6 +38,10 @@ pub const KINDS: [(&str, fn(&mut Run) -> Done); 16] = [
     ("snapshots", snapshots::cases),
     ("LPCM", lpcm::cases),
     ("verdicts", verdicts::cases),
+    ("measurements", measurements::cases),
+    ("relays", relays::cases),
+    ("heartbeats", heartbeats::cases),
+    ("nights", nights::cases),
     ("spikes", spikes::cases),
     ("long runs", long_runs::cases),
     (NEVER_STARTED, never_started::cases),

@@ -3,7 +3,9 @@
 
 use crate::chain::Chain;
 use crate::difference::Difference;
-use crate::events::{any_frame, clovuv, clrcell, clrflag, compare, load, refused_unsnap, store, store_and_compare, wrcfga, Event};
+use crate::events::{
+    any_frame, clovuv, clrcell, clrflag, compare, heartbeat, load, refused_unsnap, store, store_and_compare, wrcfga, Event,
+};
 use crate::inputs::{self, at, head, part_shown, snapped, CELLS, CELL_READS, COPY, MOST, RECORD, SNAP, STATUS_C, STATUS_D, UNSNAP};
 use crate::run::{expect, Done, Run};
 use crate::surface::Function;
@@ -55,13 +57,6 @@ fn send(run: &mut Run, chain: &mut Chain, code: u16) -> Done {
     expect(run, Function::Frame, (chain.table(), &expected), &before, monitors)
 }
 
-/// The six bytes that each monitor shows.
-fn read(run: &mut Run, chain: &mut Chain, code: u16) -> Result<Vec<Vec<u8>>, Box<Difference>> {
-    let frame = inputs::frame_of(&mut run.random, code, chain.monitors());
-    let (_, reply) = chain.frame(run, &frame)?;
-    Ok(reply.chunks(8).map(|eight| eight[..6].to_vec()).collect())
-}
-
 /// A cell read, which must show its part of these cells of each monitor. Gives whether the copy and the live cells differ in that part
 /// at some monitor, so that one taken for the other would have shown.
 fn read_cells(run: &mut Run, chain: &mut Chain, code: u16, cells: &[Vec<u8>]) -> Result<bool, Box<Difference>> {
@@ -72,7 +67,7 @@ fn read_cells(run: &mut Run, chain: &mut Chain, code: u16, cells: &[Vec<u8>]) ->
         six.resize(6, 0xFF);
         six
     });
-    let found = read(run, chain, code)?;
+    let found = chain.read(run, code)?;
     expect(run, Function::Frame, (found, expected.collect()), chain.table(), chain.monitors())?;
     Ok(told)
 }
@@ -98,7 +93,7 @@ fn in_any_order(run: &mut Run) -> Done {
     for (monitors, events) in [(1, 300), (2, 200), (3, 200), (6, 100), (MOST, 20)] {
         let mut chain = Chain::new(run, monitors)?;
         for _ in 0..events {
-            let event = run.random.pick(&[store, compare, load, clrcell, wrcfga, any_frame, refused_unsnap]);
+            let event = run.random.pick(&[store, compare, load, clrcell, wrcfga, any_frame, refused_unsnap, heartbeat]);
             event(run, &mut chain)?;
             if run.random.once_in(3) {
                 let code = run.random.pick(&[SNAP, UNSNAP]);
@@ -127,7 +122,7 @@ fn status_stays_live(run: &mut Run) -> Done {
         event(run, &mut chain)?;
         let live = parts(chain.table(), |_| status.clone());
         run.tally.saw_if(situation, live != at_snap);
-        let found = read(run, &mut chain, code)?;
+        let found = chain.read(run, code)?;
         expect(run, Function::Frame, (found, live), chain.table(), monitors)?;
     }
     Ok(())
@@ -212,6 +207,6 @@ fn second_snap(run: &mut Run, chain: &mut Chain) -> Done {
 
 fn status(run: &mut Run, chain: &mut Chain) -> Done {
     let code = run.random.pick(&[RDSTATC, RDSTATD]);
-    read(run, chain, code)?;
+    chain.read(run, code)?;
     Ok(())
 }

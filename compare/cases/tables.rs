@@ -1,9 +1,11 @@
-//! What makes a table sound: its length, and two bytes of each record. Tried on each of the seven functions that are lent a table.
+//! What makes a table sound: its length, and two bytes of each record. Tried on each of the eleven functions that are lent a table.
 
+use crate::beats::{heartbeat, relay, time_out, wake};
 use crate::both::{compare, discharge, frame, load, store};
 use crate::clocks::Clocks;
 use crate::inputs::{self, at, head, MOST, RECORD};
 use crate::lent::{Both, Lent};
+use crate::messages::{sealed, LENGTH, PASS_COUNT};
 use crate::outputs::{Question, OUTPUTS};
 use crate::run::{Done, Run};
 
@@ -20,7 +22,8 @@ pub fn cases(run: &mut Run) -> Done {
     each_record(run, &mut clocks)
 }
 
-/// A bare command, a store, a compare, a load, a question, and a bare command clocked with this table at byte four and at the release.
+/// A bare command, a store, a compare, a load, a question, the four operations of the heartbeat, and a bare command clocked with this table at
+/// byte four and at the release.
 fn try_table(run: &mut Run, clocks: &mut Clocks, bytes: &[u8]) -> Done {
     let mut table = Both::new(&mut run.random, bytes);
     frame(run, &mut table, &head(RSTCC), 0)?;
@@ -32,6 +35,15 @@ fn try_table(run: &mut Run, clocks: &mut Clocks, bytes: &[u8]) -> Done {
     load(run, &mut table, 1, &[0; 16])?;
     let mut table = Both::new(&mut run.random, bytes);
     discharge(run, &mut table, Question { position: 1, events: 0, phase: 0 }, OUTPUTS)?;
+
+    let mut table = Both::new(&mut run.random, bytes);
+    wake(run, &mut table, 1, LENGTH)?;
+    let mut table = Both::new(&mut run.random, bytes);
+    relay(run, &mut table, 1, &sealed(PASS_COUNT, 0), LENGTH)?;
+    let mut table = Both::new(&mut run.random, bytes);
+    heartbeat(run, &mut table, 1, LENGTH)?;
+    let mut table = Both::new(&mut run.random, bytes);
+    time_out(run, &mut table, 1)?;
 
     let lent = Lent::new(&mut run.random, bytes);
     for byte in head(RSTCC) {

@@ -1,7 +1,8 @@
 //! The host's verdict on a heartbeat (L8): right messages, struck ones and any bytes, of all lengths, late or not.
 
 use crate::both::verdict;
-use crate::inputs::{damage, head, with_check, CMHB};
+use crate::inputs::{damage, CMHB};
+use crate::messages::{count_and_flags, message, with_any_counter};
 use crate::random::Random;
 use crate::run::{Done, Run};
 use crate::spike::Spike;
@@ -19,23 +20,6 @@ pub fn cases(run: &mut Run) -> Done {
     every_ending(run)?;
     every_spike(run)?;
     any_message(run)
-}
-
-/// Count and flags: the pass value, or near it by either, or any.
-fn count_and_flags(random: &mut Random) -> [u8; 2] {
-    let any = [random.byte(), random.byte()];
-    random.pick(&[[0x42, 0x00], [0x42, any[1]], [any[0], 0x00], any])
-}
-
-/// With any counter bits, and often with 0 as the devices send them.
-fn with_any_counter(random: &mut Random, command: u16, two: [u8; 2]) -> Vec<u8> {
-    let counter = if random.once_in(2) { 0 } else { random.below(64) as u8 };
-    [&head(command)[..], &with_check(&two, counter)].concat()
-}
-
-fn message(random: &mut Random) -> Vec<u8> {
-    let two = count_and_flags(random);
-    with_any_counter(random, CMHB, two)
 }
 
 /// Any value but 0 says that the time ran out.

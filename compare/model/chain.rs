@@ -95,7 +95,8 @@ pub fn compare(table: &mut [u8], position: usize) -> u32 {
     }))
 }
 
-fn record_at(table: &mut [u8], position: usize) -> Result<&mut Record, Refusal> {
+/// The record of the monitor at a position, 1 to N: refusals 1 and 7.
+pub fn record_at(table: &mut [u8], position: usize) -> Result<&mut Record, Refusal> {
     let index = index_of(table, position)?;
     Ok(&mut records_mut(table)[index])
 }

@@ -1,5 +1,4 @@
-//! Document 01, with requests L1, L2, L3 and L6 of document 02 and of L8 the settings, the enabling and the host's verdict, written once
-//! more from the papers alone: one file for each section.
+//! Document 01, with requests L1, L2, L3, L6 and L8 of document 02, written once more from the papers alone: one file for each section.
 //!
 //! It shares nothing with the proved code, so that a difference between the two shows a mistake in one of them. Each public function
 //! stands beside a function of include/oskorbine.h and packs its answer the same way. Nothing here allocates.
@@ -9,10 +8,14 @@ mod check_words;
 mod clocked;
 mod commands;
 mod discharge;
+mod heartbeat;
 mod host;
+mod measurement;
+mod message;
 mod monitor;
 mod numbers;
 mod readings;
+mod turn;
 mod verdict;
 
 #[cfg(test)]
@@ -22,7 +25,11 @@ mod worked_discharge;
 #[cfg(test)]
 mod worked_examples;
 #[cfg(test)]
+mod worked_heartbeat;
+#[cfg(test)]
 mod worked_lpcm;
+#[cfg(test)]
+mod worked_measurement;
 #[cfg(test)]
 mod worked_retention;
 #[cfg(test)]
@@ -39,6 +46,7 @@ pub use check_words::{
 pub use clocked::Clock;
 pub use commands::at;
 pub use discharge::{discharge, event, OUTPUT_ON};
+pub use heartbeat::{heartbeat, relay, time_out, wake};
 pub use host::{check, host_frame, two_ports};
 pub use monitor::{CMC_EN, MUTE_ST, RECORD, SNAP_ST};
 pub use readings::{microvolts, summary, volts};

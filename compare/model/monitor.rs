@@ -1,5 +1,6 @@
 //! One monitor's record: what a command does to it, what it replies, and its cells stored, compared and loaded ("Effects", "Counter",
-//! "Thresholds", L1, the PWM groups of L2, retention by L3, the copy of the cells of L6, and what L8 has of settings and enabling).
+//! "Thresholds", L1, the PWM groups of L2, retention by L3, the copy of the cells of L6, and what L8 has of settings and enabling; its
+//! heartbeat is in `measurement` and `turn`).
 
 use crate::check_words::{payload, payload_right};
 use crate::commands::{at, Bare, Read, Write};
@@ -22,8 +23,8 @@ const PWM_B_FIXED: [u8; 4] = [0xFF; 4];
 const LPCM_THRESHOLD_MASKS: [u8; 6] = [0xFF, 0xFF, 0xFF, 0xFF, 0x0F, 0x00];
 /// CMF1 (Table 100): LPCM is on; and the two flags of a timeout monitor, which stand until its first pass.
 pub const CMC_EN: u8 = 1 << 7;
-const CMF_BTMWD: u8 = 1 << 1;
-const CMF_BTMCMP: u8 = 1 << 0;
+pub const CMF_BTMWD: u8 = 1 << 1;
+pub const CMF_BTMCMP: u8 = 1 << 0;
 
 pub fn sound(record: &Record) -> bool {
     record[at::COUNTER] <= 63 && record[at::UNLOCKED] <= 1
@@ -50,7 +51,7 @@ pub fn lock(record: &mut Record) {
 }
 
 /// Also in a record that was lent so.
-fn in_lpcm(record: &Record) -> bool {
+pub fn in_lpcm(record: &Record) -> bool {
     record[at::LPCM_FLAGS + 1] & CMC_EN != 0
 }
 
@@ -131,10 +132,15 @@ pub fn bare(record: &mut Record, bare: Bare) {
         Bare::Cmen if in_lpcm(record) => {}
         Bare::Cmen => {
             record[at::LPCM_FLAGS + 1] = CMC_EN | CMF_BTMWD | CMF_BTMCMP;
-            record.copy_within(at::CELLS..at::CELLS + CELL_BYTES, at::LAST);
+            keep_measurement(record);
         }
         Bare::Cmdis => record[at::LPCM_FLAGS + 1] &= !CMC_EN,
     }
+}
+
+/// The live cells become those of the last measurement.
+pub fn keep_measurement(record: &mut Record) {
+    record.copy_within(at::CELLS..at::CELLS + CELL_BYTES, at::LAST);
 }
 
 /// After 63 comes 1: 0 stands for a reset.
@@ -146,13 +152,14 @@ fn set_cell(record: &mut Record, cell: usize, code: i16) {
     record[at::CELLS + 2 * cell..][..2].copy_from_slice(&code.to_le_bytes());
 }
 
-fn cell_code(record: &Record, cell: usize) -> i16 {
-    i16::from_le_bytes([record[at::CELLS + 2 * cell], record[at::CELLS + 2 * cell + 1]])
+/// Of the sixteen cells that begin at this byte.
+pub fn code_of(record: &Record, first: usize, cell: usize) -> i16 {
+    i16::from_le_bytes([record[first + 2 * cell], record[first + 2 * cell + 1]])
 }
 
-/// VUV and VOV, as steps of 16 codes.
-pub fn thresholds(record: &Record) -> (i16, i16) {
-    let [low, middle, high] = [0, 1, 2].map(|byte| u16::from(record[at::CONFIGURATION_B + byte]));
+/// The lower and the upper threshold in the three bytes from this one on, as steps of 16 codes: VUV and VOV, or CUV and COV.
+pub fn thresholds(record: &Record, first: usize) -> (i16, i16) {
+    let [low, middle, high] = [0, 1, 2].map(|byte| u16::from(record[first + byte]));
     (twelve_bits((middle & 0x0F) << 8 | low), twelve_bits(high << 4 | middle >> 4))
 }
 
@@ -162,7 +169,7 @@ fn twelve_bits(bits: u16) -> i16 {
 
 /// Sets the flags of a cell with this code; a flag that stands is left standing.
 fn set_flags(record: &mut Record, cell: usize, code: i16) {
-    let (vuv, vov) = thresholds(record);
+    let (vuv, vov) = thresholds(record, at::CONFIGURATION_B);
     let uv = i32::from(code) < 16 * i32::from(vuv);
     let ov = i32::from(code) > 16 * i32::from(vov);
     record[at::STATUS_D + cell / 4] |= (u8::from(ov) << 1 | u8::from(uv)) << (2 * (cell % 4));
@@ -177,7 +184,7 @@ pub fn store(record: &mut Record, codes: &[i16; 16]) {
 /// The cells as they stand now, with the thresholds as they stand now. A cleared cell is no reading and is skipped.
 pub fn compare(record: &mut Record) {
     for cell in 0..16 {
-        let code = cell_code(record, cell);
+        let code = code_of(record, at::CELLS, cell);
         if code != CLEARED {
             set_flags(record, cell, code);
         }

@@ -1,11 +1,7 @@
-//! L8, "The host's verdict" on a heartbeat: the message is of the sheet's Tables 28 and 29, its final pass value of Table 31.
+//! L8, "The host's verdict" on a heartbeat.
 
-use crate::check_words::{command_bytes, payload_right};
+use crate::message::{Message, LENGTH};
 use crate::numbers::{packed, Outcome, Refusal};
-
-const CMHB: u16 = 0x0043;
-/// Nothing is left of the count but its offset, and no flag is asserted.
-const PASS_VALUE: [u8; 2] = [0x42, 0x00];
 
 const PASSED: usize = 1;
 const FAILED: usize = 2;
@@ -19,20 +15,17 @@ pub fn verdict(message: &[u8], time_ran_out: u8) -> u32 {
 }
 
 fn judge(message: &[u8], late: bool) -> Outcome {
-    match (message.len(), late) {
-        (0 | 8, true) => Ok((TIMED_OUT, 0)),
-        (8, false) => Ok(in_time(message)),
-        _ => Err(Refusal::LengthWrong),
+    if message.is_empty() && late {
+        return Ok((TIMED_OUT, 0));
     }
+    let came: &[u8; LENGTH] = message.try_into().map_err(|_| Refusal::LengthWrong)?;
+    Ok(if late { (TIMED_OUT, 0) } else { in_time(came) })
 }
 
-fn in_time(message: &[u8]) -> (usize, usize) {
-    let (command, payload) = message.split_at(4);
-    if command != command_bytes(CMHB) || !payload_right(payload) {
-        return (DAMAGED, 0);
-    }
-    match [payload[0], payload[1]] {
-        PASS_VALUE => (PASSED, 0),
-        [count, flags] => (FAILED, 256 * usize::from(count) + usize::from(flags)),
+fn in_time(came: &[u8; LENGTH]) -> (usize, usize) {
+    match Message::opened(came) {
+        None => (DAMAGED, 0),
+        Some(Message::PASS) => (PASSED, 0),
+        Some(Message { count, flags }) => (FAILED, 256 * usize::from(count) + usize::from(flags)),
     }
 }

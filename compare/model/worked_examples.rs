@@ -67,7 +67,7 @@ fn example_9_write_without_payload() {
 fn example_10_thresholds() {
     let mut record = ZERO_RECORD;
     record[at::CONFIGURATION_B..][..3].copy_from_slice(&[0x00, 0x48, 0x06]);
-    assert_eq!(thresholds(&record), (-2048, 100));
+    assert_eq!(thresholds(&record, at::CONFIGURATION_B), (-2048, 100));
 }
 
 #[test]
