@@ -23,12 +23,12 @@ from typing import Any, NamedTuple, Sequence, Tuple, Union
 
 __all__ = [
     "Answer", "osk_number", "osk_first", "osk_second", "osk_frame", "osk_store", "osk_compare", "osk_load", "osk_discharge",
-    "osk_host_frame", "osk_check", "osk_two_ports", "osk_verdict", "osk_clock_start", "osk_clock_byte", "osk_clock_window",
-    "osk_clock_release", "osk_microvolts", "osk_volts", "osk_summary",
+    "osk_wake", "osk_relay", "osk_heartbeat", "osk_time_out", "osk_host_frame", "osk_check", "osk_two_ports", "osk_verdict",
+    "osk_clock_start", "osk_clock_byte", "osk_clock_window", "osk_clock_release", "osk_microvolts", "osk_volts", "osk_summary",
     "OSK_ACCEPTED", "OSK_TABLE_NOT_SOUND", "OSK_FRAME_SHORT", "OSK_COMMAND_WRONG", "OSK_CODE_NOT_LISTED", "OSK_LENGTH_WRONG",
     "OSK_NO_ROOM", "OSK_POSITION_WRONG", "OSK_COUNT_WRONG", "OSK_CODE_CLEARED", "OSK_NEITHER_RIGHT", "OSK_RECORD_SIZE",
-    "OSK_EVENT_SHUTDOWN", "OSK_EVENT_MEASUREMENT", "OSK_EVENT_WRCFGB", "OSK_EVENT_WRPWM", "OSK_OUTPUT_ON", "OSK_RIGHT", "OSK_DAMAGED",
-    "OSK_PORT_A", "OSK_PORT_B", "OSK_PASSED", "OSK_FAILED", "OSK_MESSAGE_DAMAGED", "OSK_TIMED_OUT", "OSK_CLOCK_STATE",
+    "OSK_EVENT_SHUTDOWN", "OSK_EVENT_MEASUREMENT", "OSK_EVENT_WRCFGB", "OSK_EVENT_WRPWM", "OSK_OUTPUT_ON", "OSK_PORT_A", "OSK_PORT_B",
+    "OSK_RIGHT", "OSK_DAMAGED", "OSK_PASSED", "OSK_FAILED", "OSK_MESSAGE_DAMAGED", "OSK_TIMED_OUT", "OSK_CLOCK_STATE",
 ]
 
 Writable = Union[bytearray, memoryview, "array.array[Any]", "ctypes.Array[Any]"]
@@ -42,7 +42,7 @@ OSK_TABLE_NOT_SOUND = 1  # the table is not sound; at a release also: it was not
 OSK_FRAME_SHORT = 2  # frame under 4 bytes
 OSK_COMMAND_WRONG = 3  # command PEC wrong
 OSK_CODE_NOT_LISTED = 4  # code not listed
-OSK_LENGTH_WRONG = 5  # length not the one for this command and N; a reply or payload of the wrong length
+OSK_LENGTH_WRONG = 5  # length not the one for this command and N; a reply, payload or message of the wrong length
 OSK_NO_ROOM = 6  # the buffer to be written is too small
 OSK_POSITION_WRONG = 7  # N not 1 to 32, position not 1 to N, or phase not 0 to 14
 OSK_COUNT_WRONG = 8  # wrong number of codes or value bytes
@@ -60,11 +60,13 @@ OSK_EVENT_WRPWM = 8  # a PWM group is being written
 
 OSK_OUTPUT_ON = 0x80  # added to an output's row where the output is on
 
+# ---- the ends of the chain
+
+OSK_PORT_A = 1  # monitor 1's
+OSK_PORT_B = 2  # that of monitor N
+
 OSK_RIGHT = 1
 OSK_DAMAGED = 2
-
-OSK_PORT_A = 1
-OSK_PORT_B = 2
 
 # ---- the host's verdict on a heartbeat in LPCM
 
@@ -138,6 +140,10 @@ _PROTOTYPES = {
     "osk_compare": (ctypes.c_uint32, _BUFFER + _POSITION),
     "osk_load": (ctypes.c_uint32, _BUFFER + _POSITION + _BUFFER),
     "osk_discharge": (ctypes.c_uint32, _BUFFER + _POSITION + _BYTE + _BYTE + _BUFFER),
+    "osk_wake": (ctypes.c_uint32, _BUFFER + _POSITION + _BUFFER),
+    "osk_relay": (ctypes.c_uint32, _BUFFER + _POSITION + _BUFFER + _BUFFER),
+    "osk_heartbeat": (ctypes.c_uint32, _BUFFER + _POSITION + _BUFFER),
+    "osk_time_out": (ctypes.c_uint32, _BUFFER + _POSITION),
     "osk_host_frame": (ctypes.c_uint32, (ctypes.c_uint16,) + _POSITION + _BUFFER + _BUFFER),
     "osk_check": (ctypes.c_uint32, _BUFFER),
     "osk_two_ports": (ctypes.c_uint32, _BUFFER + _BUFFER + _POSITION + _POSITION),
@@ -389,6 +395,65 @@ def osk_discharge(table: Readable, position: int, events: int, phase: int, out: 
     """
     asked = _size("position", position), _byte("events", events), _byte("phase", phase)
     return Answer(_call(_library.osk_discharge, _read("table", table), *asked, _written("out", out)))
+
+
+# ---- the heartbeat of LPCM: what passes from monitor to monitor while CMC_EN is set. Elementary, so that a message can be damaged on any
+# hop: a manager wakes, a message reaches a monitor, the time runs out; and the whole of it in one call. No heartbeat is a frame: counters
+# and bytes 69 stay.
+
+def osk_wake(table: Writable, position: int, out: Writable) -> Answer:
+    """The monitor at a position, 1 to N, wakes. A manager (CMC_EN, and CMC_MAN: configuration byte 0, bit 7) measures and starts a
+    heartbeat: its count is CMC_NDEV (byte 1) less one if it passes, else CMC_NDEV, in eight bits, its flags are CMF0, and it is sent
+    towards port A where CMC_DIR (byte 4, bit 5) is set, else towards port B. The message (see osk_verdict), with counter bits 0, goes to
+    the start of `out`; bytes past it stay. At any other monitor nothing changes, and nothing is sent.
+
+    A measurement looks at each cell that CMM_C does not leave out (bytes 2 and 3 of the configuration), by the thresholds and the code that
+    the last measurement left: CUV (bit 0 of CMF0) below 16 x CUV codes, COV (bit 1) above 16 x COV, CDVN (bit 2) where it has fallen by
+    more than 8 x CDV and CDVP (bit 3) where it has risen so. A cleared cell is the code -32768 like any other. A diagnostic that is pending
+    in status C (byte 4 mask F0, byte 5 mask D3) makes all eight flags. They join CMF0, where they stay until CLRCMFLAG, which no monitor
+    takes before CMDIS; and the live cells, those left out too, become the last measurement. The monitor passes where CMF0 is then 0. GPIOs
+    are not measured. Counters and bytes 69 stay: no heartbeat is a frame.
+
+    First: OSK_PORT_A or OSK_PORT_B, the end it is sent towards, and 0 where nothing is sent. Second: 8 or 0.
+    Refusals: 1, 7, 6 (`out` under eight, also where nothing would be sent).
+    """
+    return Answer(_call(_library.osk_wake, _written("table", table), _size("position", position), _written("out", out)))
+
+
+def osk_relay(table: Writable, position: int, message: Readable, out: Writable) -> Answer:
+    """A message reaches the monitor at a position, 1 to N. One in LPCM that is no manager takes in a message that is right, its counter
+    bits as they stand: it measures (see osk_wake), counts one down (in eight bits) if it passes, joins its CMF0 to the flags, and sends on
+    what it sealed anew, at the start of `out`; bytes past it stay. A timeout monitor (CMC_BTM: configuration byte 0, bit 3) takes its own
+    step and sends nothing on: where that leaves count 42 hex and flags 00 it clears bits 0 and 1 of CMF1, else it sets bit 0. A message
+    that is not right, and any at a manager or at a monitor not in LPCM, is ignored: nothing changes, and nothing is sent.
+
+    What one monitor handed out goes to the next as a copy, bytes(out[:8]), and not in the same memory as `out`. A copy can be damaged too.
+
+    First: 1 where it is sent on, else 0. Second: 8 or 0.
+    Refusals: 1, 7, 5 (a message of another length than eight), 6 (as osk_wake).
+    """
+    lent = _read("message", message), _written("out", out)
+    return Answer(_call(_library.osk_relay, _written("table", table), _size("position", position), *lent))
+
+
+def osk_heartbeat(table: Writable, position: int, out: Writable) -> Answer:
+    """A whole heartbeat: the manager at a position, 1 to N, wakes, and its message goes from monitor to monitor, nearest to it first, until
+    it leaves the chain or stops. The table and the message are those that osk_wake and osk_relay leave in turn. What left the chain, for
+    osk_verdict, goes to the start of `out`; bytes past it stay, and all of `out` where nothing left it.
+
+    First: the port it left at, and 0 where nothing left the chain. Second: 8 or 0.
+    Refusals: 1, 7, 6 (as osk_wake).
+    """
+    return Answer(_call(_library.osk_heartbeat, _written("table", table), _size("position", position), _written("out", out)))
+
+
+def osk_time_out(table: Writable, position: int) -> Answer:
+    """The time runs out at the monitor in a position, 1 to N: a timeout monitor in LPCM (CMC_BTM and no CMC_MAN) sets bit 1 of CMF1, and at
+    any other nothing changes. There is no clock here: this is how a bench says so.
+
+    First: 1 where it is a timeout monitor in LPCM, else 0. Refusals: 1, 7.
+    """
+    return Answer(_call(_library.osk_time_out, _written("table", table), _size("position", position)))
 
 
 # ---- the host

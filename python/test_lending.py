@@ -14,6 +14,9 @@ FRAME = wire.read(wire.RDCFGA, 1)
 SIX = bytes.fromhex("0102F8040306")  # nothing in it is masked by WRCFGA
 WRITE = wire.write(wire.WRCFGA, wire.payload(SIX))
 PAYLOAD = wire.payload(SIX)
+LPCM_CONFIGURATION, CMF1 = 114, 133
+MANAGER = b"\x80\x43"  # CMC_MAN, and CMC_NDEV for one monitor
+MESSAGE = bytes.fromhex("004347B2 42000394")  # what it sends where every cell is at code 0, as each limit and each last one is
 
 
 def address(pointer):
@@ -40,6 +43,10 @@ class Kinds(unittest.TestCase):
                 out = memoryview(bytearray(b"\xa5" * 18))[1:17]
                 self.assertEqual(osk.osk_discharge(table, 1, osk.OSK_EVENT_WRCFGB, 0, out), osk.OSK_ACCEPTED)
                 self.assertEqual(out.obj, b"\xa5" + b"\x05" * 16 + b"\xa5")
+                view[LPCM_CONFIGURATION:LPCM_CONFIGURATION + 2], view[CMF1] = MANAGER, 0x80
+                sent = memoryview(bytearray(b"\xa5" * 10))[1:9]
+                self.assertEqual(osk.osk_wake(table, 1, sent).first, osk.OSK_PORT_B)
+                self.assertEqual(sent.obj, b"\xa5" + MESSAGE + b"\xa5")
         self.assertEqual(around[:10] + around[-10:], b"\xa5" * 20)
 
     def test_read_bytes(self):
@@ -54,6 +61,10 @@ class Kinds(unittest.TestCase):
                 self.assertEqual(osk.osk_check(payload).first, osk.OSK_RIGHT)
         for table in bytes(RECORD), memoryview(bytes(RECORD + 1))[1:], memoryview(bytearray(RECORD)).toreadonly():
             self.assertEqual(osk.osk_discharge(table, 1, 0, 0, bytearray(16)), osk.OSK_ACCEPTED)
+        for message in MESSAGE, bytearray(MESSAGE), memoryview(b"\xa5" + MESSAGE)[1:], memoryview(bytearray(MESSAGE)).toreadonly():
+            table = bytearray(RECORD)
+            table[CMF1] = 0x80
+            self.assertEqual(osk.osk_relay(table, 1, message, bytearray(8)).first, 1)
 
     def test_codes(self):
         numbers = [-32767, 32767, -1, 0, 1, 256, -256, 7] * 2
@@ -92,6 +103,11 @@ class Kinds(unittest.TestCase):
         self.assertEqual(osk.osk_discharge(bytearray(4 * RECORD), Four(), Four(), Four(), out), osk.OSK_ACCEPTED)
         self.assertEqual(out, b"\x05" * 16)
         self.assertEqual(osk.osk_verdict(b"", Four()).first, osk.OSK_TIMED_OUT)
+        for function, more in (osk.osk_wake, ()), (osk.osk_relay, (MESSAGE,)), (osk.osk_heartbeat, ()):
+            self.assertEqual(function(bytearray(3 * RECORD), Four(), *more, bytearray(8)), osk.OSK_POSITION_WRONG)
+            self.assertEqual(function(bytearray(4 * RECORD), Four(), *more, bytearray(8)), osk.OSK_ACCEPTED)
+        self.assertEqual(osk.osk_time_out(bytearray(3 * RECORD), Four()), osk.OSK_POSITION_WRONG)
+        self.assertEqual(osk.osk_time_out(bytearray(4 * RECORD), Four()), osk.OSK_ACCEPTED)
 
 
 class Lending(unittest.TestCase):
@@ -106,7 +122,8 @@ class Lending(unittest.TestCase):
         def at(buffer):
             return ctypes.addressof(ctypes.c_char.from_buffer(buffer))
 
-        names = "osk_frame", "osk_host_frame", "osk_store", "osk_compare", "osk_load", "osk_discharge"
+        names = ("osk_frame", "osk_host_frame", "osk_store", "osk_compare", "osk_load", "osk_discharge", "osk_wake", "osk_relay",
+                 "osk_heartbeat", "osk_time_out")
         with library_of(**{name: function for name in names}):
             osk.osk_frame(table, FRAME, reply)
             self.assertEqual([address(lent["words"][0]), address(lent["words"][4])], [at(table), at(reply)])
@@ -128,6 +145,18 @@ class Lending(unittest.TestCase):
             osk.osk_discharge(table, 3, 0x8F, 14, reply)
             self.assertEqual([address(lent["words"][0]), *lent["words"][1:5]], [at(table), RECORD, 3, 0x8F, 14])
             self.assertEqual([address(lent["words"][5]), lent["words"][6]], [at(reply), 8])
+            for function in osk.osk_wake, osk.osk_heartbeat:
+                lent.clear()
+                function(memoryview(table)[1:], 3, memoryview(reply)[2:5])
+                self.assertEqual([address(lent["words"][0]), *lent["words"][1:3]], [at(table) + 1, RECORD - 1, 3])
+                self.assertEqual([address(lent["words"][3]), lent["words"][4]], [at(reply) + 2, 3])
+            osk.osk_relay(table, 3, values, reply)
+            self.assertEqual([address(lent["words"][word]) for word in (0, 3, 5)], [at(table), at(values), at(reply)])
+            self.assertEqual([lent["words"][word] for word in (1, 2, 4, 6)], [RECORD, 3, 6, 8])
+            osk.osk_relay(table, 3, MESSAGE, reply)
+            self.assertIs(lent["words"][3], MESSAGE)
+            osk.osk_time_out(memoryview(table)[1:], 3)
+            self.assertEqual([address(lent["words"][0]), *lent["words"][1:]], [at(table) + 1, RECORD - 1, 3])
 
     def test_empty_buffers_have_an_address(self):
         seen = []
@@ -138,8 +167,9 @@ class Lending(unittest.TestCase):
                     seen.append(address(pointer))
             return 0
 
-        names = ("osk_frame", "osk_store", "osk_compare", "osk_load", "osk_discharge", "osk_host_frame", "osk_check", "osk_two_ports",
-                 "osk_verdict", "osk_clock_byte", "osk_clock_window", "osk_clock_release", "osk_summary")
+        names = ("osk_frame", "osk_store", "osk_compare", "osk_load", "osk_discharge", "osk_wake", "osk_relay", "osk_heartbeat",
+                 "osk_time_out", "osk_host_frame", "osk_check", "osk_two_ports", "osk_verdict", "osk_clock_byte", "osk_clock_window",
+                 "osk_clock_release", "osk_summary")
         with library_of(**{name: function for name in names}):
             for empty in b"", bytearray(), memoryview(b"abc")[:0], (ctypes.c_uint8 * 0)(), array.array("B"):
                 state = bytearray(osk.OSK_CLOCK_STATE)
@@ -148,6 +178,10 @@ class Lending(unittest.TestCase):
                 osk.osk_compare(bytearray(), 1)
                 osk.osk_load(bytearray(), 1, [])
                 osk.osk_discharge(empty, 1, 0, 0, bytearray())
+                osk.osk_wake(bytearray(), 1, bytearray())
+                osk.osk_relay(bytearray(), 1, empty, bytearray())
+                osk.osk_heartbeat(bytearray(), 1, bytearray())
+                osk.osk_time_out(bytearray(), 1)
                 osk.osk_host_frame(wire.MUTE, 1, empty, bytearray())
                 osk.osk_check(empty)
                 osk.osk_two_ports(empty, empty, 1, 1)
@@ -156,7 +190,7 @@ class Lending(unittest.TestCase):
                 osk.osk_clock_window(state, 1, bytearray())
                 osk.osk_clock_release(state, bytearray())
                 osk.osk_summary(array.array("h"), array.array("d"))
-        self.assertEqual(len(seen), 5 * 21)
+        self.assertEqual(len(seen), 5 * 29)
         self.assertEqual([each for each in seen if not each or each % 8], [])
 
     def test_codes_are_aligned(self):
@@ -245,6 +279,13 @@ class Mistakes(unittest.TestCase):
             yield "table", osk.osk_compare, lambda wrong: (wrong, 1)
             yield "table", osk.osk_load, lambda wrong: (wrong, 1, self.codes)
             yield "out", osk.osk_discharge, lambda wrong: (table, 1, 0, 0, wrong)
+            yield "table", osk.osk_wake, lambda wrong: (wrong, 1, reply)
+            yield "out", osk.osk_wake, lambda wrong: (table, 1, wrong)
+            yield "table", osk.osk_relay, lambda wrong: (wrong, 1, MESSAGE, reply)
+            yield "out", osk.osk_relay, lambda wrong: (table, 1, MESSAGE, wrong)
+            yield "table", osk.osk_heartbeat, lambda wrong: (wrong, 1, reply)
+            yield "out", osk.osk_heartbeat, lambda wrong: (table, 1, wrong)
+            yield "table", osk.osk_time_out, lambda wrong: (wrong, 1)
             yield "out", osk.osk_host_frame, lambda wrong: (wire.MUTE, 1, b"", wrong)
             yield "out", osk.osk_clock_window, lambda wrong: (state, 1, wrong)
             yield "table", osk.osk_clock_release, lambda wrong: (state, wrong)
@@ -254,6 +295,7 @@ class Mistakes(unittest.TestCase):
         else:
             yield "frame", osk.osk_frame, lambda wrong: (table, wrong, reply)
             yield "table", osk.osk_discharge, lambda wrong: (wrong, 1, 0, 0, reply)
+            yield "message", osk.osk_relay, lambda wrong: (table, 1, wrong, reply)
             yield "values", osk.osk_host_frame, lambda wrong: (wire.MUTE, 1, wrong, reply)
             yield "payload", osk.osk_check, lambda wrong: (wrong,)
             yield "a", osk.osk_two_ports, lambda wrong: (wrong, PAYLOAD, 1, 1)
@@ -298,6 +340,12 @@ class Mistakes(unittest.TestCase):
             ("table and codes", osk.osk_load, memory[:RECORD], 1, memory[RECORD - 2:RECORD + 30].cast("h")),
             ("table and out", osk.osk_discharge, memory[:RECORD], 1, 0, 0, memory[RECORD - 1:RECORD + 15]),
             ("table and out", osk.osk_discharge, memory[15:15 + RECORD], 1, 0, 0, memory[:16]),
+            ("table and out", osk.osk_wake, memory[:RECORD], 1, memory[RECORD - 1:RECORD + 7]),
+            ("table and message", osk.osk_relay, memory[:RECORD], 1, memory[RECORD - 1:RECORD + 7], self.reply),
+            ("table and out", osk.osk_relay, memory[7:7 + RECORD], 1, MESSAGE, memory[:8]),
+            ("message and out", osk.osk_relay, self.table, 1, memory[:8], memory[7:15]),
+            ("message and out", osk.osk_relay, self.table, 1, self.reply, self.reply),
+            ("table and out", osk.osk_heartbeat, memory[7:7 + RECORD], 1, memory[:8]),
             ("values and out", osk.osk_host_frame, wire.WRCFGB, 1, memory[11:17], memory[:12]),
             ("state and table", osk.osk_clock_byte, state, memory[200:200 + RECORD], 0),
             ("state and table", osk.osk_clock_release, state, memory[100:100 + RECORD]),
@@ -312,6 +360,10 @@ class Mistakes(unittest.TestCase):
             ("position", osk.osk_compare, lambda wrong: (self.table, wrong)),
             ("position", osk.osk_load, lambda wrong: (self.table, wrong, self.codes)),
             ("position", osk.osk_discharge, lambda wrong: (self.table, wrong, 0, 0, self.reply)),
+            ("position", osk.osk_wake, lambda wrong: (self.table, wrong, self.reply)),
+            ("position", osk.osk_relay, lambda wrong: (self.table, wrong, MESSAGE, self.reply)),
+            ("position", osk.osk_heartbeat, lambda wrong: (self.table, wrong, self.reply)),
+            ("position", osk.osk_time_out, lambda wrong: (self.table, wrong)),
             ("monitors", osk.osk_host_frame, lambda wrong: (wire.MUTE, wrong, b"", self.reply)),
             ("monitors", osk.osk_two_ports, lambda wrong: (PAYLOAD, PAYLOAD, wrong, 1)),
             ("position", osk.osk_two_ports, lambda wrong: (PAYLOAD, PAYLOAD, 1, wrong)),

@@ -11,7 +11,8 @@ from oskorbine import (
     OSK_EVENT_MEASUREMENT, OSK_EVENT_SHUTDOWN, OSK_EVENT_WRCFGB, OSK_EVENT_WRPWM, OSK_FRAME_SHORT, OSK_LENGTH_WRONG, OSK_NEITHER_RIGHT,
     OSK_NO_ROOM, OSK_OUTPUT_ON, OSK_PORT_A, OSK_PORT_B, OSK_POSITION_WRONG, OSK_RECORD_SIZE, OSK_RIGHT, OSK_TABLE_NOT_SOUND, Answer,
     osk_check, osk_clock_byte, osk_clock_release, osk_clock_start, osk_clock_window, osk_compare, osk_discharge, osk_first, osk_frame,
-    osk_host_frame, osk_load, osk_microvolts, osk_number, osk_second, osk_store, osk_summary, osk_two_ports, osk_volts,
+    osk_heartbeat, osk_host_frame, osk_load, osk_microvolts, osk_number, osk_relay, osk_second, osk_store, osk_summary, osk_time_out,
+    osk_two_ports, osk_volts, osk_wake,
 )
 
 CANARY = 0xA5
@@ -498,6 +499,8 @@ class Record(Case):
             "frame": lambda table: osk_frame(table, wire.command_bytes(wire.SNAP), bytearray()),
             "store": lambda table: osk_store(table, 1, [0] * 16), "compare": lambda table: osk_compare(table, 1),
             "load": lambda table: osk_load(table, 1, [0] * 16), "discharge": lambda table: osk_discharge(table, 1, 0, 0, bytearray(16)),
+            "wake": lambda table: osk_wake(table, 1, bytearray(8)), "relay": lambda table: osk_relay(table, 1, bytes(8), bytearray(8)),
+            "heartbeat": lambda table: osk_heartbeat(table, 1, bytearray(8)), "time out": lambda table: osk_time_out(table, 1),
             "release": self.release,
         }.items()
 
