@@ -1,5 +1,6 @@
 // Shows the chain at its limits by running it: each line says what was tried and what came back. What is expected stands in
 // the program beside each case, worked out from the paper and not from the chain.
+mod beats;
 mod bench;
 mod cases;
 mod commands;
@@ -7,15 +8,18 @@ mod deeds;
 mod frames;
 mod hosts;
 mod longest;
+mod notes;
 mod order;
 mod outputs;
 mod say;
+mod sleeping;
 mod soundness;
 mod starts;
 mod tally;
 mod volts;
 mod words;
 
+use notes::note;
 use say::text;
 use tally::Tally;
 use words::words;
@@ -37,6 +41,10 @@ const PACK: u8 = 6;
 
 const OUTPUTS: u8 = 7;
 
+const BEAT_REFUSAL: u8 = 8;
+
+const BEAT: u8 = 9;
+
 fn tried(kind: u8, i: usize) -> bool {
     match kind {
         COMMAND => commands::command(i),
@@ -46,7 +54,9 @@ fn tried(kind: u8, i: usize) -> bool {
         BUILD => hosts::build(i),
         VOLTS => volts::read(i),
         PACK => volts::summary(i),
-        _ => outputs::asked(i),
+        OUTPUTS => outputs::asked(i),
+        BEAT_REFUSAL => beats::refusal(i),
+        _ => beats::beat(i),
     }
 }
 
@@ -80,6 +90,14 @@ fn main() {
     let t = run(t, words::STORES, COMMAND, 145, 157);
     let t = run(t, words::COMPARES, COMMAND, 157, 172);
     let t = run(t, words::OUTPUTS, OUTPUTS, 0, 51);
+    note(notes::BEAT_REFUSALS);
+    let t = run(t, 0, BEAT_REFUSAL, 0, 45);
+    note(notes::TURNS);
+    let t = run(t, 0, BEAT, 0, 49);
+    note(notes::BEATS);
+    let t = run(t, 0, BEAT, 49, 113);
+    note(notes::VERDICT_CASES);
+    let t = run(t, 0, BEAT, 113, 132);
     let t = run(t, words::HOSTS, BUILD, 0, 38);
     let t = run(t, words::VOLTS, VOLTS, 0, 5);
     let t = run(t, 0, PACK, 0, 5);

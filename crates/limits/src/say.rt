@@ -52,7 +52,7 @@ pub(crate) fn text(k: u64) {
     words(k, 0, 0, 0, 0);
 }
 
-fn byte(b: u8) {
+pub(crate) fn byte(b: u8) {
     text(SPACE);
     io::print_hex(STDOUT_FILENO, b as u64, 2);
 }

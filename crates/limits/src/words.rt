@@ -97,8 +97,268 @@ pub(crate) const CASES: u64 = 124;
 
 pub(crate) const ASKED: u64 = 296;
 
+// Where the cases' words are cut in two. A list costs its check more than twice what its halves do.
+const MORE_CASES: u64 = 240;
+
+// Those of the cases, from the first of commands.rt on.
+fn cases(k: u64, a: u64, b: u64, c: u64, d: u64) {
+    words_of(
+        b"\
+    |MUTE, monitors #\
+    |MUTE, monitors #\
+    |MUTE, monitors #\
+    |MUTE, monitors #\
+    |RDCFGA, monitors #, room #\
+    |RDCFGA, monitors #, room #\
+    |RDCFGA, monitors #, room #\
+    |RDCFGA, monitors #, room #\
+    |RDCFGA, monitors #, room #\
+    |RDCFGA, monitors #, room #\
+    |RDCFGA, monitors #, room #\
+    |RDCFGA, monitors #, room #\
+    |RDCFGA\
+    |RDCFGB\
+    |RDSTATC\
+    |RDSTATD\
+    |RDSID\
+    |RDRR\
+    |RDCVA\
+    |RDCVB\
+    |RDCVC\
+    |RDCVD\
+    |RDCVE\
+    |RDCVF\
+    |RDPWMA\
+    |RDPWMB\
+    |WRCFGA\
+    |WRCFGB\
+    |CLRFLAG\
+    |CLOVUV\
+    |WRPWMA with the check 00 00\
+    |WRPWMB\
+    |WRPWMB, monitors of 0\
+    |WRRR, locked\
+    |ULRR\
+    |WRRR, after ULRR\
+    |MUTE, after ULRR\
+    |WRRR, after ULRR and MUTE\
+    |RDRR, after ULRR\
+    |MUTE\
+    |UNMUTE\
+    |RSTCC\
+    |CLRCELL\
+    |SNAP\
+    |SNAP, after SNAP and CLRCELL\
+    |RDCVA, after SNAP and CLRCELL\
+    |RDCVB, after SNAP and CLRCELL\
+    |RDCVC, after SNAP and CLRCELL\
+    |RDCVD, after SNAP and CLRCELL\
+    |RDCVE, after SNAP and CLRCELL\
+    |RDCVF, after SNAP and CLRCELL\
+    |RDSTATD, after SNAP and a load at position 2\
+    |RDCVA, after SNAP and a load at position 2\
+    |UNSNAP\
+    |RDCVA, after SNAP, a load at position 2 and UNSNAP\
+    |SNAP, after ULRR\
+    |UNSNAP, after ULRR\
+    |RDCMCFG\
+    |RDCMCELLT\
+    |RDCMGPIOT\
+    |RDCMFLAG\
+    |WRCMCFG\
+    |WRCMCELLT\
+    |WRCMGPIOT\
+    |CLRCMFLAG\
+    |CLRCMFLAG, all ones in the second byte, and bits that are not set\
+    |CMEN\
+    |CMEN, after ULRR\
+    |CMEN, after CMEN and CLRCELL\
+    |CMEN, CMF1 80 and 7f\
+    |CMDIS, CMF1 80 and 7f\
+    |CMDIS, after CMEN and CLRCELL\
+    |CMDIS\
+    |RDCMFLAG, after CMEN and ULRR\
+    |CLRCELL, after CMEN and ULRR\
+    |WRCFGA, CMF1 80 and 7f\
+    |WRCFGB, CMF1 80 and 7f\
+    |WRRR, CMF1 80 and 7f\
+    |CLRFLAG, CMF1 80 and 7f\
+    |CLOVUV, CMF1 80 and 7f\
+    |WRPWMA, CMF1 80 and 7f\
+    |WRPWMB, CMF1 80 and 7f\
+    |WRCMCFG, CMF1 80 and 7f\
+    |WRCMCELLT, CMF1 80 and 7f\
+    |WRCMGPIOT, CMF1 80 and 7f\
+    |CLRCMFLAG, CMF1 80 and 7f\
+    |WRRR, both damaged, CMF1 80 and 7f\
+    |WRCFGB, the second monitor's data damaged, CMF1 80 and 7f\
+    |WRCFGB, after CMEN and ULRR\
+    |WRRR, after CMEN and ULRR\
+    |CLRCMFLAG, after CMEN and ULRR\
+    |WRCFGB, after CMEN and CMDIS\
+    |CLRCMFLAG, after ULRR, the second monitor's data damaged\
+    |CLRCMFLAG, after ULRR, the first monitor's check damaged\
+    |CLRCMFLAG, after ULRR, counter bits 9 and 63\
+    |CLRCMFLAG, after ULRR, ten bits for monitor 1 hit\
+    |CLRCMFLAG, after ULRR, eleven bits for monitor 1 hit, by the data polynomial\
+    |CLRCMFLAG, after ULRR, one bit for monitor 2 and nine for monitor 1 hit\
+    |CMEN, counters of 62 and 63\
+    |CMDIS, counters of 62 and 63\
+    |CLRCMFLAG, counters of 62 and 63\
+    |MUTE, room 0\
+    |WRCFGB, the second monitor's data damaged\
+    |WRCFGB, the first monitor's check damaged\
+    |WRCFGB, both damaged\
+    |WRCFGB, counter bits 9 and 63\
+    |WRPWMA, the second monitor's data damaged\
+    |WRPWMB, the first monitor's check damaged\
+    |WRRR, the second monitor's data damaged\
+    |WRRR, the first monitor's check damaged\
+    |WRRR, both damaged\
+    |WRRR, both damaged, a MUTE between\
+    |WRRR, both damaged, monitor 1 alone unlocked\
+    |WRCFGB, ten bits for monitor 1 hit\
+    |WRCFGB, eleven bits for monitor 1 hit, by the data polynomial\
+    |WRCFGB, ten bits for monitor 2 hit\
+    |",
+        k,
+        a,
+        b,
+        c,
+        d,
+    );
+}
+
+// And the rest of them.
+fn more_cases(k: u64, a: u64, b: u64, c: u64, d: u64) {
+    words_of(
+        b"\
+    |WRCFGB, one bit for monitor 2 and nine for monitor 1 hit\
+    |WRRR, one bit for monitor 2 and nine for monitor 1 hit\
+    |WRCFGB, one bit of the command and nine for monitor 2 hit\
+    |MUTE, fifteen bits hit, comes as 00 28 63 3c\
+    |MUTE, sixteen bits hit, by the command polynomial, comes as UNMUTE, 00 29 63 3c\
+    |MUTE, its last sixteen bits hit, by the command polynomial, comes as 00 28 2d 97\
+    |RDRR, the last fifteen bits of the command hit, comes as 00 3a 51 89\
+    |WRPWMA, sixteen bits of the command hit, by its polynomial, comes as WRPWMB, 00 21 8b 32\
+    |MUTE\
+    |RSTCC\
+    |SNAP\
+    |UNSNAP\
+    |WRRR, both damaged, locked\
+    |unsound table\
+    |unsound table, position 0\
+    |position 0\
+    |position 3 of 2\
+    |position 3 of 2, 15 codes\
+    |15 codes\
+    |17 codes\
+    |15 codes, one of them -32768\
+    |a code -32768\
+    |VUV 0, VOV 100, code 1600\
+    |VUV 0, VOV 100, code 1601\
+    |VUV -1, VOV 0, code -16\
+    |VUV -1, VOV 0, code -17\
+    |VUV 100, VOV 0, sixteen codes 800\
+    |the same cell, code 1600 after 1601\
+    |CLOVUV, then\
+    |unsound table\
+    |unsound table, position 0\
+    |position 0\
+    |position 3 of 2\
+    |position 3 of 2, 15 codes\
+    |15 codes\
+    |17 codes\
+    |15 codes, one of them -32768\
+    |a code -32768\
+    |VUV 0, VOV 100, code 1601\
+    |VUV 0, VOV 100, code -32767\
+    |after ULRR, sixteen codes 800\
+    |unsound table\
+    |unsound table, position 0\
+    |position 0\
+    |position 3 of 2\
+    |VUV 0, VOV 100, code 1600\
+    |VUV 0, VOV 100, code 1601\
+    |VUV -1, VOV 0, code -16\
+    |VUV -1, VOV 0, code -17\
+    |position 1, VUV 0, VOV 100, code 1601\
+    |position 1, VUV 0, VOV 100, code 1601 at position 2 only\
+    |VUV 2047, VOV 0, after CLRCELL\
+    |VUV 2047, VOV 0, after CLRCELL, one cell -32767\
+    |the same cell, code 1600 after 1601\
+    |VUV 0, VOV 100, code 1601, a second time\
+    |after ULRR, position 1\
+    |unsound table\
+    |unsound table, position 3, phase 15, room 15\
+    |33 monitors\
+    |position 0\
+    |position 3 of 2\
+    |position 3 of 2, phase 15, room 15\
+    |position 0, room 15\
+    |position 33 of 32\
+    |phase 15\
+    |phase 255\
+    |phase 15, room 15\
+    |room 15\
+    |room 0\
+    |duties 15, phase 14, room 16\
+    |duties 15, phase 14, room 17\
+    |position 32 of 32, duties 0, DCC of cell 1\
+    |duties 7, phase 6\
+    |duties 7, phase 7\
+    |duties 0 to 15, phase 0\
+    |duties 0 to 15, phase 7\
+    |duties 0 to 15, phase 14\
+    |a duty for cell 1 alone\
+    |a duty for cell 2 alone\
+    |a duty for cell 12 alone\
+    |a duty for cell 13 alone\
+    |a duty for cell 16 alone\
+    |DCC of cell 1 alone\
+    |DCC of cell 8 alone\
+    |DCC of cell 9 alone\
+    |DCC of cell 16 alone\
+    |DCC of all but cell 8, phase 14\
+    |DCC of all but cell 9, measurement\
+    |shutdown\
+    |WRCFGB\
+    |measurement\
+    |measurement, duties 0\
+    |WRPWM\
+    |WRPWM, duties 0\
+    |DCC of cell 1, WRPWM\
+    |DCC of cell 1, measurement\
+    |DCC of cell 1, measurement, WRPWM\
+    |DCC of cell 1, WRCFGB\
+    |DCC of cell 1, WRCFGB, measurement, WRPWM\
+    |DCC of cell 1, shutdown\
+    |DCC of cell 1, muted, position 2\
+    |the same, WRCFGB, measurement, WRPWM\
+    |the same, all four\
+    |duties 0 to 15, phase 7, DCC of cell 1\
+    |the same, after MUTE\
+    |the same, after MUTE and UNMUTE\
+    |the same, position 2\
+    |",
+        k,
+        a,
+        b,
+        c,
+        d,
+    );
+}
+
 // The words of a number, with the numbers in them.
 pub(crate) fn words(k: u64, a: u64, b: u64, c: u64, d: u64) {
+    if k >= MORE_CASES {
+        more_cases(k - MORE_CASES + 1, a, b, c, d);
+        return;
+    }
+    if k >= CASES {
+        cases(k - CASES + 1, a, b, c, d);
+        return;
+    }
     words_of(
         b"\
     |: refused #\
@@ -224,229 +484,6 @@ pub(crate) fn words(k: u64, a: u64, b: u64, c: u64, d: u64) {
     |RDPWMB, room 15\
     |RDCMFLAG, room 15\
     |RDCFGA, room 0\
-    |MUTE, monitors #\
-    |MUTE, monitors #\
-    |MUTE, monitors #\
-    |MUTE, monitors #\
-    |RDCFGA, monitors #, room #\
-    |RDCFGA, monitors #, room #\
-    |RDCFGA, monitors #, room #\
-    |RDCFGA, monitors #, room #\
-    |RDCFGA, monitors #, room #\
-    |RDCFGA, monitors #, room #\
-    |RDCFGA, monitors #, room #\
-    |RDCFGA, monitors #, room #\
-    |RDCFGA\
-    |RDCFGB\
-    |RDSTATC\
-    |RDSTATD\
-    |RDSID\
-    |RDRR\
-    |RDCVA\
-    |RDCVB\
-    |RDCVC\
-    |RDCVD\
-    |RDCVE\
-    |RDCVF\
-    |RDPWMA\
-    |RDPWMB\
-    |WRCFGA\
-    |WRCFGB\
-    |CLRFLAG\
-    |CLOVUV\
-    |WRPWMA with the check 00 00\
-    |WRPWMB\
-    |WRPWMB, monitors of 0\
-    |WRRR, locked\
-    |ULRR\
-    |WRRR, after ULRR\
-    |MUTE, after ULRR\
-    |WRRR, after ULRR and MUTE\
-    |RDRR, after ULRR\
-    |MUTE\
-    |UNMUTE\
-    |RSTCC\
-    |CLRCELL\
-    |SNAP\
-    |SNAP, after SNAP and CLRCELL\
-    |RDCVA, after SNAP and CLRCELL\
-    |RDCVB, after SNAP and CLRCELL\
-    |RDCVC, after SNAP and CLRCELL\
-    |RDCVD, after SNAP and CLRCELL\
-    |RDCVE, after SNAP and CLRCELL\
-    |RDCVF, after SNAP and CLRCELL\
-    |RDSTATD, after SNAP and a load at position 2\
-    |RDCVA, after SNAP and a load at position 2\
-    |UNSNAP\
-    |RDCVA, after SNAP, a load at position 2 and UNSNAP\
-    |SNAP, after ULRR\
-    |UNSNAP, after ULRR\
-    |RDCMCFG\
-    |RDCMCELLT\
-    |RDCMGPIOT\
-    |RDCMFLAG\
-    |WRCMCFG\
-    |WRCMCELLT\
-    |WRCMGPIOT\
-    |CLRCMFLAG\
-    |CLRCMFLAG, all ones in the second byte, and bits that are not set\
-    |CMEN\
-    |CMEN, after ULRR\
-    |CMEN, after CMEN and CLRCELL\
-    |CMEN, CMF1 80 and 7f\
-    |CMDIS, CMF1 80 and 7f\
-    |CMDIS, after CMEN and CLRCELL\
-    |CMDIS\
-    |RDCMFLAG, after CMEN and ULRR\
-    |CLRCELL, after CMEN and ULRR\
-    |WRCFGA, CMF1 80 and 7f\
-    |WRCFGB, CMF1 80 and 7f\
-    |WRRR, CMF1 80 and 7f\
-    |CLRFLAG, CMF1 80 and 7f\
-    |CLOVUV, CMF1 80 and 7f\
-    |WRPWMA, CMF1 80 and 7f\
-    |WRPWMB, CMF1 80 and 7f\
-    |WRCMCFG, CMF1 80 and 7f\
-    |WRCMCELLT, CMF1 80 and 7f\
-    |WRCMGPIOT, CMF1 80 and 7f\
-    |CLRCMFLAG, CMF1 80 and 7f\
-    |WRRR, both damaged, CMF1 80 and 7f\
-    |WRCFGB, the second monitor's data damaged, CMF1 80 and 7f\
-    |WRCFGB, after CMEN and ULRR\
-    |WRRR, after CMEN and ULRR\
-    |CLRCMFLAG, after CMEN and ULRR\
-    |WRCFGB, after CMEN and CMDIS\
-    |CLRCMFLAG, after ULRR, the second monitor's data damaged\
-    |CLRCMFLAG, after ULRR, the first monitor's check damaged\
-    |CLRCMFLAG, after ULRR, counter bits 9 and 63\
-    |CLRCMFLAG, after ULRR, ten bits for monitor 1 hit\
-    |CLRCMFLAG, after ULRR, eleven bits for monitor 1 hit, by the data polynomial\
-    |CLRCMFLAG, after ULRR, one bit for monitor 2 and nine for monitor 1 hit\
-    |CMEN, counters of 62 and 63\
-    |CMDIS, counters of 62 and 63\
-    |CLRCMFLAG, counters of 62 and 63\
-    |MUTE, room 0\
-    |WRCFGB, the second monitor's data damaged\
-    |WRCFGB, the first monitor's check damaged\
-    |WRCFGB, both damaged\
-    |WRCFGB, counter bits 9 and 63\
-    |WRPWMA, the second monitor's data damaged\
-    |WRPWMB, the first monitor's check damaged\
-    |WRRR, the second monitor's data damaged\
-    |WRRR, the first monitor's check damaged\
-    |WRRR, both damaged\
-    |WRRR, both damaged, a MUTE between\
-    |WRRR, both damaged, monitor 1 alone unlocked\
-    |WRCFGB, ten bits for monitor 1 hit\
-    |WRCFGB, eleven bits for monitor 1 hit, by the data polynomial\
-    |WRCFGB, ten bits for monitor 2 hit\
-    |WRCFGB, one bit for monitor 2 and nine for monitor 1 hit\
-    |WRRR, one bit for monitor 2 and nine for monitor 1 hit\
-    |WRCFGB, one bit of the command and nine for monitor 2 hit\
-    |MUTE, fifteen bits hit, comes as 00 28 63 3c\
-    |MUTE, sixteen bits hit, by the command polynomial, comes as UNMUTE, 00 29 63 3c\
-    |MUTE, its last sixteen bits hit, by the command polynomial, comes as 00 28 2d 97\
-    |RDRR, the last fifteen bits of the command hit, comes as 00 3a 51 89\
-    |WRPWMA, sixteen bits of the command hit, by its polynomial, comes as WRPWMB, 00 21 8b 32\
-    |MUTE\
-    |RSTCC\
-    |SNAP\
-    |UNSNAP\
-    |WRRR, both damaged, locked\
-    |unsound table\
-    |unsound table, position 0\
-    |position 0\
-    |position 3 of 2\
-    |position 3 of 2, 15 codes\
-    |15 codes\
-    |17 codes\
-    |15 codes, one of them -32768\
-    |a code -32768\
-    |VUV 0, VOV 100, code 1600\
-    |VUV 0, VOV 100, code 1601\
-    |VUV -1, VOV 0, code -16\
-    |VUV -1, VOV 0, code -17\
-    |VUV 100, VOV 0, sixteen codes 800\
-    |the same cell, code 1600 after 1601\
-    |CLOVUV, then\
-    |unsound table\
-    |unsound table, position 0\
-    |position 0\
-    |position 3 of 2\
-    |position 3 of 2, 15 codes\
-    |15 codes\
-    |17 codes\
-    |15 codes, one of them -32768\
-    |a code -32768\
-    |VUV 0, VOV 100, code 1601\
-    |VUV 0, VOV 100, code -32767\
-    |after ULRR, sixteen codes 800\
-    |unsound table\
-    |unsound table, position 0\
-    |position 0\
-    |position 3 of 2\
-    |VUV 0, VOV 100, code 1600\
-    |VUV 0, VOV 100, code 1601\
-    |VUV -1, VOV 0, code -16\
-    |VUV -1, VOV 0, code -17\
-    |position 1, VUV 0, VOV 100, code 1601\
-    |position 1, VUV 0, VOV 100, code 1601 at position 2 only\
-    |VUV 2047, VOV 0, after CLRCELL\
-    |VUV 2047, VOV 0, after CLRCELL, one cell -32767\
-    |the same cell, code 1600 after 1601\
-    |VUV 0, VOV 100, code 1601, a second time\
-    |after ULRR, position 1\
-    |unsound table\
-    |unsound table, position 3, phase 15, room 15\
-    |33 monitors\
-    |position 0\
-    |position 3 of 2\
-    |position 3 of 2, phase 15, room 15\
-    |position 0, room 15\
-    |position 33 of 32\
-    |phase 15\
-    |phase 255\
-    |phase 15, room 15\
-    |room 15\
-    |room 0\
-    |duties 15, phase 14, room 16\
-    |duties 15, phase 14, room 17\
-    |position 32 of 32, duties 0, DCC of cell 1\
-    |duties 7, phase 6\
-    |duties 7, phase 7\
-    |duties 0 to 15, phase 0\
-    |duties 0 to 15, phase 7\
-    |duties 0 to 15, phase 14\
-    |a duty for cell 1 alone\
-    |a duty for cell 2 alone\
-    |a duty for cell 12 alone\
-    |a duty for cell 13 alone\
-    |a duty for cell 16 alone\
-    |DCC of cell 1 alone\
-    |DCC of cell 8 alone\
-    |DCC of cell 9 alone\
-    |DCC of cell 16 alone\
-    |DCC of all but cell 8, phase 14\
-    |DCC of all but cell 9, measurement\
-    |shutdown\
-    |WRCFGB\
-    |measurement\
-    |measurement, duties 0\
-    |WRPWM\
-    |WRPWM, duties 0\
-    |DCC of cell 1, WRPWM\
-    |DCC of cell 1, measurement\
-    |DCC of cell 1, measurement, WRPWM\
-    |DCC of cell 1, WRCFGB\
-    |DCC of cell 1, WRCFGB, measurement, WRPWM\
-    |DCC of cell 1, shutdown\
-    |DCC of cell 1, muted, position 2\
-    |the same, WRCFGB, measurement, WRPWM\
-    |the same, all four\
-    |duties 0 to 15, phase 7, DCC of cell 1\
-    |the same, after MUTE\
-    |the same, after MUTE and UNMUTE\
-    |the same, position 2\
     |",
         k,
         a,

@@ -40,7 +40,10 @@ pub(crate) const QUESTIONS: usize = LOADS + 6;
 // After this place: the outputs that each row left off, from row 1 on, and those that each put on.
 pub(crate) const OUTPUTS: usize = QUESTIONS + 1;
 
-pub(crate) const DIFFERENCES: usize = OUTPUTS + 15;
+// What came of the operations of a heartbeat, by their kind, the refused last: wakes, relays, the time that ran out, whole heartbeats.
+pub(crate) const BEATS: usize = OUTPUTS + 15;
+
+pub(crate) const DIFFERENCES: usize = BEATS + 14;
 
 pub(crate) const BOOK_SIZE: usize = DIFFERENCES + 1;
 
@@ -56,7 +59,7 @@ pub(crate) fn count(mut w: World, place: usize, more: usize) -> World {
 
 // One more that came to a number, from the place of 0 on. The last place has all the greater numbers.
 pub(crate) fn numbered(w: World, from: usize, last: usize, number: u8) -> World
-    requires { ⌜ from + last < 84 ⌝ }
+    requires { ⌜ from + last < 98 ⌝ }
 {
     let more = number as usize;
     if more < last {

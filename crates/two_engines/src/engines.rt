@@ -1,6 +1,7 @@
 // One frame through both engines, from equal tables and equal reply buffers.
 ghost use Prim.Native.Nat.{_+_, _*_, _<_, _≤_};
 ghost use Rattle.records.specs.Record.{recordSize};
+use crate::beats::now_and_then_operated;
 use crate::book::BARES;
 use crate::book::COMMANDS;
 use crate::book::FRAMES;
@@ -74,6 +75,23 @@ fn noted(world: World, n: usize, command: usize, lent: Outcome, one: Outcome) ->
     accepted(w, n, command, one[1])
 }
 
+// What came of both engines, and then the question and the operation, on what they left.
+fn followed(
+    w: World,
+    n: usize,
+    command: usize,
+    size: usize,
+    lent: Outcome,
+    one: Outcome,
+    other: Outcome,
+) -> World
+    requires { ⌜ (0 < n) × (n ≤ 32) × (size ≤ 32 * recordSize + 1) ⌝ }
+{
+    let w = asked(weighed(w, &one, &other), n, size, one, other);
+    let w = noted(w, n, command, lent, one);
+    now_and_then_operated(w, n, size, one, other)
+}
+
 pub(crate) fn both(mut w: World, n: usize, command: usize, frame: &[u8]) -> World
     requires { ⌜ (0 < n) × (n ≤ 32) ⌝ }
 {
@@ -83,6 +101,5 @@ pub(crate) fn both(mut w: World, n: usize, command: usize, frame: &[u8]) -> Worl
     let one = through(false, lent, s.size, frame, s.room);
     let other = through(true, lent, s.size, frame, s.room);
     w.luck = s.luck;
-    let w = asked(weighed(w, &one, &other), n, s.size, one, other);
-    noted(w, n, command, lent, one)
+    followed(w, n, command, s.size, lent, one, other)
 }

@@ -92,7 +92,7 @@ const MORE_CLRCMFLAG: usize = 4;
 pub(crate) const FIRST_BARE: usize = 29;
 
 // One bit turned over, from a byte on, the lowest of that byte counted as 0. No byte has a bit that was not drawn.
-fn flip(bytes: &mut [u8], from: usize, bit: usize)
+pub(crate) fn flip(bytes: &mut [u8], from: usize, bit: usize)
     requires { ⌜ from < 600 ⌝ }
 {
     let at = from + bit / 8;

@@ -1,7 +1,7 @@
 // What frames, tables and damage are drawn from: a linear congruential generator, so that tools/two-engines-model draws the same.
 ghost use Prim.Native.Nat.{_<_};
 
-pub(crate) const SEED: usize = 7064;
+pub(crate) const SEED: usize = 7113;
 
 const FACTOR: usize = 1664525;
 

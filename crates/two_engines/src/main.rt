@@ -1,7 +1,9 @@
 // Both engines on the same generated frames, for 1, 2, 3, 31 and 32 monitors: good frames of every command, frames damaged in every
-// way that has a number; stores, compares and loads between; and after each frame the question about the discharge, put to both engines'
-// tables. Printed: what became of the frames, how much differed, and digests of every table, reply and answer.
+// way that has a number; stores, compares and loads between; after each frame the question about the discharge, put to both engines' tables,
+// and now and then an operation of a heartbeat on them. Printed: what became of the frames, how much differed, and digests of every table, reply and answer.
 // What that must be is worked out by tools/two-engines-model, from the paper alone.
+mod asleep;
+mod beats;
 mod book;
 mod by_hand;
 mod digest;

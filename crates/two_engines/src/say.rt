@@ -37,6 +37,8 @@ pub(crate) fn counts(book: Book) {
         \x20 by hand: accepted #, refused 1: #, 2: #, 3: #, 4: #, 5: #, 6: #; looks #, refused #\n\
         \x20 stores #, refused #; compares #, refused #; loads #, refused #\n\
         \x20 questions #, refused #; outputs off by row 1: #, 2: #, 3: #, 4: #, 5: #, 6: #, 7: #, on by row 1: #, 2: #, 3: #, 4: #, 5: #, 6: #, 7: #\n\
+        \x20 wakes: nothing sent #, towards port A #, B #, refused #; relays: nothing sent on #, sent on #, refused #\n\
+        \x20 time out: no timeout monitor #, ran out #, refused #; heartbeats: nothing left #, left at port A #, B #, refused #\n\
         \x20 differences: #\n",
         &book,
     );
