@@ -1,218 +1,159 @@
 // The bench: the chain of two monitors, what is sent to it, and what comes back at its two ends.
-ghost use Prim.Native.Nat.{_<_};
-use crate::numbers::code_in;
-use crate::ordered::CELLS;
-use crate::ordered::values;
-use crate::parts::bytes_of;
-use crate::parts::far_of;
-use crate::parts::near_of;
+use crate::say;
+use chain::Answer;
 use host::Built;
 use ports::Port;
 
-const TABLE_SIZE: usize = 2 * records::RECORD_SIZE;
+pub(crate) const TABLE_SIZE: usize = 2 * records::RECORD_SIZE;
+
+pub(crate) type Table = [u8; TABLE_SIZE];
+
+// The codes of the cells, the near half's sixteen first. All but one lie within the thresholds of both halves. Cell 11 of the
+// far half has 7000, which is 2.55 V: too low for its own half, and well enough by the other's thresholds.
+pub(crate) const CELLS: [i16; 32] = [
+    12010,
+    12004,
+    11998,
+    12021,
+    12015,
+    11987,
+    12002,
+    12008,
+    11993,
+    12017,
+    12000,
+    12006,
+    11995,
+    12012,
+    12019,
+    12003,
+    13020,
+    13011,
+    13004,
+    13033,
+    12996,
+    13015,
+    13008,
+    13027,
+    13002,
+    13018,
+    7000,
+    13009,
+    13024,
+    12991,
+    13013,
+    13006,
+];
+
+// Configuration B of the near half, of the far half and of the near half again: twelve bits for each threshold, the lower one first. The
+// first two are what was ordered, in the order in which our host asks for them. The last two make it send what the old bench sent: the same
+// payloads in list order. Each keeps its own check, so no monitor can tell.
+const VALUES: [u8; 18] = *b"\
+    \xfa\xb0\x36\x00\x00\x00\
+    \xf4\x51\x46\x00\x00\x00\
+    \xfa\xb0\x36\x00\x00\x00";
 
 const WRCFGB: u16 = 0x0024;
 
-const RDCFGB: u16 = 0x0026;
+const READS: usize = 8;
 
-const RDSTATD: u16 = 0x0033;
+// RDCFGB, RDSTATD, and the six registers of the cells: three cells in each but the last, which has cell 16.
+const CODES: [u16; READS] = [
+    0x0026,
+    0x0033,
+    0x0004,
+    0x0006,
+    0x0008,
+    0x000a,
+    0x0009,
+    0x000b,
+];
 
-// The six registers of the cells: three cells in each but the last, which has cell 16.
-const RDCV: [u16; 6] = [0x0004, 0x0006, 0x0008, 0x000a, 0x0009, 0x000b];
+// A record has configuration A before configuration B; so do these.
+const FIRST: usize = 6;
 
-// A frame for two monitors: four bytes of command, and eight for each monitor.
-pub(crate) struct Frame {
-    pub bytes: [u8; 20],
-    pub length: usize,
+pub(crate) const SEEN_SIZE: usize = FIRST + 8 * READS;
+
+// All that is read of a half: behind the first six bytes eight for each register. Each counts 1 where it was read at port A, and 16 where
+// it was read at port B.
+pub(crate) struct Seen {
+    pub bytes: [u8; SEEN_SIZE],
+    pub ports: u64,
 }
 
-// Six bytes of one monitor, and the port whose reply they were taken from.
-pub(crate) struct Register {
-    pub six: [u8; 6],
-    pub port: Port,
-}
-
-pub(crate) struct Both {
-    pub near: Register,
-    pub far: Register,
-}
-
-// What is known of the cabinet after the thresholds were sent and the cells loaded.
-pub(crate) struct Played {
-    pub taken: usize,
-    pub loaded: bool,
-    pub configuration: Both,
-    pub status: Both,
-    pub cells: [i16; 32],
-}
-
-// Where the host refuses, the frame is empty; the chain then refuses it as too short.
-fn frame_of(code: u16, six_each: &[u8]) -> Frame {
-    let mut bytes = [0u8; 20];
-    match host::build(code, 2, six_each, &mut bytes) {
-        Built::Length(length) => Frame { bytes, length },
-        Built::Unbuilt(_) => Frame { bytes, length: 0 },
+// Our host's frame for both monitors goes to the chain, and is shown where that is asked for. How many took it?
+fn sent(table: &mut Table, code: u16, values: &[u8], reply: &mut [u8; 16], shown: bool) -> usize {
+    let mut frame = [0u8; 20];
+    let Built::Length(length) = host::build(code, 2, values, &mut frame) else {
+        return 0;
+    };
+    if length > 20 {
+        return 0;
+    }
+    if shown {
+        say::frame(frame, length);
+    }
+    match chain::handle(table, &frame[0..length], reply) {
+        Answer::Accepted { taken, .. } => taken,
+        Answer::Refused(_) => 0,
     }
 }
 
-// The frame with the ordered thresholds, as our host builds it.
-pub(crate) fn thresholds() -> Frame {
-    let all = values();
-    frame_of(WRCFGB, &all)
-}
-
-// The same payloads the other way round. Each keeps its own check, so no monitor can tell.
-pub(crate) fn in_list_order(frame: Frame) -> Frame {
-    let b = frame.bytes;
-    Frame {
-        bytes: [
-            b[0],
-            b[1],
-            b[2],
-            b[3],
-            b[12],
-            b[13],
-            b[14],
-            b[15],
-            b[16],
-            b[17],
-            b[18],
-            b[19],
-            b[4],
-            b[5],
-            b[6],
-            b[7],
-            b[8],
-            b[9],
-            b[10],
-            b[11],
-        ],
-        length: frame.length,
-    }
-}
-
-// The chain handles a frame. How many monitors took it?
-fn send(table: &mut [u8], frame: Frame, reply: &mut [u8]) -> usize {
-    let bytes = frame.bytes;
-    let answer = chain::handle(table, bytes_of(&bytes, 0, frame.length), reply);
-    let numbers = chain::numbers_of(answer);
-    numbers.taken
+// The thresholds go out, in our order (0) or in the old bench's (1). How many monitors took them?
+pub(crate) fn write(table: &mut Table, order: usize) -> usize {
+    let values = VALUES;
+    let mut no_reply = [0u8; 16];
+    let from = order % 2 * 6;
+    let to = from + 12;
+    sent(table, WRCFGB, &values[from..to], &mut no_reply, true)
 }
 
 // The codes of both halves, each to its own monitor. Did both loads go through?
-fn load(table: &mut [u8]) -> bool {
+pub(crate) fn load(table: &mut Table) -> bool {
     let cells = CELLS;
-    let near = loads::load_number(loads::load(table, 1, near_of(&cells)));
-    let far = loads::load_number(loads::load(table, 2, far_of(&cells)));
-    near == 0 && far == 0
+    let near = loads::load_number(loads::load(table, 1, &cells[0..16]));
+    let far = loads::load_number(loads::load(table, 2, &cells[16..32]));
+    (near == 0) & (far == 0)
 }
 
 // The reply as it comes at the other end: the same payloads, monitor 2 first.
 fn from_the_far_end(a: [u8; 16]) -> [u8; 16] {
-    [
-        a[8],
-        a[9],
-        a[10],
-        a[11],
-        a[12],
-        a[13],
-        a[14],
-        a[15],
-        a[0],
-        a[1],
-        a[2],
-        a[3],
-        a[4],
-        a[5],
-        a[6],
-        a[7],
-    ]
-}
-
-// One bit of monitor 2's payload turned over on the way.
-fn damaged(a: [u8; 16]) -> [u8; 16] {
-    let mut b = a;
-    b[8] = b[8] ^ 1;
+    let mut b = [0u8; 16];
+    let mut i = 0;
+    while i < 16 {
+        b[i] = a[(i + 8) % 16];
+        i += 1;
+    }
     b
 }
 
-// The data bytes of a payload. Where the host refused there are none, and the port says so.
-fn six_of(part: &[u8]) -> [u8; 6] {
-    if part.len() < 6 {
-        return [0; 6];
-    }
-    [part[0], part[1], part[2], part[3], part[4], part[5]]
-}
-
-// A monitor's bytes as the host picks them from the two replies: port A's where they are right, otherwise port B's.
-fn register_of(a: [u8; 16], b: [u8; 16], monitor: usize) -> Register {
-    Register {
-        six: six_of(ports::part_of(&a, &b, 2, monitor)),
-        port: ports::port_of(&a, &b, 2, monitor),
-    }
-}
-
-// A register of both monitors, read from both ends. What comes to port A from monitor 2 is damaged, each time.
-fn read(table: &mut [u8], code: u16) -> Both {
-    let mut reply = [0u8; 16];
-    send(table, frame_of(code, b""), &mut reply);
-    let a = damaged(reply);
+// A half's part of a register goes to its place, as the host picks it from the two replies: port A's where that is right, otherwise port
+// B's. What comes to port A from monitor 2 is damaged, each time: one bit is turned over on the way.
+fn pick(reply: [u8; 16], half: usize, seen: &mut [u8], at: usize) -> u64 {
     let b = from_the_far_end(reply);
-    Both {
-        near: register_of(a, b, 1),
-        far: register_of(a, b, 2),
+    let mut a = reply;
+    a[8] = a[8] ^ 1;
+    let monitor = half % 2 + 1;
+    bytes::put(seen, at, ports::part_of(&a, &b, 2, monitor));
+    match ports::port_of(&a, &b, 2, monitor) {
+        Port::A => 1,
+        Port::B => 16,
+        Port::Refused(_) => 0,
     }
 }
 
-// One cell of a half, both counted from 0. The last register has room for two cells more than there are: those are left out.
-fn put_cell(cells: &mut [i16], half: usize, cell: usize, code: i16) {
-    if half < 2 {
-        if cell < 16 {
-            let place = half * 16 + cell;
-            if place < cells.len() {
-                cells[place] = code;
-            }
-        }
-    }
-}
-
-// The three cells of a register.
-fn put_three(cells: &mut [i16], half: usize, first: usize, register: Register)
-    requires { ⌜ first < 16 ⌝ }
-{
-    let six = register.six;
-    put_cell(cells, half, first, code_in(six[0], six[1]));
-    put_cell(cells, half, first + 1, code_in(six[2], six[3]));
-    put_cell(cells, half, first + 2, code_in(six[4], six[5]));
-}
-
-// All the cells, the near half's sixteen first.
-fn read_cells(table: &mut [u8], cells: &mut [i16]) {
-    let reads = RDCV;
+// All the registers of a half, each read from both ends.
+pub(crate) fn look(table: &mut Table, half: usize) -> Seen {
+    let codes = CODES;
+    let mut seen = [0u8; SEEN_SIZE];
+    let mut ports = 0;
     let mut i = 0;
-    while i < 6 {
-        let both = read(table, reads[i]);
-        put_three(cells, 0, i * 3, both.near);
-        put_three(cells, 1, i * 3, both.far);
+    while i < READS {
+        let mut reply = [0u8; 16];
+        sent(table, codes[i], b"", &mut reply, false);
+        let port = pick(reply, half, &mut seen, FIRST + 8 * i);
+        ports = std::num::wrapping_add_u64(ports, port);
         i += 1;
     }
-}
-
-// A cabinet from its first day: no threshold set, no cell loaded. Then the frame, the cells, and all that can be read.
-pub(crate) fn play(frame: Frame) -> Played {
-    let mut table = [0u8; TABLE_SIZE];
-    let mut no_reply = [0u8; 16];
-    let taken = send(&mut table, frame, &mut no_reply);
-    let loaded = load(&mut table);
-    let configuration = read(&mut table, RDCFGB);
-    let status = read(&mut table, RDSTATD);
-    let mut cells = [0i16; 32];
-    read_cells(&mut table, &mut cells);
-    Played {
-        taken,
-        loaded,
-        configuration,
-        status,
-        cells,
-    }
+    Seen { bytes: seen, ports }
 }

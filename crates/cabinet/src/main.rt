@@ -4,63 +4,174 @@
 mod bench;
 mod judged;
 mod numbers;
-mod ordered;
-mod parts;
-mod report;
 mod say;
+mod words;
 
-use crate::bench::Frame;
-use crate::bench::Played;
-use crate::ordered::FAR;
-use crate::ordered::NEAR;
-use crate::ordered::limits_of;
+use crate::bench::SEEN_SIZE;
+use crate::bench::TABLE_SIZE;
+use crate::bench::Table;
+use crate::judged::LIMITS;
+use crate::judged::sums_of;
+use crate::numbers::microvolts_of;
+use crate::say::words;
+use crate::words::AT;
+use crate::words::CABINET;
+use crate::words::FLAG;
+use crate::words::FLAGS;
+use crate::words::HALF;
+use crate::words::HIGHEST;
+use crate::words::HOLDS;
+use crate::words::LOADED;
+use crate::words::LOWEST;
+use crate::words::LOWEST_CELL;
+use crate::words::NONE;
+use crate::words::OLD_READING;
+use crate::words::ORDERED;
+use crate::words::OVER;
+use crate::words::PACK;
+use crate::words::PASSED;
+use crate::words::PORT;
+use crate::words::SENT;
+use crate::words::TAKEN;
+use crate::words::TOOK;
+use crate::words::TOTAL;
+use crate::words::UNSEEN;
+use crate::words::VERDICT;
+use crate::words::WHOSE;
+use crate::words::WRONG;
 
-fn order() {
-    say::text(
-        b"A backup-battery cabinet: two halves of 16 cells, one monitor each, on one chain.\n",
-    );
-    report::limits(b"ordered for the near half: ", limits_of(NEAR));
-    report::limits(b"\nordered for the far half:  ", limits_of(FAR));
-    say::text(b"\n\n");
+// What is expected of the near half and of the far half, by our host and then by the old bench. In hexadecimal: two digits for the ports (8
+// registers read at port A, or at port B), one for whose thresholds it holds, three for how many cells have a flag up, and two for how many
+// have other flags than the half's own thresholds ask for. In list order no flag is up, and one cell of the far half should have one.
+const EXPECTED: [u64; 4] = [0x08_1_000_00, 0x80_1_001_00, 0x08_2_000_00, 0x80_2_000_01];
+
+// Thresholds, in the words of a number.
+fn limits(k: u64, under: u64, over: u64) {
+    words(k, under);
+    words(OVER, over);
 }
 
-fn our_host(frame: Frame, p: Played) {
-    say::text(b"Our host sends the far monitor's payload first, as the chain wants it.\n");
-    report::sent(frame, p);
-    report::halves(p);
-    report::pack(p);
+// The thresholds that a monitor holds, in the words of a number, and whose they are.
+fn holds(k: u64, seen: [u8; SEEN_SIZE], half: usize) -> u64 {
+    let under = microvolts_of(thresholds::codes_of(thresholds::under_threshold(&seen)));
+    let over = microvolts_of(thresholds::codes_of(thresholds::over_threshold(&seen)));
+    limits(k, under, over);
+    let whose = judged::whose(half, under, over);
+    words(WHOSE + whose % 3, 0);
+    whose
 }
 
-fn old_bench(frame: Frame, p: Played) {
-    say::text(
-        b"\nThe old bench sent the same two payloads in list order, the near monitor's first.\n",
-    );
-    report::sent(frame, p);
-    report::halves(p);
-    if judged::unseen(p) {
-        say::text(b"no flag is up in either half: the low cell of the far half goes unseen\n");
+// A cell's flags, if any is up, by the cell's number from 1, as a repair shop counts. 100 (hex) counts one that is up, 1 a cell with wrong ones.
+fn flag(seen: [u8; SEEN_SIZE], half: usize, cell: usize) -> u64 {
+    let up = judged::flags_at(seen, cell);
+    words(FLAG + up % 4, (cell % 16 + 1) as u64);
+    let due = judged::due(seen, half, cell);
+    ((up != 0) as u64) << 8 | (up != due) as u64
+}
+
+fn flags(seen: [u8; SEEN_SIZE], half: usize) -> u64 {
+    words(FLAGS, 0);
+    let mut found = 0;
+    let mut cell = 0;
+    while cell < 16 {
+        let one = flag(seen, half, cell);
+        found = std::num::wrapping_add_u64(found, one);
+        cell += 1;
     }
-    say::text(b"The old bench read the replies in list order too:\n");
-    report::old_reading(p);
+    if found < 256 {
+        words(NONE, 0);
+    }
+    words(WRONG, found % 256);
+    found
 }
 
-fn verdict(ours: Played, old: Played) {
-    if judged::all_right(ours, old) {
-        say::text(
-            b"\nAll as it should be: each half has its own thresholds and the low cell is flagged; in list order it is not.\n",
-        );
+// At which port was a half read: 0 is A, 1 is B, 2 is neither or both?
+fn port(ports: u64) -> u64 {
+    if ports == 8 {
+        0
+    } else if ports == 128 {
+        1
     } else {
-        say::text(b"\nNOT as it should be: see above.\n");
+        2
     }
+}
+
+// All that is read of a half, in words, and its codes. What comes back is as in what is expected.
+fn half(table: &mut Table, half: usize, cells: &mut [i16; 32]) -> u64 {
+    let seen = bench::look(table, half);
+    let bytes = seen.bytes;
+    words(HALF + (half % 2) as u64, 0);
+    words(PORT + port(seen.ports) % 3, 0);
+    let whose = holds(HOLDS, bytes, half);
+    judged::put_codes(cells, bytes, half);
+    let from = half % 2 * 16;
+    let to = from + 16;
+    let all = &cells[..];
+    let sums = sums_of(&all[from..to]);
+    words(LOWEST_CELL, (sums.cell % 16 + 1) as u64);
+    words(AT, sums.lowest);
+    let found = flags(bytes, half);
+    seen.ports << 24 | whose << 20 | found
+}
+
+// The whole pack, in words where that is asked for. Is it what was loaded, by the host's own summary too?
+fn pack(cells: [i16; 32], shown: bool) -> bool {
+    let sums = sums_of(&cells);
+    let count = judged::cells_in_summary(&cells, sums);
+    if shown {
+        words(PACK, count as u64);
+        words(LOWEST, sums.lowest);
+        words(HIGHEST, sums.highest);
+        words(TOTAL, sums.total);
+    }
+    (count == 32) & judged::as_loaded(sums)
+}
+
+// The old bench took the replies in list order too, counted from the wrong end: the far monitor's for the near half's. It
+// passed a board on which it saw the thresholds that were ordered. Did it pass this one?
+fn old_reading(table: &mut Table) -> bool {
+    words(OLD_READING, 0);
+    let far = bench::look(table, 1).bytes;
+    let near = bench::look(table, 0).bytes;
+    let one = holds(TOOK, far, 0);
+    let other = holds(TOOK + 1, near, 1);
+    let passed = (one == 1) & (other == 1);
+    words(PASSED + passed as u64 % 2, 0);
+    passed
+}
+
+// A cabinet from its first day: no threshold set, no cell loaded. Then the frame, in our order (0) or in the old bench's (1), the cells, and
+// all that can be read. Is it as expected?
+fn played(order: usize) -> bool {
+    let expected = EXPECTED;
+    let mut table = [0u8; TABLE_SIZE];
+    let mut cells = [0i16; 32];
+    words(SENT + (order % 2) as u64, 0);
+    let taken = bench::write(&mut table, order);
+    words(TAKEN, taken as u64);
+    let loaded = bench::load(&mut table);
+    words(LOADED + loaded as u64 % 2, 0);
+    let near = half(&mut table, 0, &mut cells);
+    let far = half(&mut table, 1, &mut cells);
+    let at = order % 2 * 2;
+    let so = (near == expected[at]) & (far == expected[at + 1]);
+    let whole = pack(cells, order == 0);
+    let right = (taken == 2) & loaded & so & whole;
+    if order == 0 {
+        return right;
+    }
+    if so {
+        words(UNSEEN, 0);
+    }
+    right & old_reading(&mut table)
 }
 
 fn main() {
-    let frame = bench::thresholds();
-    let reversed = bench::in_list_order(frame);
-    let ours = bench::play(frame);
-    let old = bench::play(reversed);
-    order();
-    our_host(frame, ours);
-    old_bench(reversed, old);
-    verdict(ours, old);
+    let ordered = LIMITS;
+    words(CABINET, 0);
+    limits(ORDERED, ordered[0], ordered[1]);
+    limits(ORDERED + 1, ordered[2], ordered[3]);
+    let ours = played(0);
+    let old = played(1);
+    words(VERDICT + (ours & old) as u64 % 2, 0);
 }

@@ -19,19 +19,14 @@ fn at_least_0(microvolts: i64) -> u64 {
     if microvolts < 0 { 0 } else { microvolts as u64 }
 }
 
-pub(crate) fn microvolts_of(code: ResultCode) -> u32 {
-    let microvolts = at_least_0(readings::microvolts_of(code));
-    if microvolts < 4294967296 {
-        microvolts as u32
-    } else {
-        u32::MAX
-    }
+pub(crate) fn microvolts_of(code: ResultCode) -> u64 {
+    at_least_0(readings::microvolts_of(code))
 }
 
 fn result_code(code: i16) -> ResultCode {
     ResultCode(code as i32)
 }
 
-pub(crate) fn cell_microvolts(code: i16) -> u32 {
+pub(crate) fn cell_microvolts(code: i16) -> u64 {
     microvolts_of(result_code(code))
 }
