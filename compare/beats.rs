@@ -1,22 +1,22 @@
 //! The four operations of the heartbeat (L8), the same call to the library and to the model, and everything compared after it.
 
-use crate::both::{at_position, reply_buffer, Answered, Written};
+use crate::both::at_position;
 use crate::difference::{listed, refused, Faults};
 use crate::lent::{Both, Lent};
-use crate::run::Run;
+use crate::run::{Answered, Run, Written};
 use crate::surface::{self, Function};
 use crate::turns;
 
 /// The buffer for the message has `room` bytes.
 pub fn wake(run: &mut Run, table: &mut Both<u8>, position: usize, room: usize) -> Written {
-    let out = reply_buffer(run, room);
+    let out = Both::any(&mut run.random, room);
     let calls = (surface::wake as Sends, model::wake as Sends);
     sends(run, Function::Wake, calls, table, position, out)
 }
 
 /// As for a wake.
 pub fn heartbeat(run: &mut Run, table: &mut Both<u8>, position: usize, room: usize) -> Written {
-    let out = reply_buffer(run, room);
+    let out = Both::any(&mut run.random, room);
     let calls = (surface::heartbeat as Sends, model::heartbeat as Sends);
     sends(run, Function::Heartbeat, calls, table, position, out)
 }
@@ -35,7 +35,7 @@ fn sends(run: &mut Run, function: Function, calls: (Sends, Sends), table: &mut B
 
 /// A message of any length; the buffer as for a wake.
 pub fn relay(run: &mut Run, table: &mut Both<u8>, position: usize, message: &[u8], room: usize) -> Written {
-    let mut out = reply_buffer(run, room);
+    let mut out = Both::any(&mut run.random, room);
     let lent = Lent::new(&mut run.random, message);
     table.lend();
     run.begin();

@@ -1,14 +1,15 @@
 //! One chain twice: a table that is lent with whole frames, and one whose frames are clocked. The two must stay the same.
 
 use crate::beats::{heartbeat, relay, time_out, wake};
-use crate::both::{built, compare, discharge, frame_into, load, reply_buffer, store, Written};
+use crate::both::{compare, discharge, frame_into, load, store};
 use crate::clocks::Clocks;
 use crate::difference::{listed, refused, Difference, Faults};
+use crate::host::built;
 use crate::inputs::{self, Shape, RECORD};
 use crate::lent::{Both, Lent};
 use crate::messages::LENGTH;
 use crate::outputs::{Question, OUTPUTS};
-use crate::run::{expect, Done, Run};
+use crate::run::{expect, Done, Run, Written};
 use crate::surface::Function;
 
 pub struct Chain {
@@ -156,7 +157,7 @@ impl Chain {
 
     /// The answer and, where it is an accepted read's, the reply.
     pub fn frame(&mut self, run: &mut Run, frame: &[u8]) -> Written {
-        let mut reply = reply_buffer(run, 8 * self.monitors);
+        let mut reply = Both::any(&mut run.random, 8 * self.monitors);
         let answer = frame_into(run, &mut self.whole, frame, &mut reply)?;
 
         let table = self.clocked.contents().to_vec();

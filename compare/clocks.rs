@@ -1,12 +1,11 @@
 //! One clock of the library and one of the model, driven together. After every byte the windows of all positions are compared, but where
 //! nobody watches them.
 
-use crate::both::Answered;
 use crate::difference::{listed, refused, Difference, Faults};
 use crate::effects;
 use crate::inputs::{at, first_code, CLRCMFLAG, RECORD};
 use crate::lent::{Both, Lent};
-use crate::run::{Done, Run};
+use crate::run::{Answered, Done, Run};
 use crate::surface::{self, Function, CLOCK_STATE};
 use crate::tally::{Engine, Situation};
 

@@ -102,7 +102,7 @@ pub struct Difference {
 
 impl Display for Difference {
     fn fmt(&self, to: &mut Formatter) -> fmt::Result {
-        writeln!(to, "compare: a difference in {} (kind \"{}\", seed {:#x}, case {})", self.function, self.kind, self.seed, self.case)?;
+        writeln!(to, "a difference in {} (kind \"{}\", seed {:#x}, case {})", self.function, self.kind, self.seed, self.case)?;
         writeln!(to, "  lent:")?;
         for (name, text) in &self.inputs {
             writeln!(to, "    {name}: {text}")?;

@@ -108,3 +108,11 @@ impl<T: Item> Both<T> {
         self.library.part()
     }
 }
+
+impl Both<u8> {
+    /// So many bytes to be written, with any bytes in them.
+    pub fn any(random: &mut Random, length: usize) -> Both<u8> {
+        let filled = random.bytes(length);
+        Both::new(random, &filled)
+    }
+}

@@ -17,6 +17,12 @@ pub struct Run {
 }
 
 pub type Done = Result<(), Box<Difference>>;
+pub type Answered = Result<u32, Box<Difference>>;
+/// With the bytes of the buffer that the call was lent to write in.
+pub type Written = Result<(u32, Vec<u8>), Box<Difference>>;
+
+/// A kind of case, with its name in the tallies.
+pub type Kind = (&'static str, fn(&mut Run) -> Done);
 
 impl Run {
     pub fn new(seed: u64) -> Run {
@@ -35,7 +41,7 @@ impl Run {
         answer: u32,
         mut faults: Faults,
         inputs: impl FnOnce() -> Vec<(&'static str, String)>,
-    ) -> Result<u32, Box<Difference>> {
+    ) -> Answered {
         let number = (answer & 0xFF) as usize;
         if refused(answer) && !function.refusals().contains(&number) {
             faults.add(format!("answer: {} has no refusal {number}", function.name()));

@@ -1,14 +1,15 @@
 //! A frame as our host sent it, and what must come of it once a spike has struck it: said in L7's own words, and for a chain with monitors
 //! in LPCM in L8's, beside the comparison.
 
-use crate::both::{built, frame, Written};
+use crate::both::frame;
 use crate::chain::Chain;
 use crate::difference::Difference;
+use crate::host::built;
 use crate::inputs::{
     self, at, data_of, differ, first_code, first_of, frame_length, head, in_lpcm, own_bytes, shape, values_owed, Shape, RECORD, WRRR,
 };
 use crate::lent::Both;
-use crate::run::{expect, Done, Run};
+use crate::run::{expect, Done, Run, Written};
 use crate::spike::Spike;
 use crate::struck::Struck;
 use crate::surface::Function;

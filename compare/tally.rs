@@ -132,6 +132,34 @@ situations! { Effect:
     SixteenWriteForRead: "sixteen places make a write of a read, which is accepted",
 }
 
+// What a question to the host was, whatever the chain: its answer alone does not show it.
+situations! { OfHost:
+    SixForTwo: "CLRCMFLAG with six values for each monitor refused by the host with 8",
+    TwoForSix: "another write with two values for each monitor refused by the host with 8",
+    Cmhb: "CMHB refused by the host with 4",
+    PayloadRight: "a payload is right",
+    PayloadDamaged: "a payload is damaged",
+    PortA: "port A is chosen",
+    PortB: "port B is chosen",
+    Passed: "a heartbeat passed with counter bits 0",
+    PassedWithCounter: "a heartbeat passed with other counter bits",
+    FailedByCount: "a heartbeat failed by its count alone",
+    FailedByFlags: "a heartbeat failed by its flags alone",
+    FailedByBoth: "a heartbeat failed by its count and its flags",
+    DamagedInCommand: "a heartbeat damaged in its command alone",
+    DamagedInData: "a heartbeat damaged behind its command alone",
+    DamagedInBoth: "a heartbeat damaged in its command and behind it",
+    NothingCame: "a heartbeat timed out, and nothing came",
+    LateRight: "a heartbeat timed out, and a right message came",
+    LateDamaged: "a heartbeat timed out, and a damaged message came",
+    LateByEven: "a heartbeat timed out by an even number",
+    VerdictOfNothing: "a verdict on nothing refused with 5 in time",
+    LengthInTime: "a verdict on another length refused with 5 in time",
+    LengthLate: "a verdict on another length refused with 5 late",
+    Summary: "a summary",
+    SummaryOfNone: "a summary of none",
+}
+
 // Other situations that the answers alone do not show.
 situations! { Situation:
     StoreFlagsNothing: "a store of a code past a threshold, where no flag stands",
@@ -182,27 +210,6 @@ situations! { Situation:
     AnswerByWrpwma: "a question is answered otherwise after WRPWMA",
     AnswerByWrpwmb: "a question is answered otherwise after WRPWMB",
     AnswerByWrcfgb: "a question is answered otherwise after WRCFGB",
-    PayloadRight: "a payload is right",
-    PayloadDamaged: "a payload is damaged",
-    PortA: "port A is chosen",
-    PortB: "port B is chosen",
-    Passed: "a heartbeat passed with counter bits 0",
-    PassedWithCounter: "a heartbeat passed with other counter bits",
-    FailedByCount: "a heartbeat failed by its count alone",
-    FailedByFlags: "a heartbeat failed by its flags alone",
-    FailedByBoth: "a heartbeat failed by its count and its flags",
-    DamagedInCommand: "a heartbeat damaged in its command alone",
-    DamagedInData: "a heartbeat damaged behind its command alone",
-    DamagedInBoth: "a heartbeat damaged in its command and behind it",
-    NothingCame: "a heartbeat timed out, and nothing came",
-    LateRight: "a heartbeat timed out, and a right message came",
-    LateDamaged: "a heartbeat timed out, and a damaged message came",
-    LateByEven: "a heartbeat timed out by an even number",
-    VerdictOfNothing: "a verdict on nothing refused with 5 in time",
-    LengthInTime: "a verdict on another length refused with 5 in time",
-    LengthLate: "a verdict on another length refused with 5 late",
-    Summary: "a summary",
-    SummaryOfNone: "a summary of none",
     WindowPartlyFull: "a window of eight bytes holds 1 to 7",
     ShortWindowPartlyFull: "a window of a CLRCMFLAG holds 1 to 3 bytes",
     ShortWindowFull: "a window of a CLRCMFLAG holds four bytes, though more have come",
@@ -222,9 +229,6 @@ situations! { Situation:
     FlagsSetInSnapshot: "RDSTATD shows flags that a compare set after SNAP",
     FlagsClearedInSnapshot: "RDSTATD shows flags as CLOVUV cleared them after SNAP",
     StatusCClearedInSnapshot: "RDSTATC shows flags as CLRFLAG cleared them after SNAP",
-    HostSixForTwo: "CLRCMFLAG with six values for each monitor refused by the host with 8",
-    HostTwoForSix: "another write with two values for each monitor refused by the host with 8",
-    HostCmhb: "CMHB refused by the host with 4",
     SettingsShown: "settings of LPCM written by the host, and a read shows other ones than stood",
     SettingsKept: "settings of LPCM written by the host in LPCM, and a read shows what stood",
     FlagsShown: "CLRCMFLAG by the host, and RDCMFLAG shows fewer flags",
@@ -430,6 +434,7 @@ pub struct Tally {
     kinds: Vec<(&'static str, [Answers; Function::ALL.len()])>,
     frames: [Frames; 2],
     host: BTreeMap<(usize, usize), u64>,
+    of_host: BTreeMap<OfHost, u64>,
     operations: BTreeMap<(usize, OfOperation), u64>,
     situations: BTreeMap<Situation, u64>,
     kind: usize,
@@ -486,6 +491,12 @@ impl Tally {
         }
     }
 
+    pub fn of_host_if(&mut self, what: OfHost, came_up: bool) {
+        if came_up {
+            *self.of_host.entry(what).or_default() += 1;
+        }
+    }
+
     pub fn of_operation_if(&mut self, function: Function, what: OfOperation, came_up: bool) {
         if came_up {
             *self.operations.entry((function as usize, what)).or_default() += 1;
@@ -522,20 +533,30 @@ impl Tally {
         }
     }
 
-    /// What came up too seldom for the run to say anything about it.
-    pub fn too_seldom(&self) -> Vec<String> {
+    /// What came up too seldom for the run to say anything about a library with these functions.
+    pub fn too_seldom(&self, functions: &[Function]) -> Vec<String> {
         let mut seldom = Vec::new();
         let mut want = |count: u64, what: String| {
             if count < AT_LEAST {
                 seldom.push(format!("{what}: {count} times, not {AT_LEAST}"));
             }
         };
-        for function in Function::ALL {
+        for &function in functions {
             let answers = self.answers_of(function);
             want(answers[0], format!("{} accepted", function.name()));
             for &number in function.refusals() {
                 want(answers[number], format!("{} refused with {number}", function.name()));
             }
+        }
+        for ((place, (code, name)), number) in LISTED.iter().enumerate().flat_map(|listed| HOST_ANSWERS.map(|number| (listed, number))) {
+            want(self.host.get(&(place, number)).copied().unwrap_or(0), format!("{name} ({code:04X}) answered by the host with {number}"));
+        }
+        for (what, words) in OfHost::ALL {
+            want(self.of_host.get(what).copied().unwrap_or(0), words.to_string());
+        }
+        // The rest is of the chain.
+        if !functions.contains(&Function::Frame) {
+            return seldom;
         }
         for (frames, how) in self.frames.iter().zip([WHOLE, "at a release"]) {
             for (place, (code, name)) in LISTED.iter().enumerate() {
@@ -551,9 +572,6 @@ impl Tally {
             for (effect, name) in Effect::ALL {
                 want(frames.effects.get(effect).copied().unwrap_or(0), format!("{name}, {how}"));
             }
-        }
-        for ((place, (code, name)), number) in LISTED.iter().enumerate().flat_map(|listed| HOST_ANSWERS.map(|number| (listed, number))) {
-            want(self.host.get(&(place, number)).copied().unwrap_or(0), format!("{name} ({code:04X}) answered by the host with {number}"));
         }
         for (what, words) in OfOperation::ALL {
             for function in OfOperation::OPERATIONS.into_iter().filter(|function| what.concerns(*function)) {

@@ -1,7 +1,8 @@
 //! Whole frames, each on a table of its own; each refusal of each command by both engines.
 
-use crate::both::{built, frame};
+use crate::both::frame;
 use crate::chain::Chain;
+use crate::host::built;
 use crate::inputs::{self, head, Shape, LISTED, MOST};
 use crate::lent::Both;
 use crate::run::{expect, Done, Run};

@@ -2,8 +2,8 @@
 
 use crate::asleep::{self, at_position, on_the_way, set_role, violate_any, Role, NDEV, PORTS, PORT_A, PORT_B};
 use crate::beats::{heartbeat, relay, wake};
-use crate::both::verdict;
 use crate::difference::{listed, Difference, Faults};
+use crate::host::verdict;
 use crate::inputs::{self, CMF1, MOST, RECORD};
 use crate::lent::Both;
 use crate::messages::{sealed, LENGTH, PASS_COUNT};

@@ -1,15 +1,15 @@
 //! Low power cell monitoring (L8): its settings and flags as the host writes and reads them, what CMEN and CMDIS leave, and that from the one
 //! to the other a monitor takes no write. By both engines.
 
-use crate::both::{built, Written};
 use crate::chain::Chain;
 use crate::difference::Difference;
 use crate::events::{any_frame, clrcell, heartbeat, load, relay, store};
+use crate::host::built;
 use crate::inputs::{
     self, at, data_of, head, in_lpcm, own_bytes, part_shown, payload, values_owed, writes, CELLS, CELL_READS, CLRCMFLAG, CMDIS, CMEN, CMF0,
     CMF1, CMHB, COPY, LAST, MOST, RDCMCELLT, RDCMCFG, RDCMFLAG, RDCMGPIOT, RECORD, SNAP, UNSNAP, WRCMCELLT, WRCMCFG, WRCMGPIOT, WRRR,
 };
-use crate::run::{expect, Done, Run};
+use crate::run::{expect, Done, Run, Written};
 use crate::surface::Function;
 use crate::tally::Situation;
 

@@ -4,40 +4,34 @@ mod clocked;
 mod discharge;
 mod frames;
 mod heartbeats;
-mod host_frames;
+pub mod host;
 mod loads;
 mod long_runs;
 mod lpcm;
 mod measurements;
 mod never_started;
 mod nights;
-mod payloads;
-mod readings;
 mod relays;
 mod retention;
 mod snapshots;
 mod spikes;
 mod stores;
 mod tables;
-mod verdicts;
 
-use crate::run::{Done, Run};
+use crate::run::Kind;
 use crate::tally::NEVER_STARTED;
 
-pub const KINDS: [(&str, fn(&mut Run) -> Done); 20] = [
+/// All but the host's.
+pub const KINDS: [Kind; 16] = [
     ("frames", frames::cases),
     ("tables", tables::cases),
     ("stores", stores::cases),
     ("loads", loads::cases),
     ("discharge", discharge::cases),
-    ("host frames", host_frames::cases),
-    ("payloads", payloads::cases),
-    ("readings", readings::cases),
     ("clocked", clocked::cases),
     ("retention", retention::cases),
     ("snapshots", snapshots::cases),
     ("LPCM", lpcm::cases),
-    ("verdicts", verdicts::cases),
     ("measurements", measurements::cases),
     ("relays", relays::cases),
     ("heartbeats", heartbeats::cases),

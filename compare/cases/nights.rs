@@ -2,10 +2,10 @@
 //! both engines.
 
 use crate::asleep::{self, at_position, set_role, Role, PORT_A, PORT_B};
-use crate::both::verdict;
 use crate::chain::Chain;
 use crate::difference::Difference;
 use crate::events::{any_frame, clrcell, compare, heartbeat, load, relay, store, time_out, wake, Event};
+use crate::host::verdict;
 use crate::inputs::{head, CLRCMFLAG, CMDIS, CMEN, CMF0, MOST, RDCMFLAG, WRCMCELLT, WRCMCFG};
 use crate::messages::{sealed, PASS_COUNT};
 use crate::run::{expect, Done, Run};

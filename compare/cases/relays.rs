@@ -2,13 +2,13 @@
 
 use crate::asleep::{self, at_position, violate_any, Role, BTM, DIRECTION, MAN, NDEV, PORTS, PORT_A, PORT_B, ROLE};
 use crate::beats::{heartbeat, relay, time_out, wake};
-use crate::both::{verdict, Written};
 use crate::difference::Difference;
+use crate::host::verdict;
 use crate::inputs::{self, damage, first_of, CMF0, CMF1, CMHB, MOST, RECORD};
 use crate::lent::Both;
 use crate::messages::{count_and_flags, message, sealed, with_any_counter, LENGTH, PASS_COUNT};
 use crate::random::Random;
-use crate::run::{expect, Done, Run};
+use crate::run::{expect, Done, Run, Written};
 use crate::spike::Spike;
 use crate::surface::Function;
 

@@ -1,6 +1,6 @@
 //! Frames that the host builds.
 
-use crate::both::host_frame;
+use crate::host::host_frame;
 use crate::inputs::{self, frame_length, values_owed, CMHB, LISTED, MOST};
 use crate::run::{Done, Run};
 

@@ -1,45 +1,29 @@
-//! Compares the library (target/c/liboskorbine.a) with a second implementation of the papers, the crate `model`: every function of
-//! include/oskorbine.h, after each call the answer and every byte of every buffer. Usage: compare [SEED [ROUNDS]]
+//! What the two programs share: a library is compared with the model, and the run fails where they differ or too little was tried.
+//! Usage of each: [SEED [ROUNDS]]
 
-mod asleep;
-mod beats;
-mod both;
-mod cases;
-mod cells;
-mod chain;
-mod clocks;
-mod copies;
-mod difference;
-mod effects;
-mod events;
-mod inputs;
-mod lent;
-mod lpcm;
-mod measured;
-mod messages;
-mod outputs;
-mod random;
-mod run;
-mod sent;
-mod spike;
-mod struck;
-mod surface;
-mod tally;
-mod turns;
-
-use run::{Run, CALLS};
+use crate::inputs::RECORD;
+use crate::run::{Kind, Run, CALLS};
+use crate::surface::{Function, CLOCK_STATE};
 use std::process::ExitCode;
 use std::sync::atomic::Ordering;
 
 const SEED: u64 = 0x0534_B012;
 const ROUNDS: u64 = 2;
 const MOST_ROUNDS: u64 = 100_000;
-/// Fewer calls than this are no comparison.
-const LEAST_CALLS: u64 = 10_000_000;
 
 const HEADER: &str = include_str!("../include/oskorbine.h");
 
-fn main() -> ExitCode {
+/// What a program is linked with, and what it must try of it.
+pub struct Library {
+    pub name: &'static str,
+    pub functions: &'static [Function],
+    pub kinds: &'static [&'static [Kind]],
+    /// Fewer calls than this are no comparison.
+    pub least_calls: u64,
+}
+
+pub fn compare(library: Library) -> ExitCode {
+    let Library { name, functions, kinds, least_calls } = library;
     let Some((seed, rounds)) = arguments(std::env::args().skip(1).collect()) else {
         eprintln!("usage: compare [SEED [ROUNDS]]   SEED: 64 bits, decimal or 0x and hex; ROUNDS: 1 to {MOST_ROUNDS}");
         return ExitCode::from(2);
@@ -52,30 +36,30 @@ fn main() -> ExitCode {
     let panics = std::panic::take_hook();
     std::panic::set_hook(Box::new(move |panic| {
         panics(panic);
-        eprintln!("compare: stopped (seed {seed:#x}, case {})", CALLS.load(Ordering::Relaxed));
+        eprintln!("compare: {name}: stopped (seed {seed:#x}, case {})", CALLS.load(Ordering::Relaxed));
     }));
 
     let mut run = Run::new(seed);
     for _ in 0..rounds {
-        for (kind, cases) in cases::KINDS {
+        for (kind, cases) in kinds.iter().copied().flatten() {
             run.tally.begin(kind);
             if let Err(difference) = cases(&mut run) {
-                eprint!("{difference}");
+                eprint!("compare: {name}: {difference}");
                 return ExitCode::FAILURE;
             }
         }
     }
     run.tally.print();
     let calls = CALLS.load(Ordering::Relaxed);
-    let mut seldom = run.tally.too_seldom();
-    if calls < LEAST_CALLS {
-        seldom.push(format!("calls: {calls}, not {LEAST_CALLS}"));
+    let mut seldom = run.tally.too_seldom(functions);
+    if calls < least_calls {
+        seldom.push(format!("calls: {calls}, not {least_calls}"));
     }
     if !seldom.is_empty() {
-        eprintln!("compare: tried too little (seed {seed:#x}):\n  {}", seldom.join("\n  "));
+        eprintln!("compare: {name}: tried too little (seed {seed:#x}):\n  {}", seldom.join("\n  "));
         return ExitCode::FAILURE;
     }
-    println!("compare: {calls} calls, 0 differences (seed {seed:#x})");
+    println!("compare: {name}: {calls} calls, 0 differences (seed {seed:#x})");
     ExitCode::SUCCESS
 }
 
@@ -105,18 +89,18 @@ fn number(text: &str) -> Option<u64> {
     }
 }
 
-/// The header declares exactly the functions that are compared here, and defines its numbers as they are written here.
+/// The header, one for both libraries, declares exactly the functions of surface.rs, and defines its numbers as they are written here.
 fn header_is_as_declared() -> Result<(), String> {
     let declared: Vec<&str> =
         HEADER.lines().filter(|line| line.ends_with(");")).filter_map(|line| line.split('(').next()?.split(' ').next_back()).collect();
-    let compared = surface::Function::ALL.map(|function| function.name());
-    if declared != compared {
-        return Err(format!("include/oskorbine.h declares {declared:?}, and this program compares {compared:?}"));
+    let known = Function::ALL.map(|function| function.name());
+    if declared != known {
+        return Err(format!("include/oskorbine.h declares {declared:?}, and compare/surface.rs {known:?}"));
     }
     let defined = [
-        format!("#define OSK_RECORD_SIZE {}", inputs::RECORD),
+        format!("#define OSK_RECORD_SIZE {RECORD}"),
         format!("#define OSK_OUTPUT_ON {:#x}", model::OUTPUT_ON),
-        format!("#define OSK_CLOCK_STATE {}", surface::CLOCK_STATE),
+        format!("#define OSK_CLOCK_STATE {CLOCK_STATE}"),
     ];
     match defined.iter().find(|&wanted| HEADER.lines().all(|line| line != wanted)) {
         Some(missing) => Err(format!("include/oskorbine.h has no line '{missing}'")),

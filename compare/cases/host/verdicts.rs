@@ -1,6 +1,6 @@
 //! The host's verdict on a heartbeat (L8): right messages, struck ones and any bytes, of all lengths, late or not.
 
-use crate::both::verdict;
+use crate::host::verdict;
 use crate::inputs::{damage, CMHB};
 use crate::messages::{count_and_flags, message, with_any_counter};
 use crate::random::Random;

@@ -1,6 +1,6 @@
 //! The check of one payload, and the choice between two ports' replies.
 
-use crate::both::{check, two_ports};
+use crate::host::{check, two_ports};
 use crate::inputs::{self, damage, MOST, REPLY};
 use crate::random::Random;
 use crate::run::{Done, Run};

@@ -1,6 +1,6 @@
 //! Readings: all codes, and summaries.
 
-use crate::both::{microvolts, summary, volts};
+use crate::host::{microvolts, summary, volts};
 use crate::run::{Done, Run};
 
 const CLEARED: i16 = -32768;
