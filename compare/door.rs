@@ -36,6 +36,6 @@ fn main() -> ExitCode {
             Function::Summary,
         ],
         kinds: &[&cases::host::KINDS],
-        least_calls: 1_800_000,
+        least_calls: 900_000,
     })
 }

@@ -18,7 +18,7 @@ pub struct Library {
     pub name: &'static str,
     pub functions: &'static [Function],
     pub kinds: &'static [&'static [Kind]],
-    /// Fewer calls than this are no comparison.
+    /// Fewer calls than this in a round are no comparison.
     pub least_calls: u64,
 }
 
@@ -52,6 +52,7 @@ pub fn compare(library: Library) -> ExitCode {
     run.tally.print();
     let calls = CALLS.load(Ordering::Relaxed);
     let mut seldom = run.tally.too_seldom(functions);
+    let least_calls = rounds * least_calls;
     if calls < least_calls {
         seldom.push(format!("calls: {calls}, not {least_calls}"));
     }
