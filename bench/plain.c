@@ -1,92 +1,11 @@
-/* Document 01, L2, L3, L6 and of L8 the settings and the enabling, in plain C99. See plain.h. */
+/* Document 01, L2, L3, L6 and of L8 the settings and the enabling, in plain C99: the chain and the clocked engine. The host is plain_door.c.
+ * See plain.h.
+ */
 #include "plain.h"
 
-#include <stdbool.h>
-#include <string.h>
+#include "plain_commands.h"
 
-/* The remainder of each byte value, after which come as many zero bits as the word is wide. */
-static const uint16_t command_table[256] = {
-    0x0000, 0x4599, 0x4eab, 0x0b32, 0x58cf, 0x1d56, 0x1664, 0x53fd, 0x7407, 0x319e, 0x3aac, 0x7f35, 0x2cc8, 0x6951, 0x6263, 0x27fa,
-    0x2d97, 0x680e, 0x633c, 0x26a5, 0x7558, 0x30c1, 0x3bf3, 0x7e6a, 0x5990, 0x1c09, 0x173b, 0x52a2, 0x015f, 0x44c6, 0x4ff4, 0x0a6d,
-    0x5b2e, 0x1eb7, 0x1585, 0x501c, 0x03e1, 0x4678, 0x4d4a, 0x08d3, 0x2f29, 0x6ab0, 0x6182, 0x241b, 0x77e6, 0x327f, 0x394d, 0x7cd4,
-    0x76b9, 0x3320, 0x3812, 0x7d8b, 0x2e76, 0x6bef, 0x60dd, 0x2544, 0x02be, 0x4727, 0x4c15, 0x098c, 0x5a71, 0x1fe8, 0x14da, 0x5143,
-    0x73c5, 0x365c, 0x3d6e, 0x78f7, 0x2b0a, 0x6e93, 0x65a1, 0x2038, 0x07c2, 0x425b, 0x4969, 0x0cf0, 0x5f0d, 0x1a94, 0x11a6, 0x543f,
-    0x5e52, 0x1bcb, 0x10f9, 0x5560, 0x069d, 0x4304, 0x4836, 0x0daf, 0x2a55, 0x6fcc, 0x64fe, 0x2167, 0x729a, 0x3703, 0x3c31, 0x79a8,
-    0x28eb, 0x6d72, 0x6640, 0x23d9, 0x7024, 0x35bd, 0x3e8f, 0x7b16, 0x5cec, 0x1975, 0x1247, 0x57de, 0x0423, 0x41ba, 0x4a88, 0x0f11,
-    0x057c, 0x40e5, 0x4bd7, 0x0e4e, 0x5db3, 0x182a, 0x1318, 0x5681, 0x717b, 0x34e2, 0x3fd0, 0x7a49, 0x29b4, 0x6c2d, 0x671f, 0x2286,
-    0x2213, 0x678a, 0x6cb8, 0x2921, 0x7adc, 0x3f45, 0x3477, 0x71ee, 0x5614, 0x138d, 0x18bf, 0x5d26, 0x0edb, 0x4b42, 0x4070, 0x05e9,
-    0x0f84, 0x4a1d, 0x412f, 0x04b6, 0x574b, 0x12d2, 0x19e0, 0x5c79, 0x7b83, 0x3e1a, 0x3528, 0x70b1, 0x234c, 0x66d5, 0x6de7, 0x287e,
-    0x793d, 0x3ca4, 0x3796, 0x720f, 0x21f2, 0x646b, 0x6f59, 0x2ac0, 0x0d3a, 0x48a3, 0x4391, 0x0608, 0x55f5, 0x106c, 0x1b5e, 0x5ec7,
-    0x54aa, 0x1133, 0x1a01, 0x5f98, 0x0c65, 0x49fc, 0x42ce, 0x0757, 0x20ad, 0x6534, 0x6e06, 0x2b9f, 0x7862, 0x3dfb, 0x36c9, 0x7350,
-    0x51d6, 0x144f, 0x1f7d, 0x5ae4, 0x0919, 0x4c80, 0x47b2, 0x022b, 0x25d1, 0x6048, 0x6b7a, 0x2ee3, 0x7d1e, 0x3887, 0x33b5, 0x762c,
-    0x7c41, 0x39d8, 0x32ea, 0x7773, 0x248e, 0x6117, 0x6a25, 0x2fbc, 0x0846, 0x4ddf, 0x46ed, 0x0374, 0x5089, 0x1510, 0x1e22, 0x5bbb,
-    0x0af8, 0x4f61, 0x4453, 0x01ca, 0x5237, 0x17ae, 0x1c9c, 0x5905, 0x7eff, 0x3b66, 0x3054, 0x75cd, 0x2630, 0x63a9, 0x689b, 0x2d02,
-    0x276f, 0x62f6, 0x69c4, 0x2c5d, 0x7fa0, 0x3a39, 0x310b, 0x7492, 0x5368, 0x16f1, 0x1dc3, 0x585a, 0x0ba7, 0x4e3e, 0x450c, 0x0095,
-};
-
-static const uint16_t data_table[256] = {
-    0x0000, 0x008f, 0x011e, 0x0191, 0x023c, 0x02b3, 0x0322, 0x03ad, 0x00f7, 0x0078, 0x01e9, 0x0166, 0x02cb, 0x0244, 0x03d5, 0x035a,
-    0x01ee, 0x0161, 0x00f0, 0x007f, 0x03d2, 0x035d, 0x02cc, 0x0243, 0x0119, 0x0196, 0x0007, 0x0088, 0x0325, 0x03aa, 0x023b, 0x02b4,
-    0x03dc, 0x0353, 0x02c2, 0x024d, 0x01e0, 0x016f, 0x00fe, 0x0071, 0x032b, 0x03a4, 0x0235, 0x02ba, 0x0117, 0x0198, 0x0009, 0x0086,
-    0x0232, 0x02bd, 0x032c, 0x03a3, 0x000e, 0x0081, 0x0110, 0x019f, 0x02c5, 0x024a, 0x03db, 0x0354, 0x00f9, 0x0076, 0x01e7, 0x0168,
-    0x0337, 0x03b8, 0x0229, 0x02a6, 0x010b, 0x0184, 0x0015, 0x009a, 0x03c0, 0x034f, 0x02de, 0x0251, 0x01fc, 0x0173, 0x00e2, 0x006d,
-    0x02d9, 0x0256, 0x03c7, 0x0348, 0x00e5, 0x006a, 0x01fb, 0x0174, 0x022e, 0x02a1, 0x0330, 0x03bf, 0x0012, 0x009d, 0x010c, 0x0183,
-    0x00eb, 0x0064, 0x01f5, 0x017a, 0x02d7, 0x0258, 0x03c9, 0x0346, 0x001c, 0x0093, 0x0102, 0x018d, 0x0220, 0x02af, 0x033e, 0x03b1,
-    0x0105, 0x018a, 0x001b, 0x0094, 0x0339, 0x03b6, 0x0227, 0x02a8, 0x01f2, 0x017d, 0x00ec, 0x0063, 0x03ce, 0x0341, 0x02d0, 0x025f,
-    0x02e1, 0x026e, 0x03ff, 0x0370, 0x00dd, 0x0052, 0x01c3, 0x014c, 0x0216, 0x0299, 0x0308, 0x0387, 0x002a, 0x00a5, 0x0134, 0x01bb,
-    0x030f, 0x0380, 0x0211, 0x029e, 0x0133, 0x01bc, 0x002d, 0x00a2, 0x03f8, 0x0377, 0x02e6, 0x0269, 0x01c4, 0x014b, 0x00da, 0x0055,
-    0x013d, 0x01b2, 0x0023, 0x00ac, 0x0301, 0x038e, 0x021f, 0x0290, 0x01ca, 0x0145, 0x00d4, 0x005b, 0x03f6, 0x0379, 0x02e8, 0x0267,
-    0x00d3, 0x005c, 0x01cd, 0x0142, 0x02ef, 0x0260, 0x03f1, 0x037e, 0x0024, 0x00ab, 0x013a, 0x01b5, 0x0218, 0x0297, 0x0306, 0x0389,
-    0x01d6, 0x0159, 0x00c8, 0x0047, 0x03ea, 0x0365, 0x02f4, 0x027b, 0x0121, 0x01ae, 0x003f, 0x00b0, 0x031d, 0x0392, 0x0203, 0x028c,
-    0x0038, 0x00b7, 0x0126, 0x01a9, 0x0204, 0x028b, 0x031a, 0x0395, 0x00cf, 0x0040, 0x01d1, 0x015e, 0x02f3, 0x027c, 0x03ed, 0x0362,
-    0x020a, 0x0285, 0x0314, 0x039b, 0x0036, 0x00b9, 0x0128, 0x01a7, 0x02fd, 0x0272, 0x03e3, 0x036c, 0x00c1, 0x004e, 0x01df, 0x0150,
-    0x03e4, 0x036b, 0x02fa, 0x0275, 0x01d8, 0x0157, 0x00c6, 0x0049, 0x0313, 0x039c, 0x020d, 0x0282, 0x012f, 0x01a0, 0x0031, 0x00be,
-};
-
-enum { START = 16 };
-
-static inline uint16_t command_step(uint16_t pec, uint8_t byte)
-{
-    return (uint16_t)(((pec << 8) & 0x7fff) ^ command_table[(pec >> 7) ^ byte]);
-}
-
-static inline uint16_t data_step(uint16_t pec, uint8_t byte)
-{
-    return (uint16_t)(((pec << 8) & 0x3ff) ^ data_table[(pec >> 2) ^ byte]);
-}
-
-/* Six bits take one look at the same table: the entry of a value below 64 is its remainder whatever zero bits stand before it. */
-static inline uint16_t counter_step(uint16_t pec, uint8_t counter)
-{
-    return (uint16_t)(((pec << 6) & 0x3ff) ^ data_table[(pec >> 4) ^ (counter & 0x3f)]);
-}
-
-/* The data bytes of a payload, and all of them with the counter and the PEC: of CLRCMFLAG two, and of any other command six. */
-enum { TWO = 2, SIX = 6, SEAL = 2, EIGHT = SIX + SEAL };
-
-/* A payload has six bytes, or two: gcc -O2 leaves a loop over them a loop, which takes a fifth longer. */
-static inline uint16_t data_pec(const uint8_t *bytes, size_t size, uint8_t counter)
-{
-    uint16_t pec = data_step(data_step(START, bytes[0]), bytes[1]);
-    if (size == SIX)
-        pec = data_step(data_step(data_step(data_step(pec, bytes[2]), bytes[3]), bytes[4]), bytes[5]);
-    return counter_step(pec, counter);
-}
-
-static inline bool right(const uint8_t *payload, size_t size)
-{
-    const uint8_t *seal = payload + size;
-    return data_pec(payload, size, seal[0] >> 2) == (uint16_t)((seal[0] & 3) << 8 | seal[1]);
-}
-
-/* The PEC is taken from where the bytes came from: reading back what was just stored would make each payload wait for the last. */
-static inline void seal(uint8_t *payload, const uint8_t *bytes, size_t size, uint8_t counter)
-{
-    uint16_t pec = data_pec(bytes, size, counter);
-    memcpy(payload, bytes, size);
-    payload[size] = (uint8_t)(counter << 2 | pec >> 8);
-    payload[size + 1] = (uint8_t)pec;
-}
+/* ---- check words */
 
 uint16_t plain_command_pec(const uint8_t *bytes, size_t length)
 {
@@ -98,26 +17,14 @@ uint16_t plain_command_pec(const uint8_t *bytes, size_t length)
 
 uint16_t plain_data_pec10(const uint8_t *bytes, size_t length, uint8_t counter)
 {
-    uint16_t pec = START;
-    for (size_t i = 0; i < length; i++)
-        pec = data_step(pec, bytes[i]);
-    return counter_step(pec, counter);
-}
-
-static uint32_t bits_in(uint32_t pec, unsigned width, uint32_t polynomial, uint8_t byte, int bits)
-{
-    for (int i = bits - 1; i >= 0; i--) {
-        uint32_t out = (pec >> (width - 1) ^ byte >> i) & 1;
-        pec = (pec << 1 & ((1u << width) - 1)) ^ (out ? polynomial : 0);
-    }
-    return pec;
+    return data_pec_of_any(bytes, length, counter);
 }
 
 uint16_t plain_command_pec_bits(const uint8_t *bytes, size_t length)
 {
     uint32_t pec = START;
     for (size_t i = 0; i < length; i++)
-        pec = bits_in(pec, 15, 0x4599, bytes[i], 8);
+        pec = command_bits(pec, bytes[i]);
     return (uint16_t)pec;
 }
 
@@ -125,53 +32,11 @@ uint16_t plain_data_pec10_bits(const uint8_t *bytes, size_t length, uint8_t coun
 {
     uint32_t pec = START;
     for (size_t i = 0; i < length; i++)
-        pec = bits_in(pec, 10, 0x08f, bytes[i], 8);
-    return (uint16_t)bits_in(pec, 10, 0x08f, counter, 6);
+        pec = data_bits(pec, bytes[i], 8);
+    return (uint16_t)data_bits(pec, counter, 6);
 }
 
-/* ---- records and commands */
-
-enum { CONFIG_A = 0, CONFIG_B = 6, CELLS = 12, STATUS_C = 44, STATUS_D = 50, RETENTION = 56, SERIAL = 62, COUNTER = 68, UNLOCKED = 69,
-       PWM_A = 70, PWM_B = 76, COPY = 82, CM_CONFIG = 114, CM_CELLT = 120, CM_GPIOT = 126, CMF0 = 132, CMF1 = 133, LAST = 138,
-       CELL_BYTES = 32, RECORD = LAST + CELL_BYTES, MONITORS = 32 };
-
-enum { MUTE_ST = 0x10, SNAP_ST = 0x20 }; /* in byte 5 */
-enum { CMC_EN = 0x80 };                  /* in CMF1 */
-
-enum { NONE, READ, WRITE, BARE };
-
-enum { WRCFGA = 0x0001, WRCFGB = 0x0024, MUTE = 0x0028, UNMUTE = 0x0029, RSTCC = 0x002e, ULRR = 0x0038, WRRR = 0x0039,
-       CLRCELL = 0x0711, CLOVUV = 0x0715, CLRFLAG = 0x0717, RDCVF = 0x000b, WRPWMA = 0x0020, WRPWMB = 0x0021, SNAP = 0x002d,
-       UNSNAP = 0x002f, CMDIS = 0x0040, CMEN = 0x0041, WRCMCFG = 0x0058, WRCMCELLT = 0x005a, WRCMGPIOT = 0x005c, CLRCMFLAG = 0x005e };
-
-struct command { uint8_t kind, at; }; /* `at` says where a read finds its six bytes, cells where no snapshot is on */
-
-static const struct command low_codes[96] = {
-    [0x02] = { READ, CONFIG_A },   [0x26] = { READ, CONFIG_B },   [0x04] = { READ, CELLS },      [0x06] = { READ, CELLS + 6 },
-    [0x08] = { READ, CELLS + 12 }, [0x0a] = { READ, CELLS + 18 }, [0x09] = { READ, CELLS + 24 }, [RDCVF] = { READ, CELLS + 30 },
-    [0x32] = { READ, STATUS_C },   [0x33] = { READ, STATUS_D },   [0x2c] = { READ, SERIAL },     [0x3a] = { READ, RETENTION },
-    [0x22] = { READ, PWM_A },      [0x23] = { READ, PWM_B },      [WRCFGA] = { WRITE, 0 },       [WRCFGB] = { WRITE, 0 },
-    [WRRR] = { WRITE, 0 },         [WRPWMA] = { WRITE, 0 },       [WRPWMB] = { WRITE, 0 },
-    [MUTE] = { BARE, 0 },          [UNMUTE] = { BARE, 0 },        [RSTCC] = { BARE, 0 },         [ULRR] = { BARE, 0 },
-    [SNAP] = { BARE, 0 },          [UNSNAP] = { BARE, 0 },
-    [0x59] = { READ, CM_CONFIG },  [0x5b] = { READ, CM_CELLT },   [0x5d] = { READ, CM_GPIOT },   [0x5f] = { READ, CMF0 },
-    [WRCMCFG] = { WRITE, 0 },      [WRCMCELLT] = { WRITE, 0 },    [WRCMGPIOT] = { WRITE, 0 },    [CLRCMFLAG] = { WRITE, 0 },
-    [CMEN] = { BARE, 0 },          [CMDIS] = { BARE, 0 },
-};
-
-static inline struct command command_of(uint16_t code)
-{
-    static const struct command write = { WRITE, 0 }, bare = { BARE, 0 }, none = { NONE, 0 };
-    if (code < 96)
-        return low_codes[code];
-    if (code == CLRFLAG || code == CLOVUV)
-        return write;
-    return code == CLRCELL ? bare : none;
-}
-
-static inline size_t data_size(uint16_t code) { return code == CLRCMFLAG ? TWO : SIX; }
-
-static inline size_t frame_size(uint8_t kind, uint16_t code, size_t n) { return kind == BARE ? 4 : 4 + (data_size(code) + SEAL) * n; }
+/* ---- the table */
 
 /* N, or 0 for a table that is not sound. */
 static inline size_t monitors_of(const uint8_t *table, size_t length)
@@ -184,14 +49,6 @@ static inline size_t monitors_of(const uint8_t *table, size_t length)
             return 0;
     return n;
 }
-
-static inline bool command_right(const uint8_t *head)
-{
-    uint16_t pec = command_step(command_step(START, head[0]), head[1]);
-    return (uint16_t)(pec << 1) == (uint16_t)(head[2] << 8 | head[3]);
-}
-
-static inline uint32_t answer(size_t first, size_t second) { return (uint32_t)(first << 8 | second << 16); }
 
 static inline void raise_counter(uint8_t *record) { record[COUNTER] = record[COUNTER] == 63 ? 1 : (uint8_t)(record[COUNTER] + 1); }
 
@@ -442,42 +299,7 @@ uint32_t plain_discharge(const uint8_t *table, size_t table_length, size_t posit
     return answer(on, 0);
 }
 
-/* ---- the host */
-
-uint32_t plain_host_frame(uint16_t command, size_t monitors, const uint8_t *values, size_t values_length, uint8_t *out, size_t out_length)
-{
-    uint8_t kind = command_of(command).kind;
-    if (kind == NONE)
-        return 4;
-    if (monitors < 1 || monitors > MONITORS)
-        return 7;
-    if (values_length != (kind == WRITE ? data_size(command) * monitors : 0))
-        return 8;
-    size_t length = frame_size(kind, command, monitors);
-    if (out_length < length)
-        return 6;
-    out[0] = (uint8_t)(command >> 8);
-    out[1] = (uint8_t)command;
-    uint16_t pec = command_step(command_step(START, out[0]), out[1]);
-    out[2] = (uint8_t)(pec >> 7);
-    out[3] = (uint8_t)(pec << 1);
-    if (kind == READ)
-        memset(out + 4, 0xff, 8 * monitors);
-    if (kind == WRITE && data_size(command) == TWO)
-        for (size_t i = 0; i < monitors; i++)
-            seal(out + 4 + (TWO + SEAL) * (monitors - 1 - i), values + TWO * i, TWO, 0);
-    else if (kind == WRITE)
-        for (size_t i = 0; i < monitors; i++)
-            seal(out + 4 + EIGHT * (monitors - 1 - i), values + SIX * i, SIX, 0);
-    return answer(0, length);
-}
-
-uint32_t plain_check(const uint8_t *payload, size_t payload_length)
-{
-    if (payload_length != EIGHT)
-        return 5;
-    return answer(right(payload, SIX) ? 1 : 2, 0);
-}
+/* ---- the check of a payload by shifts */
 
 /* The library's own way, in C: the payload as one number is divided by the polynomial, by shifts alone, and 0x4c is what the start
  * value leaves of 64 zero bits. */

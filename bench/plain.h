@@ -14,16 +14,24 @@ uint16_t plain_command_pec(const uint8_t *bytes, size_t length);
 uint16_t plain_command_pec_bits(const uint8_t *bytes, size_t length);
 uint16_t plain_data_pec10(const uint8_t *bytes, size_t length, uint8_t counter);
 uint16_t plain_data_pec10_bits(const uint8_t *bytes, size_t length, uint8_t counter);
+uint32_t plain_check_by_shifts(const uint8_t *payload, size_t payload_length);
 
-/* ---- the chain and the host */
+/* ---- the chain */
 
 uint32_t plain_frame(uint8_t *table, size_t table_length, const uint8_t *frame, size_t frame_length, uint8_t *reply, size_t reply_length);
 uint32_t plain_load(uint8_t *table, size_t table_length, size_t position, const int16_t *codes, size_t codes_length);
 uint32_t plain_discharge(const uint8_t *table, size_t table_length, size_t position, uint8_t events, uint8_t phase, uint8_t *out,
                          size_t out_length);
+
+/* ---- the host: plain_door.c, which is all that a door controller links */
+
 uint32_t plain_host_frame(uint16_t command, size_t monitors, const uint8_t *values, size_t values_length, uint8_t *out, size_t out_length);
 uint32_t plain_check(const uint8_t *payload, size_t payload_length);
-uint32_t plain_check_by_shifts(const uint8_t *payload, size_t payload_length);
+uint32_t plain_two_ports(const uint8_t *a, size_t a_length, const uint8_t *b, size_t b_length, size_t monitors, size_t position);
+uint32_t plain_verdict(const uint8_t *message, size_t message_length, uint8_t time_ran_out);
+int32_t plain_microvolts(int16_t code);
+double plain_volts(int16_t code);
+uint32_t plain_summary(const int16_t *codes, size_t codes_length, double *out, size_t out_length);
 
 /* ---- the clocked engine */
 
