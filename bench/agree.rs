@@ -1,13 +1,13 @@
 //! Before anything is timed: the contestants give the same answers and leave the same bytes, on damaged inputs too. It makes sure that
 //! all of them do the same work; compare/ is the test of the library.
 
-use crate::inputs::{data_size, frame_length, host_frame, values_for, Random, BARE, COUNTER, INPUTS, READS, RECORD, UNLOCKED, WRITES};
+use crate::inputs::{any_command, data_size, head, host_frame, seal, turned, Random, COUNTER, RECORD, UNLOCKED, WRITES};
 use crate::measure::State;
 use crate::sides::{words, Side};
 
 const TABLES: usize = 1500;
 const FRAMES_EACH: usize = 8;
-const CANARY: u8 = 0xa5;
+pub const CANARY: u8 = 0xa5;
 
 /// Everything that one contestant keeps through the frames of a table.
 struct Kept {
@@ -17,7 +17,7 @@ struct Kept {
     state: State,
 }
 
-fn fail(what: &str, one: &str, other: &str, case: String) -> ! {
+pub fn fail(what: &str, one: &str, other: &str, case: String) -> ! {
     eprintln!("bench: {what}: {one} and {other} differ\n{case}");
     std::process::exit(1);
 }
@@ -33,14 +33,6 @@ fn same<T: PartialEq + std::fmt::Debug>(what: &str, kept: &mut [Kept], case: &dy
     }
 }
 
-fn any_command(random: &mut Random) -> u16 {
-    match random.below(3) {
-        0 => READS[random.below(READS.len())],
-        1 => WRITES[random.below(WRITES.len())],
-        _ => BARE[random.below(BARE.len())],
-    }
-}
-
 fn any_frame(side: &Side, n: usize, random: &mut Random) -> Vec<u8> {
     let command = any_command(random);
     let mut frame = host_frame(side, command, n, random);
@@ -49,10 +41,8 @@ fn any_frame(side: &Side, n: usize, random: &mut Random) -> Vec<u8> {
         // Counter bits that our host would not send, with the PEC that is right for them.
         let size = data_size(command);
         let at = 4 + (size + 2) * random.below(payloads);
-        let counter = random.below(64) as u8;
-        let pec = unsafe { words::plain_data_pec10(frame[at..].as_ptr(), size, counter) };
-        frame[at + size] = counter << 2 | (pec >> 8) as u8;
-        frame[at + size + 1] = pec as u8;
+        frame[at + size] = random.next() as u8;
+        seal(&mut frame[at..at + size + 2]);
     }
     match random.below(10) {
         0 => {
@@ -66,9 +56,7 @@ fn any_frame(side: &Side, n: usize, random: &mut Random) -> Vec<u8> {
         }
         3 => {
             let code = random.below(0x800) as u16;
-            frame[..2].copy_from_slice(&code.to_be_bytes());
-            let pec = unsafe { words::plain_command_pec(frame.as_ptr(), 2) };
-            frame[2..4].copy_from_slice(&(pec << 1).to_be_bytes());
+            frame[..4].copy_from_slice(&head(code));
         }
         _ => {}
     }
@@ -156,28 +144,7 @@ fn clocked(kept: &mut [Kept], n: usize, frame: &[u8], case: &dyn Fn() -> String,
     });
 }
 
-fn hosts(sides: &[Side], random: &mut Random) {
-    for _ in 0..TABLES {
-        let (command, n) = (any_command(random), random.below(34));
-        let one_more = usize::from(random.below(10) == 0);
-        let values = random.bytes(values_for(command, n) + one_more);
-        let length = frame_length(command, n);
-        let room = [length, 300, length - 1][random.below(3)];
-        let build = |side: &Side| {
-            let mut out = [CANARY; 300];
-            let answer = unsafe { (side.host_frame)(command, n, values.as_ptr(), values.len(), out.as_mut_ptr(), room) };
-            (answer, out)
-        };
-        for side in &sides[1..] {
-            if build(side) != build(&sides[0]) {
-                fail("host frame", sides[0].name, side.name, format!("{command:04x}, N = {n}, room {room}, values {values:02x?}"));
-            }
-        }
-    }
-}
-
-fn check_words(sides: &[Side], random: &mut Random) {
-    let turned = |bytes: &[u8]| bytes.iter().map(|b| b.reverse_bits()).collect::<Vec<u8>>();
+fn check_words(random: &mut Random) {
     for _ in 0..TABLES {
         let length = random.below(70);
         let bytes = random.bytes(length);
@@ -191,32 +158,13 @@ fn check_words(sides: &[Side], random: &mut Random) {
                 fail("check words", ways[0].name, way.name, format!("{bytes:02x?}: {:03x?}, {:03x?}", both(&ways[0]), both(way)));
             }
         }
-        let mut payload = random.bytes(8);
-        if random.below(4) != 0 {
-            let pec = unsafe { words::plain_data_pec10(payload.as_ptr(), 6, payload[6] >> 2) };
-            payload[6] = payload[6] & 0xfc | (pec >> 8) as u8;
-            payload[7] = pec as u8;
-        }
-        let length = if random.below(INPUTS) == 0 { random.below(9) } else { 8 };
-        let first = unsafe { (sides[0].check)(payload.as_ptr(), length) };
-        for side in &sides[1..] {
-            if unsafe { (side.check)(payload.as_ptr(), length) } != first {
-                fail("check", sides[0].name, side.name, format!("{payload:02x?}"));
-            }
-        }
-        if let Some(crcutil) = words::crcutil() {
-            if unsafe { (crcutil.check)(turned(&payload).as_ptr(), length) } != first {
-                fail("check", sides[0].name, "crcutil", format!("{payload:02x?}"));
-            }
-        }
     }
 }
 
-/// How many inputs all contestants agreed on.
+/// How many inputs all contestants agreed on. What a door has is in doors_agree.rs.
 pub fn agree(sides: &[Side]) -> usize {
     let mut random = Random(6830);
-    check_words(sides, &mut random);
-    hosts(sides, &mut random);
+    check_words(&mut random);
     frames(sides, &mut random);
-    3 * TABLES + 3 * TABLES * FRAMES_EACH
+    TABLES + 3 * TABLES * FRAMES_EACH
 }

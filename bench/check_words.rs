@@ -7,15 +7,20 @@ use crate::table::{row, table, Goal};
 use crate::work::{self, each, figures, timed};
 
 fn reversed(set: &[Vec<u8>]) -> Vec<Vec<u8>> {
-    set.iter().map(|bytes| bytes.iter().map(|b| b.reverse_bits()).collect()).collect()
+    set.iter().map(|bytes| inputs::turned(bytes)).collect()
+}
+
+/// As our host seals them, all right.
+pub fn payloads(side: &Side, random: &mut Random) -> Vec<Vec<u8>> {
+    (0..INPUTS).map(|_| inputs::host_frame(side, WRCFGB, 1, random)[4..].to_vec()).collect()
 }
 
 pub fn through_the_surface(sides: &[Side], random: &mut Random) {
     let plain = sides.len();
     let lent = random.sound_table(1);
-    let payloads: Vec<Vec<u8>> = (0..INPUTS).map(|_| inputs::host_frame(&sides[0], WRCFGB, 1, random)[4..].to_vec()).collect();
+    let payloads = payloads(&sides[0], random);
     let turned = reversed(&payloads);
-    let mut contestants: Vec<(&str, Work)> = sides.iter().map(|&s| (s.name, work::check(s.check, &payloads))).collect();
+    let mut contestants: Vec<(&str, Work)> = sides.iter().map(|&s| (s.name, work::check(s.door.check, &payloads))).collect();
     contestants.push(("C by shifts", work::check(words::plain_check_by_shifts, &payloads)));
     if let Some(crcutil) = words::crcutil() {
         contestants.push(("crcutil", work::check(crcutil.check, &turned)));

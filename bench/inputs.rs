@@ -1,6 +1,6 @@
 //! Inputs by a fixed seed: tables, frames, codes.
 
-use crate::sides::Side;
+use crate::sides::{words, Side};
 
 pub const RECORD: usize = 170;
 pub const COUNTER: usize = 68;
@@ -79,6 +79,35 @@ pub fn snapped(table: &[u8]) -> Vec<u8> {
     table
 }
 
+pub fn any_command(random: &mut Random) -> u16 {
+    match random.below(3) {
+        0 => READS[random.below(READS.len())],
+        1 => WRITES[random.below(WRITES.len())],
+        _ => BARE[random.below(BARE.len())],
+    }
+}
+
+/// The four bytes of a command.
+pub fn head(code: u16) -> [u8; 4] {
+    let [high, low] = code.to_be_bytes();
+    let [third, fourth] = unsafe { words::plain_command_pec([high, low].as_ptr(), 2) << 1 }.to_be_bytes();
+    [high, low, third, fourth]
+}
+
+/// Makes the PEC of a payload right for its data bytes and for the counter bits as they stand.
+pub fn seal(payload: &mut [u8]) {
+    let size = payload.len() - 2;
+    let counter = payload[size] >> 2;
+    let pec = unsafe { words::plain_data_pec10(payload.as_ptr(), size, counter) };
+    payload[size] = counter << 2 | (pec >> 8) as u8;
+    payload[size + 1] = pec as u8;
+}
+
+/// Bytes with their bits reversed, as crcutil takes them.
+pub fn turned(bytes: &[u8]) -> Vec<u8> {
+    bytes.iter().map(|b| b.reverse_bits()).collect()
+}
+
 /// The data bytes of each payload of a command.
 pub fn data_size(command: u16) -> usize {
     if command == CLRCMFLAG {
@@ -109,7 +138,7 @@ pub fn frame_length(command: u16, n: usize) -> usize {
 pub fn host_frame(side: &Side, command: u16, n: usize, random: &mut Random) -> Vec<u8> {
     let values = random.bytes(values_for(command, n));
     let mut out = vec![0; 4 + 8 * n];
-    let answer = unsafe { (side.host_frame)(command, n, values.as_ptr(), values.len(), out.as_mut_ptr(), out.len()) };
+    let answer = unsafe { (side.door.host_frame)(command, n, values.as_ptr(), values.len(), out.as_mut_ptr(), out.len()) };
     assert!(answer & 0xff == 0, "{}: host frame {command:04x} at N = {n} refused with {}", side.name, answer & 0xff);
     out.truncate((answer >> 16) as usize);
     out

@@ -4,12 +4,15 @@
 mod agree;
 mod check_words;
 mod clocked;
+mod doors;
+mod doors_agree;
 mod frames;
 mod growth;
 mod inputs;
 mod measure;
 mod rounds;
 mod sides;
+mod small;
 mod table;
 mod work;
 
@@ -17,11 +20,16 @@ use inputs::INPUTS;
 use rounds::{LEAST_ROUND_MS, ROUNDS};
 
 fn main() {
+    let Some(counted) = std::env::args().nth(1) else {
+        eprintln!("bench: the file with the bytes of the doors is wanted: use bench/run");
+        std::process::exit(2)
+    };
+    let counted = std::fs::read_to_string(counted).expect("the bytes of the doors");
     let sides = sides::all();
     let names: Vec<&str> = sides.iter().map(|s| s.name).collect();
-    let agreed = agree::agree(&sides);
-    println!("- Results: {agreed} inputs of a fixed seed, damaged ones among them, had the same answers and bytes from all; so had");
-    println!("  each measure, before it and after it.");
+    let agreed = agree::agree(&sides) + doors_agree::agree(&doors::all());
+    println!("- Results: {agreed} inputs of a fixed seed, damaged ones among them, had the same answers and bytes from all, and so had");
+    println!("  every code of a cell, and each measure, before it and after it.");
     println!("- Method: {ROUNDS} rounds of at least {LEAST_ROUND_MS} ms for each contestant; they take turns within a round, and each");
     println!("  round starts with another one. {INPUTS} inputs in rotation. The clock is the thread's processor time.");
     println!("- Buffers were not cleared between calls: tables and replies persist, so counters move on. A clock is started for each");
@@ -31,6 +39,7 @@ fn main() {
     let mut random = inputs::Random(2024);
     check_words::through_the_surface(&sides, &mut random);
     check_words::bare(&mut random);
+    small::controller(&counted, &sides);
     frames::whole(&sides, &names, &mut random);
     clocked::bytes(&sides, &names, &mut random);
     growth::growth(&sides, &mut random);

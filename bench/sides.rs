@@ -1,14 +1,15 @@
 //! The contestants: the same functions of the surface from each implementation, all reached through a pointer to an extern "C"
 //! function, so that the loops that time them are the same code and nothing is inlined into them.
 
+use crate::doors::Door;
+
 #[derive(Clone, Copy)]
 pub struct Side {
     pub name: &'static str,
+    pub door: Door,
     pub frame: unsafe extern "C" fn(*mut u8, usize, *const u8, usize, *mut u8, usize) -> u32,
     pub load: unsafe extern "C" fn(*mut u8, usize, usize, *const i16, usize) -> u32,
     pub discharge: unsafe extern "C" fn(*const u8, usize, usize, u8, u8, *mut u8, usize) -> u32,
-    pub host_frame: unsafe extern "C" fn(u16, usize, *const u8, usize, *mut u8, usize) -> u32,
-    pub check: unsafe extern "C" fn(*const u8, usize) -> u32,
     pub clock_start: unsafe extern "C" fn(*mut u8),
     pub clock_byte: unsafe extern "C" fn(*mut u8, *const u8, usize, u8) -> u32,
     pub clock_window: unsafe extern "C" fn(*const u8, usize, *mut u8, usize) -> u32,
@@ -19,15 +20,13 @@ pub struct Side {
 pub const CLOCK_ROOM: usize = 1024;
 
 macro_rules! linked {
-    ($module:ident, $name:literal, $frame:ident $load:ident $discharge:ident $host_frame:ident $check:ident
+    ($module:ident, $name:literal, $door:path, $frame:ident $load:ident $discharge:ident
      $clock_start:ident $clock_byte:ident $clock_window:ident $clock_release:ident) => {
         mod $module {
             unsafe extern "C" {
                 fn $frame(table: *mut u8, tl: usize, frame: *const u8, fl: usize, reply: *mut u8, rl: usize) -> u32;
                 fn $load(table: *mut u8, tl: usize, position: usize, codes: *const i16, cl: usize) -> u32;
                 fn $discharge(table: *const u8, tl: usize, position: usize, events: u8, phase: u8, out: *mut u8, ol: usize) -> u32;
-                fn $host_frame(command: u16, monitors: usize, values: *const u8, vl: usize, out: *mut u8, ol: usize) -> u32;
-                fn $check(payload: *const u8, pl: usize) -> u32;
                 fn $clock_start(state: *mut u8);
                 fn $clock_byte(state: *mut u8, table: *const u8, tl: usize, byte: u8) -> u32;
                 fn $clock_window(state: *const u8, position: usize, out: *mut u8, ol: usize) -> u32;
@@ -35,11 +34,10 @@ macro_rules! linked {
             }
             pub const SIDE: super::Side = super::Side {
                 name: $name,
+                door: $door,
                 frame: $frame,
                 load: $load,
                 discharge: $discharge,
-                host_frame: $host_frame,
-                check: $check,
                 clock_start: $clock_start,
                 clock_byte: $clock_byte,
                 clock_window: $clock_window,
@@ -49,15 +47,16 @@ macro_rules! linked {
     };
 }
 
-linked!(osk, "osk", osk_frame osk_load osk_discharge osk_host_frame osk_check
+linked!(osk, "osk", crate::doors::osk::DOOR, osk_frame osk_load osk_discharge
         osk_clock_start osk_clock_byte osk_clock_window osk_clock_release);
-linked!(plain_c, "plain C", plain_frame plain_load plain_discharge plain_host_frame plain_check
+linked!(plain_c, "plain C", crate::doors::plain_c::DOOR, plain_frame plain_load plain_discharge
         plain_clock_start plain_clock_byte plain_clock_window plain_clock_release);
 
 /// The crate of compare/model, given the same face.
 #[cfg(model)]
 mod plain_rust {
     use super::{Side, CLOCK_ROOM};
+    use crate::doors::plain_rust::DOOR;
     use model::Clock;
     use std::slice::{from_raw_parts, from_raw_parts_mut};
 
@@ -77,16 +76,6 @@ mod plain_rust {
     #[inline(never)]
     unsafe extern "C" fn discharge(table: *const u8, tl: usize, position: usize, events: u8, phase: u8, out: *mut u8, ol: usize) -> u32 {
         unsafe { model::discharge(from_raw_parts(table, tl), position, events, phase, from_raw_parts_mut(out, ol)) }
-    }
-
-    #[inline(never)]
-    unsafe extern "C" fn host_frame(command: u16, monitors: usize, values: *const u8, vl: usize, out: *mut u8, ol: usize) -> u32 {
-        unsafe { model::host_frame(command, monitors, from_raw_parts(values, vl), from_raw_parts_mut(out, ol)) }
-    }
-
-    #[inline(never)]
-    unsafe extern "C" fn check(payload: *const u8, pl: usize) -> u32 {
-        unsafe { model::check(from_raw_parts(payload, pl)) }
     }
 
     /// Bytes of any value are no Clock yet, so a new one is put in their place: what `Clock::start` does to an old one.
@@ -110,8 +99,7 @@ mod plain_rust {
         unsafe { (*state.cast::<Clock>()).release(from_raw_parts_mut(table, tl)) }
     }
 
-    pub const SIDE: Side =
-        Side { name: "Rust", frame, load, discharge, host_frame, check, clock_start, clock_byte, clock_window, clock_release };
+    pub const SIDE: Side = Side { name: "Rust", door: DOOR, frame, load, discharge, clock_start, clock_byte, clock_window, clock_release };
 }
 
 /// The library first; every other one is a plain program that it is compared with.

@@ -41,14 +41,18 @@ pub fn ns(value: f64) -> String {
     }
 }
 
+/// The median, the smallest, and the width of the middle half.
+pub fn cell(figure: &Figure) -> String {
+    format!("{} ({}; {:.1}%)", ns(figure.median), ns(figure.least), figure.spread * 100.0)
+}
+
 pub fn table(title: &str, names: &[&str], rows: &[Row]) {
     let ratios = rows.iter().any(|r| r.ratio.is_some());
     println!("\n## {title}\n");
     println!("| ns | {} |{}", names.join(" | "), if ratios { " osk / best plain | |" } else { "" });
     println!("|---|{}{}", "---|".repeat(names.len()), if ratios { "---|---|" } else { "" });
     for row in rows {
-        let mut cells: Vec<String> =
-            row.figures.iter().map(|f| format!("{} ({}; {:.1}%)", ns(f.median), ns(f.least), f.spread * 100.0)).collect();
+        let mut cells: Vec<String> = row.figures.iter().map(cell).collect();
         cells.resize(names.len(), String::new());
         if ratios {
             cells.push(row.ratio.map(|r| format!("{r:.2}")).unwrap_or_default());

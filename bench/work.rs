@@ -23,7 +23,7 @@ pub fn host_frame<'a>(side: Side, command: u16, n: usize, values: &'a [Vec<u8>])
         for _ in 0..turns {
             let values = &values[b.turn()];
             let out = &mut b.room.reply;
-            b.sum += u64::from(unsafe { (side.host_frame)(command, n, values.as_ptr(), values.len(), out.as_mut_ptr(), out.len()) });
+            b.sum += u64::from(unsafe { (side.door.host_frame)(command, n, values.as_ptr(), values.len(), out.as_mut_ptr(), out.len()) });
         }
     })
 }
