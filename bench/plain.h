@@ -1,6 +1,6 @@
-/* Document 01 with requests L2, L3 and L6 of document 02, and of L8 the settings and the enabling, in plain C99, written from the papers
- * alone: what the proved library is timed against. Answers are packed as in oskorbine.h, a pointer and the length behind it are one buffer,
- * and a refusal leaves every lent buffer as it was.
+/* Document 01 with requests L2, L3 and L6 of document 02, and of L8 the settings, the enabling and the host's verdict, in plain C99, written
+ * from the papers alone: what the proved libraries are timed against. Answers are packed as in oskorbine.h, a pointer and the length behind it
+ * are one buffer, and a refusal leaves every lent buffer as it was.
  */
 #ifndef PLAIN_H
 #define PLAIN_H
@@ -8,7 +8,7 @@
 #include <stddef.h>
 #include <stdint.h>
 
-/* ---- check words over any byte string: one table step a byte, and bit by bit */
+/* ---- check words over any byte string: one table step a byte, and bit by bit; and the check of a payload by shifts */
 
 uint16_t plain_command_pec(const uint8_t *bytes, size_t length);
 uint16_t plain_command_pec_bits(const uint8_t *bytes, size_t length);
@@ -23,7 +23,7 @@ uint32_t plain_load(uint8_t *table, size_t table_length, size_t position, const 
 uint32_t plain_discharge(const uint8_t *table, size_t table_length, size_t position, uint8_t events, uint8_t phase, uint8_t *out,
                          size_t out_length);
 
-/* ---- the host: plain_door.c, which is all that a door controller links */
+/* ---- the host: plain_door.c, all that a door controller links */
 
 uint32_t plain_host_frame(uint16_t command, size_t monitors, const uint8_t *values, size_t values_length, uint8_t *out, size_t out_length);
 uint32_t plain_check(const uint8_t *payload, size_t payload_length);
