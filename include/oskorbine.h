@@ -1,7 +1,9 @@
 /* The bench chain for C and C++: 1 to 32 battery monitors (ADBMS6830B) in a table that the caller lends, the host that writes their
  * frames and reads their replies, a second engine that clocks the same frames a byte at a time, and readings of cells.
  *
- * Link with liboskorbine.a. Every function is proved: it ends, for every input of any length, with the answer and the bytes that the
+ * Link with liboskorbine.a; a controller that holds no chain links libdoor.a in its place, which has the host's functions alone
+ * (osk_host_frame, osk_check, osk_two_ports, osk_verdict, osk_microvolts, osk_volts, osk_summary), the same and as proved, and no table
+ * of the data check. Every function is proved: it ends, for every input of any length, with the answer and the bytes that the
  * definitions of the project say. It keeps nothing between calls and asks nothing of the bytes it is lent.
  *
  * A pointer and the length behind it are one buffer, and the length counts elements. The caller owes what C cannot check: the pointer

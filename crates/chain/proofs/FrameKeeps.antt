@@ -8,7 +8,7 @@ use Rattle.judging.specs.Table.{monitors, sound}
 use Rattle.judging.specs.Refusals.{commandIn}
 use Rattle.serving.specs.Served.{kept}
 use Rattle.chain.specs.Frame.{frameRefusals, tableAfter}
-use Rattle.judging.proofs.Decided.{either-way}
+use Rattle.refusals.proofs.Decided.{either-way}
 use Rattle.judging.proofs.Keeps.{Keeps, stays}
 use Rattle.serving.proofs.Kept.{kept-keeps}
 

@@ -15,7 +15,7 @@ use Rattle.judging.specs.Refusals.{commandIn}
 use Rattle.serving.specs.Served.{takenBy, kept}
 use Rattle.replying.specs.Replied.{replied}
 use Rattle.chain.specs.Frame.{frameRefusals, answer, tableAfter, replyAfter}
-use Rattle.judging.proofs.Decided.{stays-so, goes-on, is-accepted}
+use Rattle.refusals.proofs.Decided.{stays-so, goes-on, is-accepted}
 
 pub accepted-apart : (taken reply : ℕ) (r : Refusal) → Accepted taken reply ≡ Refused r → ⊥
 accepted-apart taken reply r e = let z : _≡_ {A = ℕ} 0 1 = cc in omega arith

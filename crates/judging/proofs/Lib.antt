@@ -1,7 +1,6 @@
 pub mod Lent
 pub mod Soundness
 pub mod Whole
-pub mod Decided
 pub mod Judging
 pub mod Keeps
 pub mod Changed

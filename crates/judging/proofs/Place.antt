@@ -23,7 +23,7 @@ use Rattle.judging.specs.Table.{monitors, sound}
 use Rattle.judging.specs.Places.{placeRefusals, placed}
 use Rattle.judging.proofs.Soundness.{both, is-sound}
 use Rattle.judging.proofs.Keeps.{Keeps}
-use Rattle.judging.proofs.Decided.{is-accepted}
+use Rattle.refusals.proofs.Decided.{is-accepted}
 
 -- a place is no refusal
 pub at-apart : (k : ℕ) (r : Refusal) → At k ≡ Nowhere r → ⊥

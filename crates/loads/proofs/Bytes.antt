@@ -11,7 +11,7 @@ use Rattle.laws.specs.Rows.{rowAt}
 use Rattle.records.specs.Record.{recordSize, cells, flags}
 use Rattle.judging.specs.Table.{changedAt, Beside}
 use Rattle.judging.proofs.Lent.{lent-length}
-use Rattle.judging.proofs.Decided.{by-passing}
+use Rattle.refusals.proofs.Decided.{by-passing}
 use Rattle.judging.proofs.Changed.{length-changed, each-byte, beside-stays}
 use Rattle.cells.specs.Cells.{store, compare}
 use Rattle.cells.proofs.Loaded.{length-store, store-below, store-above, length-compare, compare-below, compare-above}

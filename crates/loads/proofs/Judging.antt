@@ -17,7 +17,7 @@ use Rattle.refusals.proofs.Deciding.{holds-here, holds-not, none-left, decide-a
 use Rattle.records.specs.Record.{cellCount}
 use Rattle.judging.specs.Table.{sound}
 use Rattle.judging.specs.Places.{placeRefusals, placed}
-use Rattle.judging.proofs.Decided.{refused-so}
+use Rattle.refusals.proofs.Decided.{refused-so}
 use Rattle.judging.proofs.Place.{by-place, as-placed, stop-1 as not-placed}
 use Rattle.loads.specs.declared.loads.Loaded.{Loaded}
 use Rattle.loads.specs.declared.loads.Loaded.the-variants.{Unloaded, Done}

@@ -11,7 +11,7 @@ use Rattle.refusals.specs.Order.{Row, decide, Passed}
 use Rattle.records.specs.Record.{recordSound}
 use Rattle.judging.specs.Table.{monitors, sound, changedAt}
 use Rattle.judging.proofs.Keeps.{Keeps, stays}
-use Rattle.judging.proofs.Decided.{by-passing}
+use Rattle.refusals.proofs.Decided.{by-passing}
 use Rattle.judging.proofs.Changed.{changed-keeps}
 use Rattle.cells.specs.Cells.{store, compare, load}
 use Rattle.cells.proofs.Loaded.{length-store, sound-store, length-compare, sound-compare, length-load, sound-load}

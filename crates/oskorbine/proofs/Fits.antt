@@ -1,16 +1,13 @@
--- The parts of every answer fit their bits: a chain has at most 32 monitors, so at most 32 take a frame, no reply has more than 256
--- bytes and no frame more than 260; a window has at most 8, a monitor 16 outputs, and a summary at most 512 cells. A refusal's number is at most 10. What a
--- byte clocked answers is FF or a byte of the state.
+-- The parts of every answer of the chain fit their bits: a chain has at most 32 monitors, so at most 32 take a frame, and no reply has more
+-- than 256 bytes; a window has at most 8, and a monitor 16 outputs. What a byte clocked answers is FF or a byte of the state.
 -- Each is shown where no refusal holds, by what the refusals then say.
 -- Assumes nothing.
 use mathlib.Core.Path.{_≡_, refl, ap, _∙_, subst⁻¹}
-use mathlib.Core.Bool.{Bool, true, false, cond, not, _||_}
+use mathlib.Core.Bool.{Bool, true, false, cond, _||_}
 use mathlib.Core.List.{List, [], _∷_}
 use Prim.Native.Nat.{ℕ, zero, suc, _+_, _-_, _*_, _<_, _≤_}
-use native.Mathlib.Nat.{mul-le-mul-right}
 use native.Mathlib.Omega.{arith}
 use lib.Dec.{leb, ltb}
-use lib.IntN.{ℤ}
 use lib.ListN.{length, getD, take, drop, length-take}
 use lib.Seq.{getD-drop}
 use borrow.Author.Tests.{leb-true, not-false}
@@ -19,14 +16,9 @@ use Rattle.laws.specs.Tables.{tabulate}
 use Rattle.laws.proofs.Counts.{count-most}
 use Rattle.laws.proofs.CountsAlong.{count-along-most}
 use Rattle.laws.proofs.Rows.{length-rows}
-use Rattle.refusals.specs.declared.Refusal.{Refusal}
-use Rattle.refusals.specs.declared.Refusal.the-variants.{TableNotSound, FrameShort, CommandWrong, CodeNotListed, LengthWrong, NoRoom, PositionWrong, CountWrong, CodeCleared, NeitherRight}
-use Rattle.refusals.specs.Numbers.{numberOf}
 use Rattle.records.specs.declared.commands.Command.{Command}
-use Rattle.records.specs.declared.commands.Command.the-variants.{Reads, Writes, Bares, Unlisted}
 use Rattle.records.specs.Record.{recordSize}
-use Rattle.records.specs.Commands.{commands, commandOf, mostMonitors, payloadSize, frameLength}
-use Rattle.records.proofs.Widths.{width-most}
+use Rattle.records.specs.Commands.{payloadSize}
 use Rattle.monitor.specs.Effects.{takes}
 use Rattle.chain.specs.declared.frames.Answer.the-variants.{Refused}
 use Rattle.loads.specs.declared.loads.Loaded.{Loaded}
@@ -36,7 +28,7 @@ use Rattle.judging.specs.Refusals.{commandIn}
 use Rattle.serving.specs.Served.{takers, payloadsIn, takenBy}
 use Rattle.chain.specs.Frame.{frameRefusals, answer}
 use Rattle.judging.proofs.Soundness.{both, is-sound}
-use Rattle.judging.proofs.Decided.{by-passing}
+use Rattle.refusals.proofs.Decided.{by-passing}
 use Rattle.priorities.specs.declared.outputs.Events.{Events}
 use Rattle.priorities.specs.Outputs.{theCells, countOn}
 use Rattle.discharge.specs.declared.question.Discharged.the-variants.{Refused as Unasked}
@@ -52,51 +44,16 @@ use Rattle.clock_state.proofs.Widths.{Wide, wide-in}
 use Rattle.clocking.specs.Bytes.{windowsIn, clockOf}
 use Rattle.clocking.proofs.Known.{reply-short}
 use Rattle.clocking.proofs.Register.{come, leaves-first, fills-at, drains-at, still-at}
-use Rattle.host.specs.declared.frames.Built.the-variants.{Unbuilt}
-use Rattle.ports.specs.declared.checks.Checked.{Checked}
-use Rattle.ports.specs.declared.checks.Checked.the-variants.{Unchecked, Right, Wrong}
-use Rattle.ports.specs.declared.ports.Port.{Port}
-use Rattle.ports.specs.declared.ports.Port.the-variants.{Refused as Unported, A, B}
-use Rattle.host.specs.Frames.{buildRefusals, built}
-use Rattle.messages.specs.declared.verdicts.Verdict.the-variants.{Refused as Unjudged, Passed, Failed, Damaged, TimedOut}
-use Rattle.messages.specs.Messages.{messageSize, countIn, flagsIn, messageRight, isPass}
-use Rattle.messages.specs.Verdicts.{verdictRefusals, verdictOf, verdict}
+use Rattle.messages.specs.Messages.{messageSize}
 use Rattle.passing.specs.declared.operations.Sent.{Sent}
 use Rattle.passing.specs.declared.operations.Sent.the-variants.{Unsent, Nothing as None, TowardsA, TowardsB}
 use Rattle.passing.specs.declared.operations.Relayed.{Relayed}
 use Rattle.passing.specs.declared.operations.Relayed.the-variants.{Unrelayed, Stopped, SentOn}
 use Rattle.passing.specs.declared.operations.TimedOut.{TimedOut as Timed}
 use Rattle.passing.specs.declared.operations.TimedOut.the-variants.{Untimed, NoTimeoutMonitor, RanOut}
-use Rattle.ports.specs.Ports.{placeA, placeB, portOf}
-use Rattle.ports.proofs.TwoPorts.{only-a, only-b}
-use Rattle.readings.specs.declared.pack_summary.Pack.{Pack}
-use Rattle.readings.specs.declared.pack_summary.Pack.the-variants.{Refused as Unsummed, Nothing, Whole}
-use Rattle.readings.specs.Readings.{mostCodes, measured, wholeOf, summaryOf}
-use Rattle.readings.proofs.Sizes.{cells-at-most-codes}
-use Rattle.readings.proofs.Summaries.{cellsOf}
-use Rattle.oskorbine.specs.Packed.{Fit, refused, accepted, frameParts, loadParts, dischargedParts, sentParts, relayedParts, timedParts, builtParts, checkedParts, portParts, verdictParts, lookedParts}
-use Rattle.oskorbine.specs.Volts.{roomRow, summaryParts}
-
--- ---- of any answer
-
--- what is accepted fits by its values
-pub accepted-fits : (first second : ℕ) → first < 256 → second < 65536 → Fit (accepted first second)
-accepted-fits first second f s = record { number-fits = omega arith; first-fits = f; second-fits = s }
-
-pub refused-fits : (r : Refusal) → Fit (refused r)
-refused-fits r = record { number-fits = at-most-ten r; first-fits = omega arith; second-fits = omega arith }
-  where
-    at-most-ten : (r : Refusal) → numberOf r < 256
-    at-most-ten TableNotSound = omega arith
-    at-most-ten FrameShort = omega arith
-    at-most-ten CommandWrong = omega arith
-    at-most-ten CodeNotListed = omega arith
-    at-most-ten LengthWrong = omega arith
-    at-most-ten NoRoom = omega arith
-    at-most-ten PositionWrong = omega arith
-    at-most-ten CountWrong = omega arith
-    at-most-ten CodeCleared = omega arith
-    at-most-ten NeitherRight = omega arith
+use Rattle.packing.specs.Packed.{Fit, accepted}
+use Rattle.packing.proofs.Packed.{accepted-fits, refused-fits}
+use Rattle.oskorbine.specs.Answers.{frameParts, loadParts, dischargedParts, sentParts, relayedParts, timedParts, lookedParts}
 
 -- ---- a frame and a release
 
@@ -161,47 +118,6 @@ timed-fits (Untimed r) = refused-fits r
 timed-fits NoTimeoutMonitor = accepted-fits 0 0 (omega arith) (omega arith)
 timed-fits RanOut = accepted-fits 1 0 (omega arith) (omega arith)
 
--- ---- the host
-
-long : (c : Command) (n : ℕ) → frameLength c n ≤ 4 + payloadSize * n
-long (Reads part) n = omega arith
-long (Writes c) n = omega (arith, mul-le-mul-right n (width-most (Writes c)))
-long (Bares c) n = omega arith
-long Unlisted n = omega arith
-
-pub built-fits : (code n : ℕ) (values : List ℕ) (room : ℕ) → Fit (builtParts (built code n values room))
-unfolding built buildRefusals
-built-fits code n values room =
-    by-passing (λ x. Fit (builtParts x)) (buildRefusals code n values room) Unbuilt _ refused-fits
-    (λ none. let few = leb-true n mostMonitors (both (leb 1 n) (leb n mostMonitors) (not-false _ (none .1 .0)) .1) in
-    accepted-fits 0 _ (omega arith) (omega (arith, few, long (commandOf code commands) n)))
-
--- a verdict on bytes
-pub verdict-fits : (bytes : List ℕ) (late : Bool) → ((k : ℕ) → getD bytes k 0 < 256) → Fit (verdictParts (verdict bytes late))
-unfolding verdict verdictOf countIn flagsIn
-verdict-fits bytes late small =
-    by-passing (λ x. Fit (verdictParts x)) (verdictRefusals bytes late) Unjudged _ refused-fits (λ none. each late (messageRight bytes) (isPass (getD bytes 4 0) (getD bytes 5 0)))
-  where
-    each : (l r p : Bool) → Fit (verdictParts (cond l TimedOut (cond (not r) Damaged (cond p Passed (Failed (getD bytes 4 0) (getD bytes 5 0))))))
-    each true r p = accepted-fits 4 0 (omega arith) (omega arith)
-    each false false p = accepted-fits 3 0 (omega arith) (omega arith)
-    each false true true = accepted-fits 1 0 (omega arith) (omega arith)
-    each false true false = accepted-fits 2 (256 * getD bytes 4 0 + getD bytes 5 0) (omega arith) (omega (arith, small 4, small 5))
-
-pub checked-fits : (c : Checked) → Fit (checkedParts c)
-checked-fits (Unchecked r) = refused-fits r
-checked-fits Right = accepted-fits 1 0 (omega arith) (omega arith)
-checked-fits Wrong = accepted-fits 2 0 (omega arith) (omega arith)
-
-pub port-fits : (a b : List ℕ) (n k : ℕ) → Fit (portParts n k (portOf a b n k))
-unfolding placeA placeB
-port-fits a b n k = by (portOf a b n k) refl
-  where
-    by : (port : Port) → portOf a b n k ≡ port → Fit (portParts n k port)
-    by (Unported r) e = refused-fits r
-    by A e = let asked = only-a a b n k e .0 in accepted-fits 1 _ (omega arith) (omega (arith, asked .most, asked .last))
-    by B e = let asked = only-b a b n k e .0 in accepted-fits 2 _ (omega arith) (omega (arith, asked .most, asked .last))
-
 -- ---- a look
 
 -- a window has at most a reply's bytes
@@ -245,26 +161,3 @@ byte-fits s bytes = accepted-fits _ 0 (by (ltb (seenIn s) 4) (kindIn s)) (omega 
     by false (Fills w) = omega arith
     by false Drains = subst⁻¹ (λ (x : ℕ). x < 256) (leaves-first (seenIn s) n s) (leaves-byte n s bytes)
     by false Still = omega arith
-
--- ---- a summary
-
--- the cells of wholeOf are those measured
-whole-cells : (ms : List ℤ) → cellsOf (wholeOf ms) ≡ length ms
-unfolding wholeOf
-whole-cells [] = refl
-whole-cells (m ∷ ms) = refl
-
-pub few-cells : (codes : List ℤ) → cellsOf (summaryOf codes) ≤ mostCodes
-unfolding summaryOf
-few-cells codes =
-    by-passing (λ p. cellsOf p ≤ mostCodes) _ Unsummed _ (λ r. omega arith)
-    (λ none. let few = leb-true (length codes) mostCodes (both (leb 1 (length codes)) _ (not-false _ (none .0)) .1) in
-    omega (arith, few, cells-at-most-codes codes, whole-cells (measured codes)))
-
-pub summary-fits : (codes : List ℤ) (room : ℕ) → Fit (summaryParts (summaryOf codes) room)
-summary-fits codes room = by (summaryOf codes) (few-cells codes)
-  where
-    by : (p : Pack) → cellsOf p ≤ mostCodes → Fit (summaryParts p room)
-    by (Unsummed r) few = refused-fits r
-    by Nothing few = by-passing Fit (roomRow room ∷ []) refused _ refused-fits (λ none. accepted-fits 0 0 (omega arith) (omega arith))
-    by (Whole s) few = by-passing Fit (roomRow room ∷ []) refused _ refused-fits (λ none. accepted-fits 1 (s .cells) (omega arith) (omega arith))

@@ -1,3 +1,1 @@
-pub mod Packed
 pub mod Fits
-pub mod Pointed

@@ -1,3 +1,2 @@
-pub mod Packed
+pub mod Answers
 pub mod Events
-pub mod Volts

@@ -14,10 +14,11 @@ ghost use Rattle.passing.specs.Operations.{
   timedOut,
   tableAfterTimeOut,
 };
-ghost use Rattle.oskorbine.specs.Packed.{packed, sentParts, relayedParts, timedParts};
-use crate::packing::accepted;
-use crate::packing::refused;
+ghost use Rattle.packing.specs.Packed.{packed};
+ghost use Rattle.oskorbine.specs.Answers.{sentParts, relayedParts, timedParts};
 use messages::MESSAGE_SIZE;
+use packing::accepted;
+use packing::refused;
 use passing::Relayed;
 use passing::Sent;
 use passing::TimedOut;
@@ -29,8 +30,8 @@ fn sent_answer(sent: Sent) -> u32
     match sent {
         Sent::Unsent(refusal) => refused(refusal),
         Sent::Nothing => accepted(0, 0),
-        Sent::TowardsA => accepted(1, MESSAGE_SIZE),
-        Sent::TowardsB => accepted(2, MESSAGE_SIZE),
+        Sent::TowardsA => accepted(1, MESSAGE_SIZE as u16),
+        Sent::TowardsB => accepted(2, MESSAGE_SIZE as u16),
     }
 }
 
@@ -41,7 +42,7 @@ fn relayed_answer(relayed: Relayed) -> u32
     match relayed {
         Relayed::Unrelayed(refusal) => refused(refusal),
         Relayed::Stopped => accepted(0, 0),
-        Relayed::SentOn => accepted(1, MESSAGE_SIZE),
+        Relayed::SentOn => accepted(1, MESSAGE_SIZE as u16),
     }
 }
 

@@ -8,8 +8,9 @@ ghost use Rattle.loads.specs.Load.{
   loaded,
   tableAfterLoad,
 };
-ghost use Rattle.oskorbine.specs.Packed.{packed, loadParts};
-use crate::packing::load_answer;
+ghost use Rattle.packing.specs.Packed.{packed};
+ghost use Rattle.oskorbine.specs.Answers.{loadParts};
+use crate::answers::load_answer;
 
 // Stores sixteen codes.
 #[no_mangle]

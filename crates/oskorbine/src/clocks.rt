@@ -6,12 +6,12 @@ ghost use Rattle.releasing.specs.Look.{looked, outAfter};
 ghost use Rattle.releasing.specs.Release.{released, tableReleased};
 ghost use Rattle.clock_state.specs.State.{idle};
 ghost use Rattle.clocking.specs.Bytes.{clockOf, stateAfter};
-ghost use Rattle.oskorbine.specs.Packed.{packed, accepted, frameParts, lookedParts};
-use crate::packing::accepted;
-use crate::packing::frame_answer;
-use crate::packing::pack;
-use crate::packing::refused;
+ghost use Rattle.packing.specs.Packed.{packed, accepted};
+ghost use Rattle.oskorbine.specs.Answers.{frameParts, lookedParts};
+use crate::answers::frame_answer;
 use clock_state::STATE_SIZE;
+use packing::accepted;
+use packing::refused;
 use releasing::Looked;
 
 // Before a frame, whatever the bytes were: a frame that had begun is given up.
@@ -29,7 +29,7 @@ pub extern "C" fn osk_clock_byte(state: &mut [u8; STATE_SIZE], table: &[u8], byt
     ensures { λ _. ⌜ clockOf (now (state .exit)) ≡ clocked (now (table .entry)) byte (clockOf (now (state .entry))) ⌝ }
     ensures { λ _. ⌜ now (state .exit) ≡ stateAfter (now (table .entry)) byte (now (state .entry)) ⌝ }
 {
-    pack(0, clocking::clock(state, table, byte), 0)
+    accepted(clocking::clock(state, table, byte), 0)
 }
 
 // The window of the monitor at a position, oldest byte first: how many bytes it holds.
@@ -40,7 +40,7 @@ pub extern "C" fn osk_clock_window(state: &[u8; STATE_SIZE], position: usize, ou
 {
     match releasing::look(state, position, out) {
         Looked::Refused(refusal) => refused(refusal),
-        Looked::Holds(size) => accepted(0, size),
+        Looked::Holds(size) => accepted(0, size as u16),
     }
 }
 

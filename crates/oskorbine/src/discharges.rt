@@ -3,11 +3,12 @@ ghost use mathlib.Core.Path.{_≡_};
 ghost use lib.ListN.{length};
 ghost use Rattle.discharge.specs.Question.{discharged, outputsAfter};
 ghost use Rattle.oskorbine.specs.Events.{eventsIn};
-ghost use Rattle.oskorbine.specs.Packed.{packed, dischargedParts};
-use crate::packing::accepted;
-use crate::packing::refused;
+ghost use Rattle.packing.specs.Packed.{packed};
+ghost use Rattle.oskorbine.specs.Answers.{dischargedParts};
 use discharge::Discharged;
 use discharge::discharge;
+use packing::accepted;
+use packing::refused;
 use priorities::Events;
 
 // What goes on, as bits 0 to 3 of a byte say; its other bits are not looked at.
@@ -36,6 +37,6 @@ pub extern "C" fn osk_discharge(
 {
     match discharge(table, position, events_in(events), phase, out) {
         Discharged::Refused(refusal) => refused(refusal),
-        Discharged::On(outputs) => accepted(outputs, 0),
+        Discharged::On(outputs) => accepted(outputs as u8, 0),
     }
 }

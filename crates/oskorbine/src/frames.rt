@@ -2,8 +2,9 @@
 ghost use mathlib.Core.Path.{_≡_};
 ghost use lib.ListN.{length};
 ghost use Rattle.chain.specs.Frame.{answer, tableAfter, replyAfter};
-ghost use Rattle.oskorbine.specs.Packed.{packed, frameParts};
-use crate::packing::frame_answer;
+ghost use Rattle.packing.specs.Packed.{packed};
+ghost use Rattle.oskorbine.specs.Answers.{frameParts};
+use crate::answers::frame_answer;
 
 // Handles a frame: how many monitors took it, and the length of the reply.
 #[no_mangle]

@@ -1,14 +1,11 @@
-// The surface for C: numbers and slices only, and nothing decided here. A slice is a pointer and a length; an answer is a u32 that
-// holds the refusal number and two values (specs/Packed).
+// The chain for C, by both engines: numbers and slices only, and nothing decided here. A slice is a pointer and a length; an answer is a
+// u32 that holds the refusal number and two values (`packing`). The host's functions are those of `door`: the library has both crates.
+mod answers;
 mod beats;
 mod cells;
 mod clocks;
 mod discharges;
 mod frames;
-mod hosts;
-mod packing;
-mod verdicts;
-mod volts;
 
 pub use beats::osk_heartbeat;
 pub use beats::osk_relay;
@@ -23,10 +20,3 @@ pub use clocks::osk_clock_start;
 pub use clocks::osk_clock_window;
 pub use discharges::osk_discharge;
 pub use frames::osk_frame;
-pub use hosts::osk_check;
-pub use hosts::osk_host_frame;
-pub use hosts::osk_two_ports;
-pub use verdicts::osk_verdict;
-pub use volts::osk_microvolts;
-pub use volts::osk_summary;
-pub use volts::osk_volts;

@@ -13,7 +13,7 @@ use Rattle.refusals.proofs.Deciding.{holds-here, holds-not, none-left, decide-a
 use Rattle.judging.specs.declared.places.Placed.{Placed}
 use Rattle.judging.specs.declared.places.Placed.the-variants.{Nowhere, At}
 use Rattle.judging.specs.Places.{placeRefusals, placed}
-use Rattle.judging.proofs.Decided.{is-accepted}
+use Rattle.refusals.proofs.Decided.{is-accepted}
 use Rattle.judging.proofs.Place.{Place, at-apart, at-same, by-place, as-placed, place, its-index}
 use Rattle.messages.specs.Messages.{messageSize}
 use Rattle.passing.specs.Operations.{messageRow, outRow, wakeRefusals, relayRefusals}

@@ -23,7 +23,7 @@ use Rattle.judging.specs.Table.{monitors, sound}
 use Rattle.judging.specs.Refusals.{commandIn, shortRow, commandRow, listedRow, lengthRow}
 use Rattle.judging.specs.Heads.{headJudged}
 use Rattle.judging.proofs.Soundness.{is-sound}
-use Rattle.judging.proofs.Decided.{is-accepted}
+use Rattle.refusals.proofs.Decided.{is-accepted}
 use Rattle.judging.proofs.Judging.{count-is, by-engine, by-head}
 use Rattle.clocking.specs.Clock.{Clock}
 use Rattle.releasing.specs.Release.{anotherCount, another, releaseRefusals}

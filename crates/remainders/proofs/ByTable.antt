@@ -12,7 +12,7 @@ use Rattle.laws.specs.Bits.{_⊕_, bitsOf, bitsOfBytes}
 use Rattle.laws.proofs.Xor.{xor-below}
 use Rattle.laws.proofs.Tables.{at-each}
 use Rattle.pec.specs.Remainder.{remainder}
-use Rattle.pec.specs.ByTable.{entry, tableOf, tableStep, byTable}
+use Rattle.remainders.specs.ByTable.{entry, tableOf, tableStep, byTable}
 use Rattle.pec.proofs.Remainder.{remainder-append, remainder-below}
 use Rattle.pec.proofs.ManyBits.{zeros-first, over-below, many-bits}
 

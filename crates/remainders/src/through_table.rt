@@ -4,7 +4,7 @@ ghost use mathlib.Core.Path.{_≡_};
 ghost use Prim.Native.Nat.{_^_, _<_, _≤_};
 ghost use Rattle.laws.specs.Bits.{bitsOf, bitsOfBytes};
 ghost use Rattle.pec.specs.Remainder.{remainder, Fitting};
-ghost use Rattle.pec.specs.ByTable.{tableOf};
+ghost use Rattle.remainders.specs.ByTable.{tableOf};
 
 // The k bits x at once, k at most 8.
 pub(crate) fn step_bits(w: u16, g: u16, table: &[u16; 256], k: u16, r: u16, x: u16) -> u16

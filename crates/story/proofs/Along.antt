@@ -30,7 +30,7 @@ use Rattle.reads.specs.Reply.{register, reply}
 use Rattle.judging.specs.Table.{monitors, sound, changedAt}
 use Rattle.judging.specs.Refusals.{commandIn, shortRow, commandRow, listedRow, lengthRow}
 use Rattle.judging.proofs.Changed.{changed-record, other-record}
-use Rattle.judging.proofs.Decided.{by-passing}
+use Rattle.refusals.proofs.Decided.{by-passing}
 use Rattle.judging.proofs.Keeps.{Keeps}
 use Rattle.judging.proofs.Place.{Place, there}
 use Rattle.judging.proofs.Soundness.{is-sound}

@@ -17,6 +17,7 @@ use Rattle.refusals.specs.Numbers.{numberOf}
 use Rattle.refusals.specs.Order.{Row, Passed}
 use Rattle.bytes.proofs as bytes
 use Rattle.refusals.proofs as refusals
+use Rattle.packing.proofs as packing
 use Rattle.pec.proofs as pec
 use Rattle.check_words.proofs as check_words
 use Rattle.remainders.proofs as remainders
@@ -96,6 +97,11 @@ pub record Promises : Type 2 where
   put : Promised bytes.put.Statement.statement bytes.put.Reads.Asked
   -- refusals
   number-of : Promised refusals.number_of.Statement.statement refusals.number_of.Reads.Asked
+  -- an answer for C
+  pack : Promised packing.pack.Statement.statement packing.pack.Reads.Asked
+  pack-refused : Promised packing.refused.Statement.statement packing.refused.Reads.Asked
+  pack-accepted : Promised packing.accepted.Statement.statement packing.accepted.Reads.Asked
+  -- the remainders
   nothing-left : Promised pec.nothing_left.Statement.statement pec.nothing_left.Reads.Asked
   of-command : Promised pec.of_command.Statement.statement pec.of_command.Reads.Asked
   remainder-10 : Promised pec.remainder_10.Statement.statement pec.remainder_10.Reads.Asked
@@ -283,6 +289,9 @@ proved =
     record {
       put = (λ M. bytes.put.Met.met, λ κ a. tt);
       number-of = (λ M. refusals.number_of.Met.met, λ κ a. tt);
+      pack = (λ M. packing.pack.Met.met, λ κ a. tt);
+      pack-refused = (λ M. packing.refused.Met.met, λ κ a. tt);
+      pack-accepted = (λ M. packing.accepted.Met.met, λ κ a. tt);
       nothing-left = (λ M. pec.nothing_left.Met.met, λ κ a. tt);
       of-command = (λ M. pec.of_command.Met.met, λ κ a. tt);
       remainder-10 = (λ M. pec.remainder_10.Met.met, λ κ a. tt);

@@ -15,6 +15,8 @@ use Rattle.bytes.specs.Placed.{placed, fits}
 use Rattle.bytes.proofs as bytes
 use Rattle.refusals.specs.Numbers.{numberOf}
 use Rattle.refusals.proofs as refusals
+use Rattle.packing.specs.Packed.{packed, refused, accepted}
+use Rattle.packing.proofs as packing
 use Rattle.laws.specs.Bits.{bitsOf}
 use Rattle.pec.specs.Remainder.{remainder}
 use Rattle.pec.specs.Words.{twoBytes, polynomial15, polynomial10, pec15, pec10, commandCheck, commandRight, dataPec, seal, sealedRight, payloadRight, numberIn, numberRight}
@@ -123,6 +125,11 @@ pub record OneOutcome : Type 0 where
       (λ κ a. leaves tt (cond (fits (a .1 .0) (now (a .1 .1 .0)) (now (a .0))) (placed (a .1 .0) (now (a .1 .1 .0)) (now (a .0))) (now (a .0)) ∷ []))
   -- refusals
   number-of : Settles refusals.number_of.Reads.Post (λ κ z e. leaves z []) (λ κ a. leaves (numberOf (a .0)) [])
+  -- an answer for C
+  pack : Settles packing.pack.Reads.Post (λ κ z e. leaves z []) (λ κ a. leaves (packed (record { number = a .0; first = a .1 .0; second = a .1 .1 .0 })) [])
+  pack-refused : Settles packing.refused.Reads.Post (λ κ z e. leaves z []) (λ κ a. leaves (packed (refused (a .0))) [])
+  pack-accepted : Settles packing.accepted.Reads.Post (λ κ z e. leaves z []) (λ κ a. leaves (packed (accepted (a .0) (a .1 .0))) [])
+  -- the remainders
   nothing-left : Settles pec.nothing_left.Reads.Post (λ κ z e. leaves z []) (λ κ a. leaves (numberRight (a .0)) [])
   of-command : Settles pec.of_command.Reads.Post (λ κ z e. leaves z []) (λ κ a. leaves (remainder 15 polynomial15 16 (bitsOf 16 (a .0))) [])
   remainder-10 : Settles pec.remainder_10.Reads.Post (λ κ z e. leaves z []) (λ κ a. leaves (remainder 10 polynomial10 0 (bitsOf 64 (a .0))) [])
@@ -260,6 +267,9 @@ one-outcomes =
     record {
       put = settles (λ κ a z e p i. leaves z (p i ∷ []));
       number-of = settles (λ κ a z e p i. leaves (p i) []);
+      pack = settles (λ κ a z e p i. leaves (p i) []);
+      pack-refused = settles (λ κ a z e p i. leaves (p i) []);
+      pack-accepted = settles (λ κ a z e p i. leaves (p i) []);
       nothing-left = settles (λ κ a z e p i. leaves (p i) []);
       of-command = settles (λ κ a z e p i. leaves (p i) []);
       remainder-10 = settles (λ κ a z e p i. leaves (p i) []);

@@ -12,7 +12,7 @@ use Rattle.refusals.specs.Order.{Row, decide, Passed}
 use Rattle.refusals.proofs.Deciding.{holds-here}
 use Rattle.judging.specs.Table.{monitors, sound}
 use Rattle.judging.specs.Places.{placeRefusals}
-use Rattle.judging.proofs.Decided.{by-passing}
+use Rattle.refusals.proofs.Decided.{by-passing}
 use Rattle.judging.proofs.Keeps.{Keeps, stays}
 use Rattle.judging.proofs.Place.{Place, place, there}
 use Rattle.loads.specs.declared.loads.Loaded.the-variants.{Unloaded}

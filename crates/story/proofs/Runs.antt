@@ -39,7 +39,7 @@ use Rattle.serving.specs.Served.{takers, payloadsIn, takenBy, kept}
 use Rattle.replying.specs.Replied.{replied}
 use Rattle.chain.specs.Frame.{frameRefusals, answer, tableAfter, replyAfter}
 use Rattle.replying.proofs.OwnReply.{length-replied}
-use Rattle.judging.proofs.Decided.{either-way}
+use Rattle.refusals.proofs.Decided.{either-way}
 use Rattle.serving.proofs.Taken.{taken-read, taken-bare, taken-none}
 use Rattle.clocking.specs.Clock.{Clock, start, answered}
 use Rattle.releasing.specs.Release.{released, tableReleased}

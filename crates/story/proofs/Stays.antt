@@ -13,7 +13,7 @@ use Rattle.refusals.specs.declared.Refusal.{Refusal}
 use Rattle.records.specs.Record.{recordSize}
 use Rattle.chain.specs.declared.frames.Answer.the-variants.{Refused, Accepted}
 use Rattle.chain.proofs.Refused.{accepted-apart}
-use Rattle.judging.proofs.Decided.{stays-so}
+use Rattle.refusals.proofs.Decided.{stays-so}
 use Rattle.priorities.specs.declared.outputs.Events.{Events}
 use Rattle.discharge.specs.declared.question.Discharged.the-variants.{Refused as Unasked, On}
 use Rattle.discharge.specs.Question.{dischargeRefusals, discharged, outputsAfter}

@@ -1,4 +1,5 @@
--- What the surface promises, in one record. Every function is proved to meet its own contract, asks nothing of its arguments, and leaves
+-- What the surface promises, in one record: the chain's functions (`oskorbine`) and the host's (`door`), which a controller without a chain
+-- links alone. Every function is proved to meet its own contract, asks nothing of its arguments, and leaves
 -- one outcome, which the definitions of the crates below say, as for theirs (`story`, demand 1); a u32 that it answers with is taken
 -- apart again into the paper's number and the two values, with nothing lost; the eight bytes of two ports are those that the host
 -- hands back; and a summary refuses in its order, and leaves its buffer where it does.
@@ -38,14 +39,18 @@ use Rattle.readings.specs.Readings.{microvolts, readingOf, summaryOf}
 use Rattle.story.specs.Numbers.{firstNumber, summaryRefusals}
 use Rattle.story.proofs.OneOutcome.{Settles, leaves, settles}
 use Rattle.story.proofs.Demand1.{Promised}
-use Rattle.oskorbine.specs.Packed.{packed, apart, refused, accepted, frameParts, loadParts, dischargedParts, sentParts, relayedParts, timedParts, builtParts, checkedParts, portParts, verdictParts, pointed, lookedParts}
+use Rattle.packing.specs.Packed.{packed, apart, refused, accepted}
+use Rattle.packing.proofs.Packed.{apart-packed}
+use Rattle.door.specs.Answers.{builtParts, checkedParts, portParts, verdictParts, pointed}
+use Rattle.door.specs.Volts.{voltsOrNan, roomRow, summaryParts, summaryOut}
+use Rattle.door.proofs.Fits.{built-fits, checked-fits, verdict-fits, port-fits, summary-fits}
+use Rattle.door.proofs.Pointed.{pointed-bytes}
+use Rattle.oskorbine.specs.Answers.{frameParts, loadParts, dischargedParts, sentParts, relayedParts, timedParts, lookedParts}
 use Rattle.oskorbine.specs.Events.{eventsIn}
-use Rattle.oskorbine.specs.Volts.{voltsOrNan, roomRow, summaryParts, summaryOut}
-use Rattle.oskorbine.proofs.Packed.{apart-packed}
-use Rattle.oskorbine.proofs.Fits.{frame-fits, release-fits, load-fits, discharge-fits, sent-fits, relayed-fits, timed-fits, built-fits, checked-fits, verdict-fits, port-fits, look-fits, byte-fits, summary-fits}
-use Rattle.oskorbine.proofs.Pointed.{pointed-bytes}
+use Rattle.oskorbine.proofs.Fits.{frame-fits, release-fits, load-fits, discharge-fits, sent-fits, relayed-fits, timed-fits, look-fits, byte-fits}
 use Rattle.story.proofs.Numbers.{store-number, compare-number, load-number}
 use Rattle.story.proofs.SurfaceNumbers.{frame-number, discharge-number, wake-number, beat-number, relay-number, time-number, release-number, look-number, built-number, checked-number, verdict-number, port-number, summary-number, summary-stays, nothing-stays}
+use Rattle.door.proofs as door
 use Rattle.oskorbine.proofs as oskorbine
 
 -- ---- every function
@@ -60,17 +65,17 @@ pub record Promises : Type 2 where
   relay : Promised oskorbine.osk_relay.Statement.statement oskorbine.osk_relay.Reads.Asked
   heartbeat : Promised oskorbine.osk_heartbeat.Statement.statement oskorbine.osk_heartbeat.Reads.Asked
   time-out : Promised oskorbine.osk_time_out.Statement.statement oskorbine.osk_time_out.Reads.Asked
-  host-frame : Promised oskorbine.osk_host_frame.Statement.statement oskorbine.osk_host_frame.Reads.Asked
-  check : Promised oskorbine.osk_check.Statement.statement oskorbine.osk_check.Reads.Asked
-  verdict-on : Promised oskorbine.osk_verdict.Statement.statement oskorbine.osk_verdict.Reads.Asked
-  two-ports : Promised oskorbine.osk_two_ports.Statement.statement oskorbine.osk_two_ports.Reads.Asked
+  host-frame : Promised door.osk_host_frame.Statement.statement door.osk_host_frame.Reads.Asked
+  check : Promised door.osk_check.Statement.statement door.osk_check.Reads.Asked
+  verdict-on : Promised door.osk_verdict.Statement.statement door.osk_verdict.Reads.Asked
+  two-ports : Promised door.osk_two_ports.Statement.statement door.osk_two_ports.Reads.Asked
   clock-start : Promised oskorbine.osk_clock_start.Statement.statement oskorbine.osk_clock_start.Reads.Asked
   clock-byte : Promised oskorbine.osk_clock_byte.Statement.statement oskorbine.osk_clock_byte.Reads.Asked
   clock-window : Promised oskorbine.osk_clock_window.Statement.statement oskorbine.osk_clock_window.Reads.Asked
   clock-release : Promised oskorbine.osk_clock_release.Statement.statement oskorbine.osk_clock_release.Reads.Asked
-  microvolts-of : Promised oskorbine.osk_microvolts.Statement.statement oskorbine.osk_microvolts.Reads.Asked
-  volts-of : Promised oskorbine.osk_volts.Statement.statement oskorbine.osk_volts.Reads.Asked
-  summary : Promised oskorbine.osk_summary.Statement.statement oskorbine.osk_summary.Reads.Asked
+  microvolts-of : Promised door.osk_microvolts.Statement.statement door.osk_microvolts.Reads.Asked
+  volts-of : Promised door.osk_volts.Statement.statement door.osk_volts.Reads.Asked
+  summary : Promised door.osk_summary.Statement.statement door.osk_summary.Reads.Asked
 
 -- what each leaves: what comes back, and the bytes of each buffer that it was lent to change. A summary's buffer is no bytes, so it stands
 -- beside what comes back
@@ -93,11 +98,11 @@ pub record Outcomes : Type 0 where
       (λ κ a. leaves (packed (sentParts (beaten (now (a .0)) (a .1 .0) (length (now (a .1 .1 .0)))))) (tableAfterBeat (now (a .0)) (a .1 .0) (length (now (a .1 .1 .0))) ∷ outAfterBeat (now (a .0)) (a .1 .0) (now (a .1 .1 .0)) ∷ []))
   time-out : Settles oskorbine.osk_time_out.Reads.Post (λ κ z e. leaves z (now (e .0) ∷ []))
       (λ κ a. leaves (packed (timedParts (timedOut (now (a .0)) (a .1 .0)))) (tableAfterTimeOut (now (a .0)) (a .1 .0) ∷ []))
-  host-frame : Settles oskorbine.osk_host_frame.Reads.Post (λ κ z e. leaves z (now (e .1 .1 .1 .0) ∷ []))
+  host-frame : Settles door.osk_host_frame.Reads.Post (λ κ z e. leaves z (now (e .1 .1 .1 .0) ∷ []))
       (λ κ a. leaves (packed (builtParts (built (a .0) (a .1 .0) (now (a .1 .1 .0)) (length (now (a .1 .1 .1 .0)))))) (bufferAfter (a .0) (a .1 .0) (now (a .1 .1 .0)) (now (a .1 .1 .1 .0)) ∷ []))
-  check : Settles oskorbine.osk_check.Reads.Post (λ κ z e. leaves z []) (λ κ a. leaves (packed (checkedParts (checked (now (a .0))))) [])
-  verdict-on : Settles oskorbine.osk_verdict.Reads.Post (λ κ z e. leaves z []) (λ κ a. leaves (packed (verdictParts (verdict (now (a .0)) (not (eqb (a .1 .0) 0))))) [])
-  two-ports : Settles oskorbine.osk_two_ports.Reads.Post (λ κ z e. leaves z [])
+  check : Settles door.osk_check.Reads.Post (λ κ z e. leaves z []) (λ κ a. leaves (packed (checkedParts (checked (now (a .0))))) [])
+  verdict-on : Settles door.osk_verdict.Reads.Post (λ κ z e. leaves z []) (λ κ a. leaves (packed (verdictParts (verdict (now (a .0)) (not (eqb (a .1 .0) 0))))) [])
+  two-ports : Settles door.osk_two_ports.Reads.Post (λ κ z e. leaves z [])
       (λ κ a. leaves (packed (portParts (a .1 .1 .0) (a .1 .1 .1 .0) (portOf (now (a .0)) (now (a .1 .0)) (a .1 .1 .0) (a .1 .1 .1 .0)))) [])
   clock-start : Settles oskorbine.osk_clock_start.Reads.Post (λ κ z e. leaves z (now (e .0) ∷ [])) (λ κ a. leaves tt (idle ∷ []))
   clock-byte : Settles oskorbine.osk_clock_byte.Reads.Post (λ κ z e. leaves z (now (e .0) ∷ []))
@@ -106,9 +111,9 @@ pub record Outcomes : Type 0 where
       (λ κ a. leaves (packed (lookedParts (looked (clockOf (now (a .0))) (a .1 .0) (length (now (a .1 .1 .0)))))) (outAfter (clockOf (now (a .0))) (a .1 .0) (now (a .1 .1 .0)) ∷ []))
   clock-release : Settles oskorbine.osk_clock_release.Reads.Post (λ κ z e. leaves z (now (e .0) ∷ now (e .1 .0) ∷ []))
       (λ κ a. leaves (packed (frameParts (released (clockOf (now (a .0))) (now (a .1 .0))))) (idle ∷ tableReleased (clockOf (now (a .0))) (now (a .1 .0)) ∷ []))
-  microvolts-of : Settles oskorbine.osk_microvolts.Reads.Post (λ κ z e. leaves z []) (λ κ a. leaves (microvolts (record { 0 = a .0 })) [])
-  volts-of : Settles oskorbine.osk_volts.Reads.Post (λ κ z e. leaves z []) (λ κ a. leaves (voltsOrNan (readingOf (record { 0 = a .0 }))) [])
-  summary : Settles oskorbine.osk_summary.Reads.Post (λ κ z e. leaves {A = ℕ × List Float} (z, now (e .1 .0)) [])
+  microvolts-of : Settles door.osk_microvolts.Reads.Post (λ κ z e. leaves z []) (λ κ a. leaves (microvolts (record { 0 = a .0 })) [])
+  volts-of : Settles door.osk_volts.Reads.Post (λ κ z e. leaves z []) (λ κ a. leaves (voltsOrNan (readingOf (record { 0 = a .0 }))) [])
+  summary : Settles door.osk_summary.Reads.Post (λ κ z e. leaves {A = ℕ × List Float} (z, now (e .1 .0)) [])
       (λ κ a. leaves {A = ℕ × List Float} (packed (summaryParts (summaryOf (now (a .0))) (length (now (a .1 .0)))), summaryOut (summaryOf (now (a .0))) (now (a .1 .0))) [])
 
 -- ---- the surface
@@ -173,17 +178,17 @@ proved =
       relay = (λ M. oskorbine.osk_relay.Met.met, λ κ a. tt);
       heartbeat = (λ M. oskorbine.osk_heartbeat.Met.met, λ κ a. tt);
       time-out = (λ M. oskorbine.osk_time_out.Met.met, λ κ a. tt);
-      host-frame = (λ M. oskorbine.osk_host_frame.Met.met, λ κ a. tt);
-      check = (λ M. oskorbine.osk_check.Met.met, λ κ a. tt);
-      verdict-on = (λ M. oskorbine.osk_verdict.Met.met, λ κ a. tt);
-      two-ports = (λ M. oskorbine.osk_two_ports.Met.met, λ κ a. tt);
+      host-frame = (λ M. door.osk_host_frame.Met.met, λ κ a. tt);
+      check = (λ M. door.osk_check.Met.met, λ κ a. tt);
+      verdict-on = (λ M. door.osk_verdict.Met.met, λ κ a. tt);
+      two-ports = (λ M. door.osk_two_ports.Met.met, λ κ a. tt);
       clock-start = (λ M. oskorbine.osk_clock_start.Met.met, λ κ a. tt);
       clock-byte = (λ M. oskorbine.osk_clock_byte.Met.met, λ κ a. tt);
       clock-window = (λ M. oskorbine.osk_clock_window.Met.met, λ κ a. tt);
       clock-release = (λ M. oskorbine.osk_clock_release.Met.met, λ κ a. tt);
-      microvolts-of = (λ M. oskorbine.osk_microvolts.Met.met, λ κ a. tt);
-      volts-of = (λ M. oskorbine.osk_volts.Met.met, λ κ a. tt);
-      summary = (λ M. oskorbine.osk_summary.Met.met, λ κ a. tt);
+      microvolts-of = (λ M. door.osk_microvolts.Met.met, λ κ a. tt);
+      volts-of = (λ M. door.osk_volts.Met.met, λ κ a. tt);
+      summary = (λ M. door.osk_summary.Met.met, λ κ a. tt);
     }
 
 settled : Outcomes

@@ -46,8 +46,10 @@ use Rattle.readings.specs.declared.pack_summary.Pack.the-variants.{Refused as U
 use Rattle.readings.specs.Readings.{measured, wholeOf, summaryOf}
 use Rattle.story.specs.Numbers.{sentNumbers, relayedNumbers, timedNumbers, firstNumber, summaryRefusals}
 use Rattle.story.proofs.Numbers.{wake-number as told-wake, beat-number as told-beat, relay-number as told-relay, time-number as told-time}
-use Rattle.oskorbine.specs.Packed.{Parts, refused, accepted, frameParts, dischargedParts, sentParts, relayedParts, timedParts, builtParts, checkedParts, portParts, verdictParts, lookedParts}
-use Rattle.oskorbine.specs.Volts.{summarySize, roomRow, summaryParts, summaryOut}
+use Rattle.packing.specs.Packed.{Parts, refused, accepted}
+use Rattle.door.specs.Answers.{builtParts, checkedParts, portParts, verdictParts}
+use Rattle.door.specs.Volts.{summarySize, roomRow, summaryParts, summaryOut}
+use Rattle.oskorbine.specs.Answers.{frameParts, dischargedParts, sentParts, relayedParts, timedParts, lookedParts}
 
 pub frame-number : (table frame : List ℕ) (room : ℕ) → frameParts (answer table frame room) .number ≡ firstNumber (frameRefusals table frame room)
 unfolding answer

@@ -2,8 +2,8 @@
 -- Assumes nothing.
 use mathlib.Core.Path.{sym}
 use borrow.Author.Needs.{needs}
-use Rattle.oskorbine.specs.Packed.{sentParts}
-use Rattle.oskorbine.proofs.Packed.{as-told}
+use Rattle.oskorbine.specs.Answers.{sentParts}
+use Rattle.packing.proofs.Packed.{as-told}
 use Rattle.oskorbine.proofs.beats.osk_heartbeat.Statement.{statement}
 use Rattle.oskorbine.proofs.beats.osk_heartbeat.Tie as tie
 

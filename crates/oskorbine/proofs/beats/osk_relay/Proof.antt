@@ -2,8 +2,8 @@
 -- Assumes nothing.
 use mathlib.Core.Path.{sym}
 use borrow.Author.Needs.{needs}
-use Rattle.oskorbine.specs.Packed.{relayedParts}
-use Rattle.oskorbine.proofs.Packed.{as-told}
+use Rattle.oskorbine.specs.Answers.{relayedParts}
+use Rattle.packing.proofs.Packed.{as-told}
 use Rattle.oskorbine.proofs.beats.osk_relay.Statement.{statement}
 use Rattle.oskorbine.proofs.beats.osk_relay.Tie as tie
 

@@ -1,8 +1,8 @@
 -- `oskorbine::beats::relayed_answer` meets its contract, answer by answer.
 -- Assumes nothing.
 use borrow.Author.Needs.{needs}
-use Rattle.oskorbine.specs.Packed.{relayedParts}
-use Rattle.oskorbine.proofs.Packed.{as-told}
+use Rattle.oskorbine.specs.Answers.{relayedParts}
+use Rattle.packing.proofs.Packed.{as-told}
 use Rattle.oskorbine.proofs.beats.relayed_answer.Statement.{statement}
 use Rattle.oskorbine.proofs.beats.relayed_answer.Tie as tie
 
@@ -23,6 +23,7 @@ relayed-answer-spec =
     (λ c κs. search needs)
     (λ c. search needs)
     (λ c κs. search needs)
+    (λ c. search needs)
     (λ c. search needs)
     (λ c κs. search needs)
     returns

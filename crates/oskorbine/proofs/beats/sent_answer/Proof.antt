@@ -1,8 +1,8 @@
 -- `oskorbine::beats::sent_answer` meets its contract, answer by answer.
 -- Assumes nothing.
 use borrow.Author.Needs.{needs}
-use Rattle.oskorbine.specs.Packed.{sentParts}
-use Rattle.oskorbine.proofs.Packed.{as-told}
+use Rattle.oskorbine.specs.Answers.{sentParts}
+use Rattle.packing.proofs.Packed.{as-told}
 use Rattle.oskorbine.proofs.beats.sent_answer.Statement.{statement}
 use Rattle.oskorbine.proofs.beats.sent_answer.Tie as tie
 
@@ -27,7 +27,9 @@ sent-answer-spec =
     (λ c. search needs)
     (λ c κs. search needs)
     (λ c. search needs)
+    (λ c. search needs)
     (λ c κs. search needs)
+    (λ c. search needs)
     (λ c. search needs)
     (λ c κs. search needs)
     returns

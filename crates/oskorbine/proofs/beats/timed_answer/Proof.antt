@@ -1,8 +1,8 @@
 -- `oskorbine::beats::timed_answer` meets its contract, answer by answer.
 -- Assumes nothing.
 use borrow.Author.Needs.{needs}
-use Rattle.oskorbine.specs.Packed.{timedParts}
-use Rattle.oskorbine.proofs.Packed.{as-told}
+use Rattle.oskorbine.specs.Answers.{timedParts}
+use Rattle.packing.proofs.Packed.{as-told}
 use Rattle.oskorbine.proofs.beats.timed_answer.Statement.{statement}
 use Rattle.oskorbine.proofs.beats.timed_answer.Tie as tie
 

@@ -2,7 +2,8 @@
 -- Assumes nothing.
 use mathlib.Core.Path.{sym, ap, _∙_, subst}
 use Rattle.chain.specs.declared.frames.Answer.{Answer}
-use Rattle.oskorbine.specs.Packed.{packed, frameParts, Fit}
+use Rattle.packing.specs.Packed.{packed, Fit}
+use Rattle.oskorbine.specs.Answers.{frameParts}
 use Rattle.oskorbine.proofs.Fits.{release-fits}
 use borrow.Author.Needs.{needs}
 use Rattle.oskorbine.proofs.clocks.osk_clock_release.Statement.{statement}

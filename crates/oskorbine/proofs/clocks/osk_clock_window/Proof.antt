@@ -4,7 +4,8 @@ use mathlib.Core.Path.{sym, ap, _∙_, subst}
 use native.Mathlib.Omega.{arith}
 use lib.ListN.{length}
 use Rattle.releasing.specs.declared.looks.Looked.{Looked}
-use Rattle.oskorbine.specs.Packed.{packed, lookedParts, Fit}
+use Rattle.packing.specs.Packed.{packed, Fit}
+use Rattle.oskorbine.specs.Answers.{lookedParts}
 use Rattle.oskorbine.proofs.Fits.{look-fits}
 use borrow.Author.Needs.{needs}
 use Rattle.oskorbine.proofs.clocks.osk_clock_window.Statement.{statement}
@@ -22,12 +23,15 @@ refused-requires c κs = search needs
 enum-known-size : tie.Need-enum-known-size
 enum-known-size c = search needs
 
-accepted-requires : tie.Need-accepted-requires
-accepted-requires c κs =
+cast-accepted : tie.Need-cast-accepted
+cast-accepted c =
     let call = c .before .before .before .before .before in
     let a = call .before .before .before .args in
     let fit = subst (λ (x : Looked). Fit (lookedParts x)) (sym (call .look .ensures .0) ∙ c .before .size .given .1) (look-fits (a .state .now) (a .position) (length (a .out .now))) in
-    (omega arith, fit .second-fits)
+    omega (arith, fit .second-fits)
+
+accepted-requires : tie.Need-accepted-requires
+accepted-requires c κs = search needs
 
 same-length : tie.Need-same-length
 same-length c = search needs
@@ -53,6 +57,7 @@ osk-clock-window-spec =
     enum-known-refusal
     refused-requires
     enum-known-size
+    cast-accepted
     accepted-requires
     same-length
     returns

@@ -9,17 +9,18 @@ use borrow.Author.Needs.{needs}
 use Rattle.priorities.specs.declared.outputs.Events.{Events}
 use Rattle.discharge.specs.declared.question.Discharged.{Discharged}
 use Rattle.discharge.specs.Question.{discharged, outputsAfter}
-use Rattle.oskorbine.specs.Packed.{packed, dischargedParts, Fit}
+use Rattle.packing.specs.Packed.{packed, Fit}
+use Rattle.oskorbine.specs.Answers.{dischargedParts}
 use Rattle.oskorbine.proofs.Fits.{discharge-fits}
 use Rattle.oskorbine.proofs.discharges.osk_discharge.Statement.{statement}
 use Rattle.oskorbine.proofs.discharges.osk_discharge.Tie as tie
 
-accepted-requires : tie.Need-accepted-requires
-accepted-requires c κs =
+cast-accepted : tie.Need-cast-accepted
+cast-accepted c =
     let call = c .before .before .before .before .before in
     let a = call .before .before .before .before .before .args in
     let fit = subst (λ (x : Discharged). Fit (dischargedParts x)) (sym (call .discharge .ensures .0) ∙ c .before .outputs .given .1) (discharge-fits (a .table .now) (a .position) (call .before .before .events-in .result) (a .phase) (length (a .out .now))) in
-    (omega (arith, fit .first-fits), omega (arith, fit .first-fits))
+    omega (arith, fit .first-fits)
 
 -- the question as the byte of events asks it: its answer, packed, and its outputs
 module _ (table : List ℕ) (position phase : ℕ) (out : List ℕ) {given asked : Events} (e : given ≡ asked) where
@@ -52,7 +53,8 @@ osk-discharge-spec =
     (λ c. search needs)
     (λ c κs. search needs)
     (λ c. search needs)
-    accepted-requires
+    cast-accepted
+    (λ c κs. search needs)
     (λ c. search needs)
     returns
     (λ c. search needs)

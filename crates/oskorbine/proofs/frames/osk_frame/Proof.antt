@@ -3,7 +3,8 @@
 use mathlib.Core.Path.{sym, ap, _∙_, subst}
 use lib.ListN.{length}
 use Rattle.chain.specs.declared.frames.Answer.{Answer}
-use Rattle.oskorbine.specs.Packed.{packed, frameParts, Fit}
+use Rattle.packing.specs.Packed.{packed, Fit}
+use Rattle.oskorbine.specs.Answers.{frameParts}
 use Rattle.oskorbine.proofs.Fits.{frame-fits}
 use borrow.Author.Needs.{needs}
 use Rattle.oskorbine.proofs.frames.osk_frame.Statement.{statement}

@@ -7,7 +7,7 @@ use lib.Dec.{lit<}
 use Rattle.laws.specs.Bits.{_⊕_, odd, bitsOf, bitsOfBytes}
 use Rattle.laws.specs.Tables.{tabulate}
 use Rattle.pec.specs.Remainder.{once, step, remainder}
-use Rattle.pec.specs.ByTable.{entry, tableOf}
+use Rattle.remainders.specs.ByTable.{entry, tableOf}
 use Rattle.pec.specs.Words.{polynomial10}
 use Rattle.pec.proofs.Remainder.{remainder-below, remainder-append}
 use Rattle.remainders.proofs.strings.pec10_and_bits.Statement.{statement}

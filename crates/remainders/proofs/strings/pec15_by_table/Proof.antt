@@ -6,7 +6,7 @@ use lib.Dec.{lit<}
 use Rattle.laws.specs.Bits.{_⊕_, odd, bitsOf}
 use Rattle.laws.specs.Tables.{tabulate}
 use Rattle.pec.specs.Remainder.{once, step, remainder}
-use Rattle.pec.specs.ByTable.{entry, tableOf}
+use Rattle.remainders.specs.ByTable.{entry, tableOf}
 use Rattle.pec.specs.Words.{pec15}
 use Rattle.remainders.proofs.strings.pec15_by_table.Statement.{statement}
 use Rattle.remainders.proofs.strings.pec15_by_table.Tie as tie

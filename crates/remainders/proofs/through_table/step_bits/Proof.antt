@@ -12,7 +12,7 @@ use lib.ListN.{getD}
 use lib.Pow.{pow-pos, pow-mono}
 use Rattle.laws.specs.Bits.{_⊕_}
 use Rattle.laws.proofs.Shifts.{power, up-fits}
-use Rattle.pec.specs.ByTable.{tableStep}
+use Rattle.remainders.specs.ByTable.{tableStep}
 use Rattle.remainders.proofs.ByTable.{index-below, table-step}
 use Rattle.remainders.proofs.through_table.step_bits.Statement.{statement}
 use Rattle.remainders.proofs.through_table.step_bits.Tie as tie
