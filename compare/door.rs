@@ -1,5 +1,6 @@
-//! The same of the door controller's library (target/c/libdoor.a), which has the host's functions alone. It is linked with no other, so a
-//! call of a function that it does not have is an error of the linker.
+//! Compares the door controller's library (target/c/libdoor.a), which has the host's functions alone, with the crate `model`, as
+//! oskorbine.rs does the whole one. It is linked with no other library, so a call of a function that it does not have is an error of the
+//! linker. Usage: door [SEED [ROUNDS]]
 
 // The files hold what the chain's cases need too. What nobody uses shows in oskorbine.rs, which has them all.
 #![allow(dead_code)]

@@ -2,7 +2,9 @@
 ghost use mathlib.Core.Path.{_≡_};
 ghost use mathlib.Core.Bool.{cond, _&&_};
 ghost use lib.ListN.{length};
+ghost use Rattle.pec.specs.Words.{sealedRight, numberRight};
 ghost use Rattle.records.specs.Record.{recordSize, isRecord};
+ghost use Rattle.records.specs.Commands.{dataSize};
 ghost use Rattle.monitor.specs.Effects.{locked, nextCount, counted, done, goodFor, accepts, takes, keeps};
 use monitor::carry_out;
 use records::Bare;
@@ -51,15 +53,23 @@ fn act_bare(what: Bare, rec: &mut [u8])
     carry_out(what, rec);
 }
 
+// A monitor's own bytes as the number that their check goes by. It is divided in one place: the division for six data bytes and that
+// for two would want more registers than the loop of the monitors has.
+fn number_for(what: Write, own: &[u8]) -> u64
+    ensures { λ r. ⌜ numberRight r ≡ sealedRight (dataSize what) (now (own .entry)) ⌝ }
+{
+    if data_size(what) == 6 {
+        return check_words::number_in(own);
+    }
+    check_words::four_in(own)
+}
+
 // Are a monitor's own bytes good for a write: right, or, where it does not need its check right, whatever bytes they are, if as many?
 fn good_for(what: Write, own: &[u8]) -> bool
     ensures { λ r. ⌜ r ≡ goodFor what (now (own .entry)) ⌝ }
 {
     if needs_check(what) {
-        if data_size(what) == 6 {
-            return check_words::number_right(check_words::number_in(own));
-        }
-        return check_words::four_right(own);
+        return check_words::number_right(number_for(what, own));
     }
     own.len() == width_of(Command::Writes(what))
 }

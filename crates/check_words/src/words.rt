@@ -156,14 +156,12 @@ pub fn sealed_two(two: &[u8; 2], counter: u8) -> [u8; 4]
     [eight[4], eight[5], eight[6], eight[7]]
 }
 
-// Are four bytes two of data and their check, over the six counter bits as they stand?
-pub fn four_right(four: &[u8]) -> bool
-    ensures { λ r. ⌜ r ≡ sealedRight 2 (now (four .entry)) ⌝ }
+// Four bytes behind it.
+fn eight_of(four: &[u8]) -> [u8; 8]
+    requires { ⌜ length (now four) ≡ 4 ⌝ }
+    ensures { λ r. ⌜ r ≡ 0x00 ∷ 0x00 ∷ 0x01 ∷ 0x1A ∷ now (four .entry) ⌝ }
 {
-    if four.len() != 4 {
-        return false;
-    }
-    let eight = [
+    [
         LEAD[0],
         LEAD[1],
         LEAD[2],
@@ -172,6 +170,26 @@ pub fn four_right(four: &[u8]) -> bool
         four[1],
         four[2],
         four[3],
-    ];
-    payload_right(&eight)
+    ]
+}
+
+// Two bytes of data and the two that seal them as one number, and 0 for another length: what `number_in` is for a payload.
+pub fn four_in(four: &[u8]) -> u64
+    ensures { λ r. ⌜ r ≡ numberIn (0x00 ∷ 0x00 ∷ 0x01 ∷ 0x1A ∷ now (four .entry)) ⌝ }
+    ensures { λ r. ⌜ numberRight r ≡ sealedRight 2 (now (four .entry)) ⌝ }
+{
+    if four.len() != 4 {
+        return 0;
+    }
+    number_in(&eight_of(four))
+}
+
+// Are four bytes two of data and their check, over the six counter bits as they stand?
+pub fn four_right(four: &[u8]) -> bool
+    ensures { λ r. ⌜ r ≡ sealedRight 2 (now (four .entry)) ⌝ }
+{
+    if four.len() != 4 {
+        return false;
+    }
+    payload_right(&eight_of(four))
 }

@@ -1,6 +1,7 @@
 // Refusals 1 to 5, by what both engines know of a frame.
 ghost use mathlib.Core.Path.{_≡_};
 ghost use lib.ListN.{take};
+ghost use Rattle.pec.specs.Words.{wordAt};
 ghost use Rattle.judging.specs.Refusals.{commandIn};
 ghost use Rattle.judging.specs.Heads.{headJudged};
 use records::Command;
@@ -13,13 +14,20 @@ pub enum Judged {
     Good(Command, usize),
 }
 
-// The command of a frame; of one under two bytes as though zeros followed.
-pub fn command_in(frame: &[u8]) -> Command
-    ensures { λ r. ⌜ r ≡ commandIn (now (frame .entry)) ⌝ }
+// The code of a frame; of one under two bytes as though zeros followed.
+fn code_in(frame: &[u8]) -> u16
+    ensures { λ r. ⌜ r ≡ wordAt (now (frame .entry)) 0 ⌝ }
 {
     let high = records::byte_at(frame, 0) as u16;
     let low = records::byte_at(frame, 1) as u16;
-    records::command_of(high * 256 + low)
+    high * 256 + low
+}
+
+// The command of a frame.
+pub fn command_in(frame: &[u8]) -> Command
+    ensures { λ r. ⌜ r ≡ commandIn (now (frame .entry)) ⌝ }
+{
+    records::command_of(code_in(frame))
 }
 
 // The first four bytes of a frame, and all of a shorter one.
@@ -49,7 +57,8 @@ pub fn judge_head(frame: &[u8], bytes: usize, n: usize) -> Judged
     if !check_words::command_right(head_of(frame)) {
         return Judged::Bad(Refusal::CommandWrong);
     }
-    let command = command_in(frame);
+    // Not by `command_in`: the slice would go on in memory, and every frame waits for it to be copied there.
+    let command = records::command_of(code_in(frame));
     if !records::is_listed(command) {
         return Judged::Bad(Refusal::CodeNotListed);
     }

@@ -114,6 +114,7 @@ pub record Promises : Type 2 where
   number-right : Promised check_words.number_right.Statement.statement check_words.number_right.Reads.Asked
   payload-right : Promised check_words.payload_right.Statement.statement check_words.payload_right.Reads.Asked
   sealed-two : Promised check_words.sealed_two.Statement.statement check_words.sealed_two.Reads.Asked
+  four-in : Promised check_words.four_in.Statement.statement check_words.four_in.Reads.Asked
   four-right : Promised check_words.four_right.Statement.statement check_words.four_right.Reads.Asked
   pec10-bitwise : Promised remainders.pec10_bitwise.Statement.statement remainders.pec10_bitwise.Reads.Asked
   pec10-by-table : Promised remainders.pec10_by_table.Statement.statement remainders.pec10_by_table.Reads.Asked
@@ -303,6 +304,7 @@ proved =
       number-right = (λ M. check_words.number_right.Met.met, λ κ a. tt);
       payload-right = (λ M. check_words.payload_right.Met.met, λ κ a. tt);
       sealed-two = (λ M. check_words.sealed_two.Met.met, λ κ a. tt);
+      four-in = (λ M. check_words.four_in.Met.met, λ κ a. tt);
       four-right = (λ M. check_words.four_right.Met.met, λ κ a. tt);
       pec10-bitwise = (λ M. remainders.pec10_bitwise.Met.met, λ κ a. tt);
       pec10-by-table = (λ M. remainders.pec10_by_table.Met.met, λ κ a. tt);

@@ -140,6 +140,7 @@ pub record OneOutcome : Type 0 where
   data-pec : Settles remainders.data_pec.Reads.Post (λ κ z e. leaves z []) (λ κ a. leaves (dataPec (now (a .0)) (a .1 .0)) [])
   number-in : Settles check_words.number_in.Reads.Post (λ κ z e. leaves z []) (λ κ a. leaves (numberIn (now (a .0))) [])
   number-right : Settles check_words.number_right.Reads.Post (λ κ z e. leaves z []) (λ κ a. leaves (numberRight (a .0)) [])
+  four-in : Settles check_words.four_in.Reads.Post (λ κ z e. leaves z []) (λ κ a. leaves (numberIn (0x00 ∷ 0x00 ∷ 0x01 ∷ 0x1A ∷ now (a .0))) [])
   four-right : Settles check_words.four_right.Reads.Post (λ κ z e. leaves z []) (λ κ a. leaves (sealedRight 2 (now (a .0))) [])
   payload-right : Settles check_words.payload_right.Reads.Post (λ κ z e. leaves z []) (λ κ a. leaves (payloadRight (now (a .0))) [])
   pec10-bitwise : Settles remainders.pec10_bitwise.Reads.Post (λ κ z e. leaves z []) (λ κ a. leaves (pec10 (now (a .0))) [])
@@ -279,6 +280,7 @@ one-outcomes =
       data-pec = settles (λ κ a z e p i. leaves (p i) []);
       number-in = settles (λ κ a z e p i. leaves (p .0 i) []);
       number-right = settles (λ κ a z e p i. leaves (p i) []);
+      four-in = settles (λ κ a z e p i. leaves (p .0 i) []);
       four-right = settles (λ κ a z e p i. leaves (p i) []);
       payload-right = settles (λ κ a z e p i. leaves (p i) []);
       pec10-bitwise = settles (λ κ a z e p i. leaves (p i) []);

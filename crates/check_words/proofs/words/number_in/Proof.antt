@@ -1,20 +1,21 @@
 -- `check_words::words::number_in` meets its contract: nothing is left of the payload as one number exactly when its last ten bits are the
 -- check of those before them.
 -- Assumes nothing.
-use mathlib.Core.Path.{_≡_, refl, sym, ap, _∙_}
-use mathlib.Core.Bool.{Bool, false, cond, xor, _&&_}
+use mathlib.Core.Path.{_≡_, sym, ap, _∙_}
+use mathlib.Core.Bool.{Bool, cond, _&&_}
 use mathlib.Core.List.{List}
 use Prim.Native.Nat.{ℕ, _/_, _%_}
 use native.Mathlib.Omega.{arith}
 use lib.Dec.{eqb}
 use lib.ListN.{length, take}
 use borrow.Author.Tests.{eq-eqb, ne-eqb}
-use Rattle.laws.specs.Bits.{_⊕_, odd, bitsOf, Bytes, numberOf}
+use Rattle.laws.specs.Bits.{bitsOf, Bytes, numberOf}
 use Rattle.laws.proofs.Numbers.{bits-of-string}
-use Rattle.pec.specs.Remainder.{once, step, remainder}
+use Rattle.pec.specs.Remainder.{remainder}
 use Rattle.pec.specs.Words.{wordAt, polynomial10, dataPec, sealedRight, payloadRight, numberIn, numberRight}
 use Rattle.pec.proofs.Right.{sealed-left}
 use borrow.Author.Needs.{needs}
+use Rattle.check_words.proofs.Zero.{none-right}
 use Rattle.check_words.proofs.words.number_in.Statement.{statement}
 use Rattle.check_words.proofs.words.number_in.Tie as tie
 
@@ -26,19 +27,12 @@ module _ (eight : List ℕ) (h : Bytes eight) (e : length eight ≡ 8) where
   check : eqb (remainder 10 polynomial10 16 (bitsOf 64 (numberOf eight))) 0 ≡ checked eight
   check = ap (λ (bs : List Bool). eqb (remainder 10 polynomial10 16 bs) 0) (bits-of-string 64 eight h (omega arith)) ∙ sealed-left eight h 6 e
 
--- another length is not right, and neither is 0
-zero-wrong : numberRight 0 ≡ false
-unfolding numberRight remainder step once bitsOf odd _⊕_ xor
-zero-wrong = refl
-
 returns : tie.Need-returns
-unfolding numberIn payloadRight sealedRight
+unfolding numberIn
 returns c =
     let eight = c .before .before .args .eight .now in
-    let other = ne-eqb (length eight) 8 (c .if1 .taken) in (
-      sym (ap (λ (b : Bool). cond b (numberOf eight) 0) other),
-      zero-wrong ∙ sym (ap (λ (b : Bool). b && checked eight) other),
-    )
+    let other = ne-eqb (length eight) 8 (c .if1 .taken) in
+    (sym (ap (λ (b : Bool). cond b (numberOf eight) 0) other), none-right eight other)
 
 number-by-parts-requires : tie.Need-number-by-parts-requires
 number-by-parts-requires c κs = search needs

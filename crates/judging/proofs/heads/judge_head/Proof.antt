@@ -1,11 +1,12 @@
 -- `judging::heads::judge_head` meets its contract: each test is the condition of a refusal, in their order.
 -- Assumes nothing.
 use mathlib.Core.Path.{_≡_, sym, ap, _∙_}
+use Prim.Native.Nat.{ℕ}
 use borrow.Author.Tests.{not-true, not-false}
 use lib.ListN.{take}
 use Rattle.pec.specs.Words.{commandRight}
 use Rattle.records.specs.declared.commands.Command.{Command}
-use Rattle.records.specs.Commands.{isListed, frameLength}
+use Rattle.records.specs.Commands.{commands, commandOf, isListed, frameLength}
 use Rattle.judging.specs.declared.heads.Judged.the-variants.{Good}
 use Rattle.judging.specs.Refusals.{commandIn}
 use Rattle.judging.specs.Heads.{headJudged}
@@ -34,18 +35,23 @@ after-command c =
     let a = c .before .before .before .before .before .before .before .args in
     after-short (c .before .before .before) ∙ pass-command (a .frame .now) (a .bytes) (a .n) (check-of (c .before) ∙ not-false _ (c .if4 .left))
 
-listed-of : (c : tie.After-is-listed) → let a = c .before .before .before .before .before .before .before .before .before .args in isListed (commandIn (a .frame .now)) ≡ c .is-listed .result
-listed-of c = ap isListed (sym (c .before .command-in .ensures)) ∙ sym (c .is-listed .ensures)
+-- the command of the head
+command-of-head : (c : tie.After-command-of) → c .command-of .result ≡ commandIn (c .before .before .before .before .before .before .before .before .before .args .frame .now)
+unfolding commandIn
+command-of-head c = c .command-of .ensures ∙ ap (λ (code : ℕ). commandOf code commands) (c .before .code-in .ensures)
 
-after-listed : (c : tie.Else5) → let a = c .before .before .before .before .before .before .before .before .before .before .args in headJudged (a .frame .now) (a .bytes) (a .n) ≡ from (a .frame .now) (a .bytes) (a .n) 4
+listed-of : (c : tie.After-is-listed) → let a = c .before .before .before .before .before .before .before .before .before .before .args in isListed (commandIn (a .frame .now)) ≡ c .is-listed .result
+listed-of c = ap isListed (sym (command-of-head (c .before))) ∙ sym (c .is-listed .ensures)
+
+after-listed : (c : tie.Else5) → let a = c .before .before .before .before .before .before .before .before .before .before .before .args in headJudged (a .frame .now) (a .bytes) (a .n) ≡ from (a .frame .now) (a .bytes) (a .n) 4
 after-listed c =
-    let a = c .before .before .before .before .before .before .before .before .before .before .args in
-    after-command (c .before .before .before) ∙ pass-listed (a .frame .now) (a .bytes) (a .n) (listed-of (c .before) ∙ not-false _ (c .if5 .left))
-
-length-of : (c : tie.After-frame-length) → let a = c .before .before .before .before .before .before .before .before .before .before .before .args in c .frame-length .result ≡ frameLength (commandIn (a .frame .now)) (a .n)
-length-of c =
     let a = c .before .before .before .before .before .before .before .before .before .before .before .args in
-    within-most (a .n) _ (c .before .before .before .before .before .before .before .before .if2 .left) (c .frame-length .ensures) ∙ ap (λ (k : Command). frameLength k (a .n)) (c .before .before .before .command-in .ensures)
+    after-command (c .before .before .before .before) ∙ pass-listed (a .frame .now) (a .bytes) (a .n) (listed-of (c .before) ∙ not-false _ (c .if5 .left))
+
+length-of : (c : tie.After-frame-length) → let a = c .before .before .before .before .before .before .before .before .before .before .before .before .args in c .frame-length .result ≡ frameLength (commandIn (a .frame .now)) (a .n)
+length-of c =
+    let a = c .before .before .before .before .before .before .before .before .before .before .before .before .args in
+    within-most (a .n) _ (c .before .before .before .before .before .before .before .before .before .if2 .left) (c .frame-length .ensures) ∙ ap (λ (k : Command). frameLength k (a .n)) (command-of-head (c .before .before .before))
 
 -- ---- the answers
 
@@ -75,29 +81,32 @@ returns-4 c =
     let a = c .before .before .before .before .before .before .before .args in
     sym (after-short (c .before .before .before) ∙ stop-command (a .frame .now) (a .bytes) (a .n) (check-of (c .before) ∙ not-true _ (c .if4 .taken)))
 
-command-in-requires : tie.Need-command-in-requires
-command-in-requires c κs = search needs
+code-in-requires : tie.Need-code-in-requires
+code-in-requires c κs = search needs
+
+command-of-requires : tie.Need-command-of-requires
+command-of-requires c κs = search needs
 
 is-listed-requires : tie.Need-is-listed-requires
 is-listed-requires c κs = search needs
 
 returns-5 : tie.Need-returns-5
 returns-5 c =
-    let a = c .before .before .before .before .before .before .before .before .before .before .args in
-    sym (after-command (c .before .before .before) ∙ stop-listed (a .frame .now) (a .bytes) (a .n) (listed-of (c .before) ∙ not-true _ (c .if5 .taken)))
+    let a = c .before .before .before .before .before .before .before .before .before .before .before .args in
+    sym (after-command (c .before .before .before .before) ∙ stop-listed (a .frame .now) (a .bytes) (a .n) (listed-of (c .before) ∙ not-true _ (c .if5 .taken)))
 
 frame-length-requires : tie.Need-frame-length-requires
 frame-length-requires c κs = search needs
 
 returns-6 : tie.Need-returns-6
 returns-6 c =
-    let a = c .before .before .before .before .before .before .before .before .before .before .before .before .args in
+    let a = c .before .before .before .before .before .before .before .before .before .before .before .before .before .args in
     sym (after-listed (c .before .before) ∙ stop-length (a .frame .now) (a .bytes) (a .n) (λ e. c .if6 .taken (e ∙ sym (length-of (c .before)))))
 
 returns-7 : tie.Need-returns-7
 returns-7 c =
-    let a = c .before .before .before .before .before .before .before .before .before .before .before .before .args in
-    ap (λ (k : Command). Good k (a .n)) (c .before .before .before .before .command-in .ensures)
+    let a = c .before .before .before .before .before .before .before .before .before .before .before .before .before .args in
+    ap (λ (k : Command). Good k (a .n)) (command-of-head (c .before .before .before .before))
     ∙ sym (after-listed (c .before .before) ∙ pass-length (a .frame .now) (a .bytes) (a .n) (c .if6 .left ∙ length-of (c .before)))
 
 pub judge-head-spec : {M : Type 1} → statement M
@@ -110,7 +119,8 @@ judge-head-spec =
     head-of-requires
     command-right-requires
     returns-4
-    command-in-requires
+    code-in-requires
+    command-of-requires
     is-listed-requires
     returns-5
     frame-length-requires
