@@ -5,20 +5,18 @@ ghost use Rattle.records.specs.Record.{recordSize};
 use crate::asleep::put_to_sleep;
 use crate::book::BEATS;
 use crate::book::count;
+use crate::engines::through;
 use crate::frames::flip;
+use crate::frames::put_check;
+use crate::lay::lay;
 use crate::luck::draw;
 use crate::luck::now_and_then;
-use crate::outcomes::BEFORE;
 use crate::outcomes::Outcome;
-use crate::outcomes::TABLE;
-use crate::outcomes::of;
 use crate::outcomes::weighed;
 use crate::world::World;
-use chain::Numbers;
 use passing::Relayed;
 use passing::Sent;
 use passing::TimedOut;
-use refusals::Refusal;
 
 // The kinds: the others of five are whole heartbeats too.
 const WAKE: usize = 0;
@@ -27,10 +25,13 @@ const RELAY: usize = 1;
 
 const TIME_OUT: usize = 2;
 
-const KINDS: usize = 5;
+pub(crate) const KINDS: usize = 5;
+
+// A message with no count, no flags and no check yet, and a byte more.
+const HEAD: [u8; 9] = *b"\x00\x43\x47\xb2\x00\x00\x00\x00\xff";
 
 // The counts that messages come with.
-const COUNTS: [u8; 8] = [0x43, 0x43, 0x42, 0x44, 0x00, 0x01, 0x62, 0xff];
+const COUNTS: [usize; 8] = [0x43, 0x43, 0x42, 0x44, 0x00, 0x01, 0x62, 0xff];
 
 // An operation: its kind, how many bytes of the table and of the message are lent, the position, and the room.
 struct Operation {
@@ -43,54 +44,39 @@ struct Operation {
     luck: usize,
 }
 
-fn refused(refusal: Refusal) -> Numbers {
-    Numbers {
-        number: refusals::number_of(refusal),
-        taken: 0,
-        reply: 0,
-    }
-}
-
-fn done(taken: usize, reply: usize) -> Numbers {
-    Numbers {
-        number: 0,
-        taken,
-        reply,
-    }
-}
-
-fn of_sent(came: Sent) -> Numbers {
+// What came, as in an outcome: its number, the answer, and the bytes of the message that is handed out.
+fn of_sent(came: Sent) -> usize {
     match came {
-        Sent::Unsent(refusal) => refused(refusal),
-        Sent::Nothing => done(0, 0),
-        Sent::TowardsA => done(1, 8),
-        Sent::TowardsB => done(2, 8),
+        Sent::Unsent(refusal) => (refusals::number_of(refusal) as usize) << 24,
+        Sent::Nothing => 0x00_00_00_00,
+        Sent::TowardsA => 0x00_01_08_00,
+        Sent::TowardsB => 0x00_02_08_00,
     }
 }
 
-fn of_relayed(came: Relayed) -> Numbers {
+fn of_relayed(came: Relayed) -> usize {
     match came {
-        Relayed::Unrelayed(refusal) => refused(refusal),
-        Relayed::Stopped => done(0, 0),
-        Relayed::SentOn => done(1, 8),
+        Relayed::Unrelayed(refusal) => (refusals::number_of(refusal) as usize) << 24,
+        Relayed::Stopped => 0x00_00_00_00,
+        Relayed::SentOn => 0x00_01_08_00,
     }
 }
 
-fn of_timed_out(came: TimedOut) -> Numbers {
+fn of_timed_out(came: TimedOut) -> usize {
     match came {
-        TimedOut::Untimed(refusal) => refused(refusal),
-        TimedOut::NoTimeoutMonitor => done(0, 0),
-        TimedOut::RanOut => done(1, 0),
+        TimedOut::Untimed(refusal) => (refusals::number_of(refusal) as usize) << 24,
+        TimedOut::NoTimeoutMonitor => 0x00_00_00_00,
+        TimedOut::RanOut => 0x00_01_00_00,
     }
 }
 
-fn operate(
+pub(crate) fn operate(
     kind: usize,
     table: &mut [u8],
     position: usize,
     message: &[u8],
     out: &mut [u8],
-) -> Numbers {
+) -> usize {
     match kind {
         WAKE => of_sent(passing::wake(table, position, out)),
         RELAY => of_relayed(passing::relay(table, position, message, out)),
@@ -99,37 +85,16 @@ fn operate(
     }
 }
 
-struct Message {
-    bytes: [u8; 9],
-    luck: usize,
-}
-
-// A message, mostly right: at times it has flags or counter bits, and at times a bit turned over. None drawn is 0 in both remainders.
-fn message_drawn(luck: usize) -> Message {
-    let which = draw(luck, 8);
-    let flags = now_and_then(which.luck, 4, 256);
-    let counter = now_and_then(flags.luck, 4, 64);
-    let bit = now_and_then(counter.luck, 4, 64);
-    let counts = COUNTS;
-    let k = which.number;
-    let two = [counts[k], (flags.number % 256) as u8];
-    let seal = remainders::seal(&two, (counter.number % 64) as u8);
-    let mut bytes = [
-        0x00,
-        0x43,
-        0x47,
-        0xb2,
-        two[0],
-        two[1],
-        seal[0],
-        seal[1],
-        0xff,
-    ];
-    flip(&mut bytes, 0, bit.number);
-    Message {
-        bytes,
-        luck: bit.luck,
-    }
+// A message of one of eight counts, at times with a bit turned over. What was not drawn is 0 in both remainders.
+fn message(count: usize, flags: usize, counter: usize, bit: usize) -> [u8; 9]
+    requires { ⌜ count < 8 ⌝ }
+{
+    let three = COUNTS[count] << 16 | flags % 256 << 8 | counter % 64 << 2;
+    let mut bytes = HEAD;
+    lay(&mut bytes, 4, 3, three);
+    put_check(&mut bytes, 4, 2);
+    flip(&mut bytes, 0, bit);
+    bytes
 }
 
 // Eight bytes, or at times others.
@@ -144,57 +109,29 @@ fn near_eight(drawn: usize) -> usize
     }
 }
 
-// At times a byte of the table is not lent.
-fn lent(drawn: usize, size: usize) -> usize
-    ensures { λ r. ⌜ r ≤ size ⌝ }
-{
-    if drawn == 0 {
-        if size > 0 {
-            return size - 1;
-        }
-    }
-    size
-}
-
-// At times of no monitor of the chain.
+// At times of no monitor of the chain, and at times a byte of the table is not lent. The message is mostly right; at times it has flags or
+// counter bits.
 fn operation_drawn(kind: usize, n: usize, size: usize, luck: usize) -> Operation
-    requires { ⌜ (n ≤ 32) × (size ≤ 32 * recordSize + 1) ⌝ }
+    requires { ⌜ (n ≤ 32) × (0 < size) × (size ≤ 32 * recordSize + 1) ⌝ }
     ensures { λ r. ⌜ (r .size ≤ 32 * recordSize + 1) × (r .length ≤ 9) × (r .room ≤ 9) ⌝ }
 {
     let position = draw(luck, n + 2);
     let short = draw(position.luck, 16);
     let length = draw(short.luck, 16);
     let room = draw(length.luck, 16);
-    let drawn = message_drawn(room.luck);
-    let message = drawn.bytes;
+    let which = draw(room.luck, 8);
+    let flags = now_and_then(which.luck, 4, 256);
+    let counter = now_and_then(flags.luck, 4, 64);
+    let bit = now_and_then(counter.luck, 4, 64);
     Operation {
         kind,
-        size: lent(short.number, size),
+        size: size - (short.number == 0) as usize % 2,
         position: position.number,
-        message,
+        message: message(which.number, flags.number, counter.number, bit.number),
         length: near_eight(length.number),
         room: near_eight(room.number),
-        luck: drawn.luck,
+        luck: bit.luck,
     }
-}
-
-// What comes of an operation on a table.
-fn outcome(o: Operation, message: [u8; 9], before: Outcome) -> Outcome
-    requires { ⌜ (o .size ≤ 32 * recordSize + 1) × (o .length ≤ 9) × (o .room ≤ 9) ⌝ }
-{
-    let mut table = before;
-    let mut out = BEFORE;
-    let end = TABLE + o.size;
-    let length = o.length;
-    let room = o.room;
-    let came = operate(
-        o.kind,
-        &mut table[TABLE..end],
-        o.position,
-        &message[0..length],
-        &mut out[0..room],
-    );
-    of(table, came, out)
 }
 
 // Its place among the counts: by its kind what came of it, and last that it was refused.
@@ -217,18 +154,31 @@ fn place_of(kind: usize, number: u8, first: u8) -> usize
     }
 }
 
-// On both tables; what is left of the first may be kept, where the operation was not refused.
-fn operated(world: World, o: Operation, keep: bool, one: Outcome, other: Outcome) -> World
+// What came of it is counted. What is left of the table may be kept, where it was not refused.
+fn told(mut w: World, kind: usize, keep: bool, came: Outcome) -> World {
+    let number = came[0];
+    if keep & (number == 0) {
+        w.table = came;
+    }
+    count(w, BEATS + place_of(kind, number, came[1]), 1)
+}
+
+// On both tables.
+fn operated(
+    w: World,
+    o: Operation,
+    message: [u8; 9],
+    keep: bool,
+    one: Outcome,
+    other: Outcome,
+) -> World
     requires { ⌜ (o .size ≤ 32 * recordSize + 1) × (o .length ≤ 9) × (o .room ≤ 9) ⌝ }
 {
-    let message = o.message;
-    let a = outcome(o, message, one);
-    let b = outcome(o, message, other);
-    let mut w = weighed(world, &a, &b);
-    if keep & (a[0] == 0) {
-        w.table = a;
-    }
-    count(w, BEATS + place_of(o.kind, a[0], a[1]), 1)
+    let length = o.length;
+    let lent = &message[0..length];
+    let a = through(o.kind, one, o.size, o.position, lent, o.room);
+    let b = through(o.kind, other, o.size, o.position, lent, o.room);
+    told(weighed(w, &a, &b), o.kind, keep, a)
 }
 
 // In a chain that was put to sleep mostly the position of its manager, for a message or a timeout that of what may stop one.
@@ -263,7 +213,8 @@ fn operated_asleep(mut w: World, n: usize, mut o: Operation, one: Outcome, other
         asleep.manager,
         asleep.other,
     );
-    operated(w, o, pick.number < 4, a, b)
+    let message = o.message;
+    operated(w, o, message, pick.number < 4, a, b)
 }
 
 // Now and then an operation, at times after the chain was put to sleep.
@@ -274,7 +225,7 @@ pub(crate) fn now_and_then_operated(
     one: Outcome,
     other: Outcome,
 ) -> World
-    requires { ⌜ (0 < n) × (n ≤ 32) × (size ≤ 32 * recordSize + 1) ⌝ }
+    requires { ⌜ (0 < n) × (n ≤ 32) × (0 < size) × (size ≤ 32 * recordSize + 1) ⌝ }
 {
     let kind = draw(w.luck, KINDS + 1);
     let sleep = draw(kind.luck, 2);
@@ -287,5 +238,6 @@ pub(crate) fn now_and_then_operated(
         return operated_asleep(w, n, o, one, other);
     }
     w.luck = o.luck;
-    operated(w, o, true, one, other)
+    let message = o.message;
+    operated(w, o, message, true, one, other)
 }

@@ -6,6 +6,7 @@ use crate::book::NUMBERS_BY_HAND;
 use crate::book::numbered;
 use crate::digest::adler;
 use crate::digest::step;
+use crate::engines::WHOLE;
 use crate::engines::through;
 use crate::looks;
 use crate::luck::draw;
@@ -16,6 +17,7 @@ use crate::outcomes::REPLY_ROOM;
 use crate::outcomes::Reply;
 use crate::outcomes::TABLE;
 use crate::outcomes::compared;
+use crate::outcomes::head_of;
 use crate::outcomes::of;
 use crate::outcomes::refused;
 use crate::world::World;
@@ -57,7 +59,7 @@ fn due(table: Outcome, way: usize, n: usize, frame: &[u8]) -> Outcome
             refused(table, 1)
         },
         4 => refused(table, 1),
-        _ => through(false, table, RECORD_SIZE * n, frame, REPLY_ROOM),
+        _ => through(WHOLE, table, RECORD_SIZE * n, 0, frame, REPLY_ROOM),
     }
 }
 
@@ -105,10 +107,11 @@ fn release(state: &mut [u8; STATE_SIZE], before: Outcome, size: usize, back: Rep
     let mut table = before;
     let end = TABLE + size;
     let came = chain::numbers_of(releasing::release(state, &mut table[TABLE..end]));
+    let head = head_of(came);
     if came.reply == 0 {
-        return of(table, came, BEFORE);
+        return of(table, head, BEFORE);
     }
-    of(table, came, back)
+    of(table, head, back)
 }
 
 // What comes of the release, and what is due.
@@ -121,7 +124,7 @@ fn released(mut w: World, size: usize, due: Outcome) -> World
     let one = release(&mut state, table, size, back);
     w.state = state;
     w.by_hand = adler(w.by_hand, &one);
-    compared(numbered(w, NUMBERS_BY_HAND, 6, one[0]), one, due)
+    compared(numbered(w, NUMBERS_BY_HAND, 6, one[0]), &one, &due)
 }
 
 // The state is as the last release left it; now and then a frame that had begun is given up.

@@ -1,15 +1,15 @@
 // One frame through both engines, from equal tables and equal reply buffers.
 ghost use Prim.Native.Nat.{_+_, _*_, _<_, _≤_};
 ghost use Rattle.records.specs.Record.{recordSize};
+use crate::beats::KINDS;
 use crate::beats::now_and_then_operated;
-use crate::book::BARES;
+use crate::beats::operate;
 use crate::book::COMMANDS;
 use crate::book::FRAMES;
 use crate::book::NUMBERS;
 use crate::book::OFFERED;
 use crate::book::READS;
 use crate::book::TOOK;
-use crate::book::WRITES;
 use crate::book::count;
 use crate::book::numbered;
 use crate::frames::FIRST_BARE;
@@ -18,50 +18,62 @@ use crate::outcomes::BEFORE;
 use crate::outcomes::Outcome;
 use crate::outcomes::TABLE;
 use crate::outcomes::compared;
+use crate::outcomes::head_of;
 use crate::outcomes::of;
 use crate::outcomes::refused;
 use crate::outcomes::weighed;
 use crate::questions::asked;
 use crate::tables::spoil;
 use crate::world::World;
-use chain::Numbers;
 use std::num::wrapping_add_usize;
 
-// By the clocked engine, or by the whole-frame engine.
-fn handle(by_clock: bool, table: &mut [u8], frame: &[u8], reply: &mut [u8]) -> Numbers {
-    if by_clock {
-        return chain::numbers_of(clocked::handle(table, frame, reply));
+// What goes through, beside the kinds of operation: a frame by the whole-frame engine, or by the clocked engine.
+pub(crate) const WHOLE: usize = KINDS;
+
+const CLOCKED: usize = KINDS + 1;
+
+fn handle(kind: usize, table: &mut [u8], position: usize, bytes: &[u8], out: &mut [u8]) -> usize {
+    match kind {
+        WHOLE => head_of(chain::numbers_of(chain::handle(table, bytes, out))),
+        CLOCKED => head_of(chain::numbers_of(clocked::handle(table, bytes, out))),
+        _ => operate(kind, table, position, bytes, out),
     }
-    chain::numbers_of(chain::handle(table, frame, reply))
 }
 
-// An engine over the first bytes of a table and of a reply buffer.
+// An engine, or an operation at a position, over the first bytes of a table and of a reply buffer.
 pub(crate) fn through(
-    by_clock: bool,
+    kind: usize,
     lent: Outcome,
     size: usize,
-    frame: &[u8],
+    position: usize,
+    bytes: &[u8],
     room: usize,
 ) -> Outcome
     requires { ⌜ (size ≤ 32 * recordSize + 1) × (room ≤ 272) ⌝ }
 {
     let mut table = lent;
-    let mut reply = BEFORE;
+    let mut out = BEFORE;
     let end = TABLE + size;
-    let came = handle(by_clock, &mut table[TABLE..end], frame, &mut reply[0..room]);
-    of(table, came, reply)
+    let head = handle(
+        kind,
+        &mut table[TABLE..end],
+        position,
+        bytes,
+        &mut out[0..room],
+    );
+    of(table, head, out)
 }
 
-// What became of a frame that was accepted.
-fn accepted(world: World, n: usize, command: usize, taken: u8) -> World {
-    let w = count(world, wrapping_add_usize(COMMANDS, command), 1);
-    if command < FIRST_WRITE {
-        return count(w, READS, 1);
+// What became of a frame that was accepted: reads, writes and bare commands are counted in this order.
+fn accepted(w: World, n: usize, command: usize, taken: u8) -> World {
+    let bare = (FIRST_BARE <= command) as usize % 2;
+    let write = (FIRST_WRITE <= command) as usize % 2;
+    let w = count(w, wrapping_add_usize(COMMANDS, command), 1);
+    let w = count(w, READS + bare + write, 1);
+    if bare == write {
+        return w;
     }
-    if FIRST_BARE <= command {
-        return count(w, BARES, 1);
-    }
-    count(count(count(w, WRITES, 1), TOOK, taken as usize), OFFERED, n)
+    count(count(w, TOOK, taken as usize), OFFERED, n)
 }
 
 // What became of a frame, from the table that was lent.
@@ -69,7 +81,8 @@ fn noted(world: World, n: usize, command: usize, lent: Outcome, one: Outcome) ->
     let number = one[0];
     let mut w = numbered(count(world, FRAMES, 1), NUMBERS, 6, number);
     if number != 0 {
-        return compared(w, one, refused(lent, number));
+        let due = refused(lent, number);
+        return compared(w, &one, &due);
     }
     w.table = one;
     accepted(w, n, command, one[1])
@@ -85,7 +98,7 @@ fn followed(
     one: Outcome,
     other: Outcome,
 ) -> World
-    requires { ⌜ (0 < n) × (n ≤ 32) × (size ≤ 32 * recordSize + 1) ⌝ }
+    requires { ⌜ (0 < n) × (n ≤ 32) × (0 < size) × (size ≤ 32 * recordSize + 1) ⌝ }
 {
     let w = asked(weighed(w, &one, &other), n, size, one, other);
     let w = noted(w, n, command, lent, one);
@@ -98,8 +111,8 @@ pub(crate) fn both(mut w: World, n: usize, command: usize, frame: &[u8]) -> Worl
     let table = w.table;
     let s = spoil(table, n, w.luck);
     let lent = s.table;
-    let one = through(false, lent, s.size, frame, s.room);
-    let other = through(true, lent, s.size, frame, s.room);
+    let one = through(WHOLE, lent, s.size, 0, frame, s.room);
+    let other = through(CLOCKED, lent, s.size, 0, frame, s.room);
     w.luck = s.luck;
     followed(w, n, command, s.size, lent, one, other)
 }

@@ -4,6 +4,7 @@ ghost use Prim.Native.Nat.{_+_, _*_, _<_, _≤_};
 ghost use mathlib.Core.Path.{_≡_};
 ghost use lib.ListN.{length};
 use crate::book::COMMAND_COUNT;
+use crate::lay::lay;
 use crate::luck::Drawn;
 use crate::luck::NONE;
 use crate::luck::draw;
@@ -101,84 +102,48 @@ pub(crate) fn flip(bytes: &mut [u8], from: usize, bit: usize)
     }
 }
 
-// A code and its check.
-fn head_of(place: usize) -> [u8; 4]
-    requires { ⌜ place < 58 ⌝ }
-{
-    let codes = CODES;
-    let code = codes[place];
-    let check = check_words::command_check(code);
-    [
-        (code / 256 % 256) as u8,
-        (code % 256) as u8,
-        check[0],
-        check[1],
-    ]
-}
-
-// The place of a command's code, or of one that is not listed.
-fn place_of(command: usize, unlisted: usize) -> usize
-    requires { ⌜ command < 38 ⌝ }
-    ensures { λ r. ⌜ r < 58 ⌝ }
-{
-    if unlisted < UNLISTED {
-        return COMMAND_COUNT + unlisted;
-    }
-    command
-}
-
 // Now and then a bit of the code or of its check, or the 0 place after the check.
 fn head_bit(luck: usize) -> Drawn {
     let chance = draw(luck, 24);
     if chance.number == 0 {
         return draw(chance.luck, 32);
     }
-    if chance.number == 1 {
-        return Drawn {
-            luck: chance.luck,
-            number: 24,
-        };
-    }
+    let number = if chance.number == 1 { 24 } else { NONE };
     Drawn {
         luck: chance.luck,
-        number: NONE,
+        number,
     }
 }
 
-// The first four bytes of a frame. What luck is left is answered.
+// A code and its check.
+fn put_head(frame: &mut [u8], code: u16) {
+    lay(frame, 0, 2, code as usize);
+    bytes::put(frame, 2, &check_words::command_check(code));
+}
+
+// The first four bytes of a frame: now and then of a code that is not listed. What luck is left is answered.
 pub(crate) fn start(frame: &mut [u8], command: usize, luck: usize) -> usize
     requires { ⌜ command < 38 ⌝ }
 {
     let unlisted = now_and_then(luck, 12, UNLISTED);
     let bit = head_bit(unlisted.luck);
-    bytes::put(frame, 0, &head_of(place_of(command, unlisted.number)));
+    let place = if unlisted.number < UNLISTED {
+        COMMAND_COUNT + unlisted.number
+    } else {
+        command
+    };
+    put_head(frame, CODES[place % 58]);
     flip(frame, 0, bit.number);
     bit.luck
 }
 
-// The data bytes of each payload.
-fn data_size(command: usize) -> usize
-    ensures { λ r. ⌜ r ≤ 6 ⌝ }
-{
-    if command == CLRCMFLAG { 2 } else { 6 }
-}
-
-// Where payload k is, counted from 0.
-fn place_in(k: usize, size: usize) -> usize
-    requires { ⌜ k < 32 ⌝ }
-    ensures { λ r. ⌜ r < 260 ⌝ }
-{
-    if size == 2 { 4 + 4 * k } else { 4 + 8 * k }
-}
-
-// A payload of so many data bytes gets its check, over the counter bits as they were drawn; and then a bit of it may be turned over.
-fn put_check(frame: &mut [u8], at: usize, size: usize, bit: usize)
-    requires { ⌜ (at < 260) × (size ≤ 6) × (length (now frame) ≡ 600) ⌝ }
+// A payload of so many data bytes gets its check, over the counter bits as they were drawn.
+pub(crate) fn put_check(frame: &mut [u8], at: usize, size: usize)
+    requires { ⌜ at + size < length (now frame) ⌝ }
 {
     let end = at + size;
     let check = remainders::seal(&frame[at..end], frame[end] / 4);
     bytes::put(frame, end, &check);
-    flip(frame, at, bit);
 }
 
 // In some frames now and then a bit of a payload.
@@ -197,61 +162,40 @@ fn put_payloads(frame: &mut [u8], n: usize, size: usize, luck: usize) -> usize
 {
     let some = draw(luck, 2);
     let mut last = some.luck;
+    let mut at = 4;
     let mut k = 0;
     while k < n {
         let bit = payload_bit(some.number, size, last);
-        put_check(frame, place_in(k, size), size, bit.number);
+        put_check(frame, at, size);
+        flip(frame, at, bit.number);
         last = bit.luck;
+        at += size + 2;
         k += 1;
     }
     last
 }
 
-// The length in one of 32 ways, mostly the right one; the rest of what was drawn says how short or how long, where that is open.
-fn length_in(drawn: usize, right: usize, n: usize) -> usize
-    requires { ⌜ (drawn < 10880) × (0 < right) × (right ≤ 260) × (n ≤ 32) ⌝ }
+// The length in one of 32 ways, mostly the right one, which is so many bytes behind the command; the rest of what was drawn says how short
+// or how long, where that is open.
+fn length_in(drawn: usize, payloads: usize, n: usize) -> usize
+    requires { ⌜ (drawn < 10880) × (payloads ≤ 256) × (n ≤ 32) ⌝ }
     ensures { λ r. ⌜ r ≤ 600 ⌝ }
 {
     match drawn % 32 {
         0 => drawn / 32 % 4,
-        1 => right - 1,
-        2 => right + 1,
-        3 => right + 8,
+        1 => payloads + 3,
+        2 => payloads + 5,
+        3 => payloads + 12,
         // the longest and the shortest with payloads, of every command
         4 => 4 + 8 * n,
         8 => 4 + 4 * n,
         // a read or write with none
         5 => 4,
         // a count of bytes that wraps at 256 would take these for right
-        6 => right + 256,
+        6 => payloads + 260,
         // more than any frame has
         7 => 261 + drawn / 32,
-        _ => right,
-    }
-}
-
-// The length that is right for a command.
-fn right_length(command: usize, n: usize) -> usize
-    requires { ⌜ n ≤ 32 ⌝ }
-    ensures { λ r. ⌜ (0 < r) × (r ≤ 260) ⌝ }
-{
-    if command == CLRCMFLAG {
-        return 4 + 4 * n;
-    }
-    if command < FIRST_BARE {
-        return 4 + 8 * n;
-    }
-    4
-}
-
-fn length_of(command: usize, n: usize, luck: usize) -> Drawn
-    requires { ⌜ n ≤ 32 ⌝ }
-    ensures { λ r. ⌜ r .number ≤ 600 ⌝ }
-{
-    let drawn = draw(luck, 10880);
-    Drawn {
-        luck: drawn.luck,
-        number: length_in(drawn.number, right_length(command, n), n),
+        _ => payloads + 4,
     }
 }
 
@@ -286,15 +230,25 @@ pub(crate) fn make(n: usize, luck: usize) -> Frame
     ensures { λ r. ⌜ r .length ≤ 600 ⌝ }
 {
     let command = command_drawn(luck);
+    let kind = command.number;
+    // the data bytes of each payload, and how many bytes behind the command are right
+    let mut size = 6;
+    let mut payloads = 8 * n;
+    if kind == CLRCMFLAG {
+        size = 2;
+        payloads = 4 * n;
+    } else if FIRST_BARE <= kind {
+        payloads = 0;
+    }
     let mut bytes = [0; LONGEST];
     let left = fill(&mut bytes, command.luck);
-    let left = start(&mut bytes, command.number, left);
-    let left = put_payloads(&mut bytes, n, data_size(command.number), left);
-    let length = length_of(command.number, n, left);
+    let left = start(&mut bytes, kind, left);
+    let left = put_payloads(&mut bytes, n, size % 7, left);
+    let drawn = draw(left, 10880);
     Frame {
         bytes,
-        length: length.number,
-        command: command.number,
-        luck: length.luck,
+        length: length_in(drawn.number, payloads % 257, n),
+        command: kind,
+        luck: drawn.luck,
     }
 }

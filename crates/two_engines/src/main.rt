@@ -9,6 +9,7 @@ mod by_hand;
 mod digest;
 mod engines;
 mod frames;
+mod lay;
 mod looks;
 mod luck;
 mod outcomes;

@@ -2,6 +2,7 @@
 use crate::book::DIFFERENCES;
 use crate::book::count;
 use crate::digest::adler;
+use crate::lay::lay;
 use crate::world::World;
 use chain::Numbers;
 use records::RECORD_SIZE;
@@ -20,52 +21,37 @@ pub(crate) type Outcome = [u8; REPLY + REPLY_ROOM];
 // What a reply buffer holds before.
 pub(crate) const BEFORE: Reply = [0xa5; REPLY_ROOM];
 
-// The number. No frame comes to 255: that shows a count which its bytes cannot hold.
-fn number_of(came: Numbers) -> u8 {
-    if came.taken / 256 + came.reply / 65536 == 0 {
-        return came.number;
+// Four bytes of what came: the number, how many monitors took the frame, the length of the reply in two bytes, the lower one first. No frame
+// comes to 255: that shows a count which its bytes cannot hold.
+pub(crate) fn head_of(came: Numbers) -> usize {
+    let mut number = came.number as usize;
+    if came.taken / 256 + came.reply / 65536 != 0 {
+        number = 255;
     }
-    255
+    number << 24 | came.taken % 256 << 16 | came.reply % 256 << 8 | came.reply / 256 % 256
 }
 
-// The outcome with the table of another: the number, how many monitors took the frame, the length of the reply in two bytes.
-pub(crate) fn of(other: Outcome, came: Numbers, reply: Reply) -> Outcome {
+// The outcome with the table of another.
+pub(crate) fn of(other: Outcome, head: usize, reply: Reply) -> Outcome {
     let mut all = other;
+    lay(&mut all, 0, TABLE, head);
     bytes::put(&mut all, REPLY, &reply);
-    all[0] = number_of(came);
-    all[1] = (came.taken % 256) as u8;
-    all[2] = (came.reply % 256) as u8;
-    all[3] = (came.reply / 256 % 256) as u8;
     all
 }
 
 // A refusal changes nothing.
 pub(crate) fn refused(other: Outcome, number: u8) -> Outcome {
-    of(
-        other,
-        Numbers {
-            number,
-            taken: 0,
-            reply: 0,
-        },
-        BEFORE,
-    )
+    of(other, (number as usize) << 24, BEFORE)
 }
 
 // Counts a difference in any byte.
-pub(crate) fn compared(w: World, one: Outcome, other: Outcome) -> World {
-    if check::same(&one, &other) {
-        return w;
-    }
-    count(w, DIFFERENCES, 1)
+pub(crate) fn compared(w: World, one: &[u8], other: &[u8]) -> World {
+    count(w, DIFFERENCES, !check::same(one, other) as usize)
 }
 
 // What comes of the two engines: to the digest of each, and compared.
 pub(crate) fn weighed(mut w: World, one: &[u8], other: &[u8]) -> World {
     w.whole = adler(w.whole, one);
     w.clocked = adler(w.clocked, other);
-    if check::same(one, other) {
-        return w;
-    }
-    count(w, DIFFERENCES, 1)
+    compared(w, one, other)
 }

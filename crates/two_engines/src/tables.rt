@@ -1,13 +1,12 @@
 // The tables: 32 sound records, of which a chain of N is the first N; and what makes one unsound.
-ghost use mathlib.Core.Path.{_≡_};
 ghost use Prim.Native.Nat.{_+_, _*_, _<_, _≤_};
-ghost use lib.ListN.{length};
 ghost use Rattle.records.specs.Record.{recordSize};
 use crate::book::BOOK_SIZE;
 use crate::book::LOADS;
 use crate::book::MONITORS;
 use crate::book::count;
 use crate::book::numbered;
+use crate::lay::lay;
 use crate::luck::draw;
 use crate::luck::fill;
 use crate::outcomes::Outcome;
@@ -58,6 +57,26 @@ const CODES: [i16; 32] = [
     -32767,
 ];
 
+// How many of them, by what is drawn.
+const SOME: [usize; 16] = [
+    16,
+    15,
+    17,
+    16,
+    16,
+    16,
+    16,
+    16,
+    16,
+    16,
+    16,
+    16,
+    16,
+    16,
+    16,
+    16,
+];
+
 // What may come between two frames, by its kind: a store, a compare, or a load.
 const STORE: usize = 0;
 
@@ -65,22 +84,9 @@ const COMPARE: usize = 1;
 
 const KINDS: usize = 3;
 
-// CMF1 of a number below 512: so one monitor of four is in LPCM, and every other bit is as likely as not.
-fn flags_of(drawn: usize) -> u8
-    requires { ⌜ drawn < 512 ⌝ }
-{
-    if drawn < 256 {
-        (drawn % 128) as u8
-    } else {
-        (drawn % 256) as u8
-    }
-}
-
-// Every counter, every lock, and CMF0 and CMF1 anew: so counters come to their end, retentions are found unlocked, there are flags to clear, and
-// some monitors are in LPCM. What luck is left is answered.
-fn stir(table: &mut [u8], luck: usize) -> usize
-    requires { ⌜ length (now table) ≡ 32 * recordSize + 277 ⌝ }
-{
+// Every counter, every lock, and CMF0 and CMF1 anew: so counters come to their end, retentions are found unlocked, and there are flags to
+// clear. Of CMF1 one monitor of four has the bit for LPCM, and every other bit is as likely as not. What luck is left is answered.
+fn stir(table: &mut [u8], luck: usize) -> usize {
     let mut last = luck;
     let mut at = COUNTER;
     while at < REPLY {
@@ -88,10 +94,9 @@ fn stir(table: &mut [u8], luck: usize) -> usize
         let lock = draw(counter.luck, 2);
         let violations = draw(lock.luck, 256);
         let flags = draw(violations.luck, 512);
-        table[at] = counter.number as u8;
-        table[at + 1] = lock.number as u8;
-        table[at + TO_CMF0] = violations.number as u8;
-        table[at + TO_CMF0 + 1] = flags_of(flags.number);
+        let cmf1 = flags.number % 128 | flags.number / 384 << 7;
+        lay(table, at, 2, counter.number << 8 | lock.number);
+        lay(table, at + TO_CMF0, 2, violations.number << 8 | cmf1);
         last = flags.luck;
         at += RECORD_SIZE;
     }
@@ -130,54 +135,49 @@ pub(crate) struct Lent {
     pub luck: usize,
 }
 
-// Room for the reply and more, and now and then a byte too little.
-fn with_room(table: Outcome, size: usize, n: usize, luck: usize) -> Lent
-    requires { ⌜ (size ≤ 32 * recordSize + 1) × (0 < n) × (n ≤ 32) ⌝ }
-    ensures { λ r. ⌜ (r .size ≤ 32 * recordSize + 1) × (r .room ≤ 272) ⌝ }
+// Room for the reply and more, and now and then a byte too little. There may be a byte more in the table.
+fn with_room(table: Outcome, n: usize, more: usize, luck: usize) -> Lent
+    requires { ⌜ (0 < n) × (n ≤ 32) × (more < 2) ⌝ }
+    ensures { λ r. ⌜ (0 < r .size) × (r .size ≤ 32 * recordSize + 1) × (r .room ≤ 272) ⌝ }
 {
     let chance = draw(luck, 16);
-    if chance.number == 0 {
-        return Lent {
-            table,
-            size,
-            room: 8 * n - 1,
-            luck: chance.luck,
-        };
-    }
+    let spare = if chance.number == 0 { 0 } else { 17 };
     Lent {
         table,
-        size,
-        room: 8 * n + 16,
+        size: RECORD_SIZE * n + more,
+        room: 8 * n + spare % 18 - 1,
         luck: chance.luck,
     }
 }
 
-// A byte of the table, from the first counter on, that is at least so much.
-fn spoilt(whole: Outcome, n: usize, at: usize, least: usize, luck: usize) -> Lent
-    requires { ⌜ (0 < n) × (n ≤ 32) × (at < 32 * recordSize) × (least ≤ 64) ⌝ }
-    ensures { λ r. ⌜ (r .size ≤ 32 * recordSize + 1) × (r .room ≤ 272) ⌝ }
+// A counter or a lock that is too much: at least 64, or 2.
+fn spoilt(whole: Outcome, n: usize, k: usize, lock: usize, luck: usize) -> Lent
+    requires { ⌜ (0 < n) × (n ≤ 32) × (k < 32) × (lock < 2) ⌝ }
+    ensures { λ r. ⌜ (0 < r .size) × (r .size ≤ 32 * recordSize + 1) × (r .room ≤ 272) ⌝ }
 {
+    let least = 64 - 62 * lock;
     let byte = draw(luck, 256 - least);
     let mut table = whole;
-    table[COUNTER + at] = (least + byte.number) as u8;
-    with_room(table, RECORD_SIZE * n, n, byte.luck)
+    lay(
+        &mut table,
+        COUNTER + RECORD_SIZE * k + lock,
+        1,
+        least + byte.number,
+    );
+    with_room(table, n, 0, byte.luck)
 }
 
 // Now and then it is not sound: a counter above 63, a lock above 1, a byte too many.
 pub(crate) fn spoil(whole: Outcome, n: usize, luck: usize) -> Lent
     requires { ⌜ (0 < n) × (n ≤ 32) ⌝ }
-    ensures { λ r. ⌜ (r .size ≤ 32 * recordSize + 1) × (r .room ≤ 272) ⌝ }
+    ensures { λ r. ⌜ (0 < r .size) × (r .size ≤ 32 * recordSize + 1) × (r .room ≤ 272) ⌝ }
 {
     let chance = draw(luck, 36);
     let k = draw(chance.luck, n);
-    let at = RECORD_SIZE * k.number;
-    let what = chance.number;
-    match what {
-        0 => spoilt(whole, n, at, 64, k.luck),
-        1 => spoilt(whole, n, at + 1, 2, k.luck),
-        2 => with_room(whole, RECORD_SIZE * n + 1, n, k.luck),
-        _ => with_room(whole, RECORD_SIZE * n, n, k.luck),
+    if chance.number < 2 {
+        return spoilt(whole, n, k.number, chance.number, k.luck);
     }
+    with_room(whole, n, (chance.number == 2) as usize % 2, k.luck)
 }
 
 // What came of a store, a compare or a load.
@@ -227,20 +227,20 @@ pub(crate) fn now_and_then_loaded(mut w: World, n: usize) -> World
         return w;
     }
     let place = draw(w.luck, n + 2);
-    let position = place.number;
     let what = draw(place.luck, 16);
     let start = draw(what.luck, 16);
     w.luck = start.luck;
-    let from = start.number;
-    let size = RECORD_SIZE * n;
-    let before = w.table;
     let way = what.number;
-    let came = match way {
-        0 => loaded(before, size + 1, kind, position, from, from + 16),
-        1 => loaded(before, size, kind, position, from, from + 15),
-        2 => loaded(before, size, kind, position, from, from + 17),
-        _ => loaded(before, size, kind, position, from, from + 16),
-    };
+    let from = start.number;
+    let before = w.table;
+    let came = loaded(
+        before,
+        RECORD_SIZE * n + (way == 0) as usize % 2,
+        kind,
+        place.number,
+        from,
+        from + SOME[way] % 18,
+    );
     let table = came.table;
     w.table = table;
     numbered(w, LOADS + 2 * kind, 1, came.number)
