@@ -7,6 +7,7 @@ use crate::bench::TWO;
 use crate::bench::lay;
 use crate::bench::same;
 use crate::deeds::Came;
+use crate::deeds::agree;
 use crate::deeds::handled;
 use crate::deeds::loaded;
 use crate::frames::frame;
@@ -37,11 +38,11 @@ fn is_load(given: u64) -> bool {
     given / 0x0001_0000_0000_0000 % 0x4000 == 0
 }
 
-fn came_of(c: Case, before: Bytes, sent: Bytes) -> Came {
+fn came_of(c: Case, by_clock: bool, before: Bytes, sent: Bytes) -> Came {
     if is_load(c.given) {
         return loaded(before, c.given);
     }
-    handled(before, sent, c.sizes)
+    handled(by_clock, before, sent, c.sizes)
 }
 
 // The cells as they were lent, those of the second monitor or of the first, copied to a place.
@@ -151,7 +152,8 @@ pub(crate) fn tried(c: Case, label: u64) -> bool {
     let end = c.sizes % 10;
     let before = start(c.sizes / 100_000_000_000_000_000, c.first, c.given);
     let sent = frame(c.given, kind, c.first, c.second);
-    let came = came_of(c, before, sent);
+    let came = came_of(c, false, before, sent);
+    let clocked = came_of(c, true, before, sent);
     let after = came.table;
     let buffer = came.buffer;
     words(
@@ -171,7 +173,7 @@ pub(crate) fn tried(c: Case, label: u64) -> bool {
     }
     let told = told(c, came);
     shown(end, before, after, buffer);
-    let right = told & same(after, wanted(c, before), 0, TWO);
+    let right = told & agree(came, clocked) & same(after, wanted(c, before), 0, TWO);
     if right {
         text(STAYS + end);
     }

@@ -3,6 +3,7 @@ use crate::bench::Bytes;
 use crate::bench::RECORD;
 use crate::bench::ROOM;
 use crate::bench::TWO;
+use crate::bench::same;
 use chain::Numbers;
 
 // The table and the reply buffer after it, and the numbers that came.
@@ -15,23 +16,47 @@ pub(crate) struct Came {
 // The codes that are loaded or stored.
 const CODES: [i16; 8] = [0, -32768, 1600, 1601, -16, -17, 800, -32767];
 
+// By the clocked engine, or by the whole-frame engine.
+fn handle(by_clock: bool, table: &mut [u8], frame: &[u8], reply: &mut [u8]) -> Numbers {
+    if by_clock {
+        return chain::numbers_of(clocked::handle(table, frame, reply));
+    }
+    chain::numbers_of(chain::handle(table, frame, reply))
+}
+
 // A frame handled: of its sizes the monitors of the table, the bytes of the frame, and the room for a reply.
-pub(crate) fn handled(table: Bytes, frame: Bytes, sizes: u64) -> Came {
+pub(crate) fn handled(by_clock: bool, table: Bytes, frame: Bytes, sizes: u64) -> Came {
     let mut after = table;
     let mut buffer = [0xee; ROOM];
     let end = (sizes / 1_000_000_000_000_000 % 100 % 34 * RECORD) as usize;
     let size = (sizes / 1_000_000_000_000 % 1000) as usize;
     let room = (sizes / 1_000_000_000 % 1000) as usize;
-    let numbers = chain::numbers_of(chain::handle(
+    let numbers = handle(
+        by_clock,
         &mut after[0..end],
         &frame[0..size],
         &mut buffer[0..room],
-    ));
+    );
     Came {
         table: after,
         buffer,
         numbers,
     }
+}
+
+// Did both come to the same, in every byte?
+pub(crate) fn agree(one: Came, other: Came) -> bool {
+    let a = one.numbers;
+    let b = other.numbers;
+    let table = one.table;
+    let buffer = one.buffer;
+    let other_table = other.table;
+    let other_buffer = other.buffer;
+    (a.number == b.number)
+        & (a.taken == b.taken)
+        & (a.reply == b.reply)
+        & same(table, other_table, 0, ROOM)
+        & same(buffer, other_buffer, 0, ROOM)
 }
 
 // Seventeen codes, one more than a load has: cell 6 has one of its own, the others 0, but all have 800.

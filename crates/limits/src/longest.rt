@@ -5,6 +5,7 @@ use crate::bench::RECORD;
 use crate::bench::ROOM;
 use crate::bench::lay;
 use crate::bench::same;
+use crate::deeds::agree;
 use crate::deeds::handled;
 use crate::frames::frame;
 use crate::say::text;
@@ -124,10 +125,11 @@ fn each(before: Bytes, at: u64, count: u64, row: usize, less: u64) -> Bytes
 fn write_of(before: Bytes, after: Bytes, frame: Bytes, sizes: u64, label: u64) -> bool
     requires { ⌜ label ≤ 1000 ⌝ }
 {
-    let came = handled(before, frame, sizes);
+    let came = handled(false, before, frame, sizes);
+    let clocked = handled(true, before, frame, sizes);
     let numbers = came.numbers;
     let table = came.table;
-    let right = same(table, each(after, 68, 1, COUNTED, 0), 0, ROOM);
+    let right = agree(came, clocked) & same(table, each(after, 68, 1, COUNTED, 0), 0, ROOM);
     words(label, numbers.taken as u64, numbers.reply as u64, 0, 0);
     if right {
         text(label + 1);

@@ -38,7 +38,7 @@ pub(crate) fn sleeping(n: u64) -> Bytes {
     let monitors = n % 34;
     let cmen = frame(0x0041_dae4_0000_0000, 0, 0, 0);
     let sizes = monitors * 1_000_000_000_000_000 + 4_000_000_000_000;
-    let came = handled([0u8; ROOM], cmen, sizes);
+    let came = handled(false, [0u8; ROOM], cmen, sizes);
     let table = came.table;
     let last = (monitors + 33) % 34 * RECORD;
     lay(table, last + 114, 5, 0x80_4200_0020 + (monitors << 24))

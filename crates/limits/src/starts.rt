@@ -16,7 +16,7 @@ const WRITE: u64 = 02_020_000_0_00_2_00_00_0;
 // What two monitors are after a frame, of which the code and its check are given, and in which both are sent the same.
 fn after(table: Bytes, code: u64, sizes: u64, eight: u64) -> Bytes {
     let sent = frame(code << 32, sizes / 100_000 % 10, eight, eight);
-    let came = handled(table, sent, sizes);
+    let came = handled(false, table, sent, sizes);
     came.table
 }
 
