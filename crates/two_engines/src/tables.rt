@@ -222,8 +222,7 @@ pub(crate) fn now_and_then_loaded(mut w: World, n: usize) -> World
 {
     let chance = draw(w.luck, 5);
     w.luck = chance.luck;
-    let kind = chance.number;
-    if KINDS <= kind {
+    if KINDS <= chance.number {
         return w;
     }
     let place = draw(w.luck, n + 2);
@@ -231,17 +230,16 @@ pub(crate) fn now_and_then_loaded(mut w: World, n: usize) -> World
     let start = draw(what.luck, 16);
     w.luck = start.luck;
     let way = what.number;
-    let from = start.number;
     let before = w.table;
     let came = loaded(
         before,
         RECORD_SIZE * n + (way == 0) as usize % 2,
-        kind,
+        chance.number,
         place.number,
-        from,
-        from + SOME[way] % 18,
+        start.number,
+        start.number + SOME[way] % 18,
     );
     let table = came.table;
     w.table = table;
-    numbered(w, LOADS + 2 * kind, 1, came.number)
+    numbered(w, LOADS + 2 * chance.number, 1, came.number)
 }
