@@ -164,16 +164,6 @@ fn put_monitor(table: &mut [u8], at: usize, calm: bool, luck: usize) -> usize {
 // Where the last of 32 records ends.
 const END: usize = TABLE + 32 * RECORD_SIZE;
 
-fn put_monitors(table: &mut [u8], calm: bool, luck: usize) -> usize {
-    let mut last = luck;
-    let mut at = TABLE;
-    while at < END {
-        last = put_monitor(table, at, calm, last);
-        at += RECORD_SIZE;
-    }
-    last
-}
-
 // The manager; at times there is none. CMC_NDEV is the number of monitors and 42 (hex) more, or near that.
 fn put_manager(table: &mut [u8], n: usize, k: usize, side: usize, way: usize)
     requires { ⌜ (n ≤ 32) × (k < 32) × (way < 64) ⌝ }
@@ -240,6 +230,11 @@ pub(crate) fn put_to_sleep(table: &mut [u8], n: usize, luck: usize) -> Asleep
     requires { ⌜ (0 < n) × (n ≤ 32) ⌝ }
 {
     let calm = draw(luck, 2);
-    let left = put_monitors(table, calm.number == 0, calm.luck);
-    put_roles(table, n, left)
+    let mut last = calm.luck;
+    let mut at = TABLE;
+    while at < END {
+        last = put_monitor(table, at, calm.number == 0, last);
+        at += RECORD_SIZE;
+    }
+    put_roles(table, n, last)
 }

@@ -63,21 +63,13 @@ fn due(table: Outcome, way: usize, n: usize, frame: &[u8]) -> Outcome
     }
 }
 
-// What a byte answers, with so many bytes of the table.
-fn clock(state: &mut [u8; STATE_SIZE], table: Outcome, size: usize, byte: u8) -> u8
+// Byte i, counted from 0, with so many bytes of a table. What it answers after byte four goes to the buffer, as far as that has room.
+fn clock_one(mut w: World, table: Outcome, size: usize, i: usize, byte: u8) -> World
     requires { ⌜ size ≤ 32 * recordSize + 1 ⌝ }
 {
     let end = TABLE + size;
-    clocking::clock(state, &table[TABLE..end], byte)
-}
-
-// Byte i, counted from 0. What it answers after byte four goes to the buffer, as far as that has room.
-fn clock_one(mut w: World, size: usize, i: usize, byte: u8) -> World
-    requires { ⌜ size ≤ 32 * recordSize + 1 ⌝ }
-{
-    let table = w.table;
     let mut state = w.state;
-    let answer = clock(&mut state, table, size, byte);
+    let answer = clocking::clock(&mut state, &table[TABLE..end], byte);
     w.state = state;
     w.by_hand = step(w.by_hand, answer);
     let place = wrapping_sub_usize(i, 4);
@@ -87,42 +79,37 @@ fn clock_one(mut w: World, size: usize, i: usize, byte: u8) -> World
     w
 }
 
-fn clock_all(world: World, way: usize, n: usize, frame: &[u8]) -> World
+fn clock_all(world: World, table: Outcome, way: usize, n: usize, frame: &[u8]) -> World
     requires { ⌜ (way < 8) × (0 < n) × (n ≤ 32) ⌝ }
 {
     let mut w = world;
     let mut i = 0;
     while i < frame.len() {
-        w = clock_one(w, lent(way, (i == 3) as usize, n), i, frame[i]);
+        w = clock_one(w, table, lent(way, (i == 3) as usize, n), i, frame[i]);
         w = looks::now_and_then(w, n);
         i += 1;
     }
     w
 }
 
-// A release, with so many bytes of the table. What was answered after byte four is a reply only where a read is accepted.
-fn release(state: &mut [u8; STATE_SIZE], before: Outcome, size: usize, back: Reply) -> Outcome
+// What comes of the release, with so many bytes of the table, and what is due. What was answered after byte four is a reply only where a read
+// is accepted.
+fn released(mut w: World, before: Outcome, size: usize, due: Outcome) -> World
     requires { ⌜ size ≤ 32 * recordSize + 1 ⌝ }
 {
     let mut table = before;
     let end = TABLE + size;
-    let came = chain::numbers_of(releasing::release(state, &mut table[TABLE..end]));
-    let head = head_of(came);
+    let mut state = w.state;
+    let came = chain::numbers_of(releasing::release(&mut state, &mut table[TABLE..end]));
+    w.state = state;
     if came.reply == 0 {
-        return of(table, head, BEFORE);
+        w.back = BEFORE;
     }
-    of(table, head, back)
+    let back = w.back;
+    weighed_by_hand(w, of(table, head_of(came), back), due)
 }
 
-// What comes of the release, and what is due.
-fn released(mut w: World, size: usize, due: Outcome) -> World
-    requires { ⌜ size ≤ 32 * recordSize + 1 ⌝ }
-{
-    let table = w.table;
-    let back = w.back;
-    let mut state = w.state;
-    let one = release(&mut state, table, size, back);
-    w.state = state;
+fn weighed_by_hand(mut w: World, one: Outcome, due: Outcome) -> World {
     w.by_hand = adler(w.by_hand, &one);
     compared(numbered(w, NUMBERS_BY_HAND, 6, one[0]), &one, &due)
 }
@@ -156,6 +143,6 @@ pub(crate) fn now_and_then(mut w: World, n: usize, frame: &[u8]) -> World
     w.back = BEFORE;
     let table = w.table;
     let due = due(table, way.number, n, frame);
-    let w = clock_all(w, way.number, n, frame);
-    released(w, lent(way.number, RELEASE, n), due)
+    let w = clock_all(w, table, way.number, n, frame);
+    released(w, table, lent(way.number, RELEASE, n), due)
 }

@@ -1,35 +1,30 @@
 // Looks at the windows while a frame is clocked by hand.
 ghost use Prim.Native.Nat.{_<_, _≤_};
-ghost use lib.ListN.{length};
 use crate::book::LOOKS;
 use crate::book::numbered;
 use crate::digest::adler;
 use crate::digest::step;
 use crate::luck::draw;
 use crate::world::World;
-use clock_state::STATE_SIZE;
 use releasing::Looked;
 
-// A look with so much room: its number times 256, and how many bytes the window holds.
-fn look(state: &[u8; STATE_SIZE], position: usize, out: &mut [u8], room: usize) -> u16
-    requires { ⌜ room ≤ length (now out) ⌝ }
-{
-    match releasing::look(state, position, &mut out[0..room]) {
-        Looked::Refused(refusal) => 256 * refusals::number_of(refusal) as u16,
-        Looked::Holds(held) => (held % 256) as u16,
-    }
+// What came of a look goes to the digest: its number, how many bytes the window holds, and the buffer.
+fn seen(mut w: World, number: u8, held: u8, out: [u8; 12]) -> World {
+    let digest = step(step(w.by_hand, number), held);
+    w.by_hand = adler(digest, &out);
+    numbered(w, LOOKS, 1, number)
 }
 
-fn looked(mut w: World, position: usize, room: usize) -> World
+// A look with so much room.
+fn looked(w: World, position: usize, room: usize) -> World
     requires { ⌜ room ≤ 12 ⌝ }
 {
     let state = w.state;
     let mut out = [0xa5; 12];
-    let came = look(&state, position, &mut out, room);
-    let number = (came / 256) as u8;
-    let digest = step(step(w.by_hand, number), (came % 256) as u8);
-    w.by_hand = adler(digest, &out);
-    numbered(w, LOOKS, 1, number)
+    match releasing::look(&state, position, &mut out[0..room]) {
+        Looked::Refused(refusal) => seen(w, refusals::number_of(refusal), 0, out),
+        Looked::Holds(held) => seen(w, 0, (held % 256) as u8, out),
+    }
 }
 
 // Now and then a look, at times of no monitor or with too little room.

@@ -17,29 +17,26 @@ use priorities::Events;
 type Answer = [u8; 25];
 
 // The events, the phase, 0 to 16, and the room, 14 to 24 bytes, are remainders of the way by numbers that have no common divisor.
-fn answer(lent: Outcome, size: usize, position: usize, way: usize) -> Answer
-    requires { ⌜ size ≤ 32 * recordSize + 1 ⌝ }
-{
-    let end = TABLE + size;
-    let room = 15 + way % 11;
+fn ask(table: &[u8], position: usize, way: usize, out: &mut [u8]) -> u8 {
     let events = Events {
         shutdown: way % 7 == 0,
         measurement: way % 3 == 0,
         wrcfgb: way % 5 == 0,
         wrpwm: way % 4 == 0,
     };
-    let mut all = [0xa5; 25];
-    let phase = (way % 17) as u8;
-    all[0] = match discharge::discharge(
-        &lent[TABLE..end],
-        position,
-        events,
-        phase,
-        &mut all[1..room],
-    ) {
+    match discharge::discharge(table, position, events, (way % 17) as u8, out) {
         Discharged::Refused(refusal) => refusals::number_of(refusal) | 0x80,
         Discharged::On(on) => (on % 128) as u8,
-    };
+    }
+}
+
+fn answer(lent: Outcome, size: usize, position: usize, way: usize) -> Answer
+    requires { ⌜ size ≤ 32 * recordSize + 1 ⌝ }
+{
+    let end = TABLE + size;
+    let room = 15 + way % 11;
+    let mut all = [0xa5; 25];
+    all[0] = ask(&lent[TABLE..end], position, way, &mut all[1..room]);
     all
 }
 
