@@ -2,33 +2,28 @@
 use crate::book::Book;
 use crate::world::World;
 use libc::STDOUT_FILENO;
-use std::num::wrapping_add_usize;
 
-// A byte of the words. In place of a # stands a number, and of a @ one in hexadecimal: then the next one's turn has come.
-fn one(byte: u8, number: u64) -> bool {
-    if byte == b'#' {
-        io::print_decimal(STDOUT_FILENO, number);
-        return true;
-    }
-    if byte == b'@' {
-        io::print_hex(STDOUT_FILENO, number, 8);
-        return true;
+// A byte of the words. In their place # has a number and @ one in hexadecimal; then the next one's turn has come.
+fn one(byte: u8, numbers: &[usize], place: usize) -> usize {
+    if place < numbers.len() {
+        if byte == b'#' {
+            io::print_decimal(STDOUT_FILENO, numbers[place] as u64);
+            return place + 1;
+        }
+        if byte == b'@' {
+            io::print_hex(STDOUT_FILENO, numbers[place] as u64, 8);
+            return place + 1;
+        }
     }
     io::write_all(STDOUT_FILENO, &[byte]);
-    false
+    place
 }
 
 fn text(words: &[u8], numbers: &[usize]) {
     let mut place = 0;
     let mut i = 0;
     while i < words.len() {
-        let mut number = 0;
-        if place < numbers.len() {
-            number = numbers[place];
-        }
-        if one(words[i], number as u64) {
-            place = wrapping_add_usize(place, 1);
-        }
+        place = one(words[i], numbers, place);
         i += 1;
     }
 }

@@ -1,4 +1,5 @@
--- `two_engines::say::text` is safe and ends: the measure is the number of bytes that are left. Assumes nothing.
+-- `two_engines::say::text` is safe and ends: the measure is the number of bytes that are left.
+-- Assumes nothing.
 use borrow.Author.Needs.{needs}
 use Prim.Native.Nat.{_-_}
 use lib.ListN.{length}
@@ -11,19 +12,37 @@ Inv-loop words numbers place₀ i₀ place i = Unit {0}
 abbrev μ-loop : tie.MeasureT-loop
 μ-loop words numbers place₀ i₀ place i = length words - i
 
+loop-holds : tie.Need-loop-holds Inv-loop μ-loop
+loop-holds c = search needs
+
+shared-slice-read-one : tie.Need-shared-slice-read-one Inv-loop μ-loop
+shared-slice-read-one c = search needs
+
+one-requires : tie.Need-one-requires Inv-loop μ-loop
+one-requires c κs = search needs
+
+add-i : tie.Need-add-i Inv-loop μ-loop
+add-i c = search needs
+
+loop-less : tie.Need-loop-less Inv-loop μ-loop
+loop-less c = search needs
+
+loop-again : tie.Need-loop-again Inv-loop μ-loop
+loop-again c = search needs
+
+returns : tie.Need-returns Inv-loop μ-loop
+returns c = search needs
+
 pub text-spec : {M : Type 1} → statement M
 text-spec =
     tie.close
     (tie.spec
     Inv-loop
     μ-loop
-    (λ c. search needs)
-    (λ c. search needs)
-    (λ c. search needs)
-    (λ c. search needs)
-    (λ c κs. search needs)
-    (λ c κs. search needs)
-    (λ c. search needs)
-    (λ c. search needs)
-    (λ c. search needs)
-    (λ c. search needs))
+    loop-holds
+    shared-slice-read-one
+    one-requires
+    add-i
+    loop-less
+    loop-again
+    returns)
