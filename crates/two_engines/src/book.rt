@@ -7,12 +7,8 @@ pub(crate) const MONITORS: usize = 0;
 
 pub(crate) const FRAMES: usize = 1;
 
-// Of those that were accepted.
+// Of those that were accepted: reads, and after them writes and bare commands.
 pub(crate) const READS: usize = 2;
-
-pub(crate) const WRITES: usize = 3;
-
-pub(crate) const BARES: usize = 4;
 
 // How many frames came to each number, 0 to 6.
 pub(crate) const NUMBERS: usize = 5;

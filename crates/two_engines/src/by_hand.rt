@@ -109,6 +109,7 @@ fn released(mut w: World, before: Outcome, size: usize, due: Outcome) -> World
     weighed_by_hand(w, of(table, head_of(came), back), due)
 }
 
+// To the digest, and compared with what is due.
 fn weighed_by_hand(mut w: World, one: Outcome, due: Outcome) -> World {
     w.by_hand = adler(w.by_hand, &one);
     compared(numbered(w, NUMBERS_BY_HAND, 6, one[0]), &one, &due)

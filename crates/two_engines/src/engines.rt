@@ -64,7 +64,7 @@ pub(crate) fn through(
     of(table, head, out)
 }
 
-// What became of a frame that was accepted: reads, writes and bare commands are counted in this order.
+// What became of a frame that was accepted.
 fn accepted(w: World, n: usize, command: usize, taken: u8) -> World {
     let bare = (FIRST_BARE <= command) as usize % 2;
     let write = (FIRST_WRITE <= command) as usize % 2;

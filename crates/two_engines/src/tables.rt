@@ -135,7 +135,7 @@ pub(crate) struct Lent {
     pub luck: usize,
 }
 
-// Room for the reply and more, and now and then a byte too little. There may be a byte more in the table.
+// Room for the reply and more, and now and then a byte too little; and the table, at times with a byte too many.
 fn with_room(table: Outcome, n: usize, more: usize, luck: usize) -> Lent
     requires { ⌜ (0 < n) × (n ≤ 32) × (more < 2) ⌝ }
     ensures { λ r. ⌜ (0 < r .size) × (r .size ≤ 32 * recordSize + 1) × (r .room ≤ 272) ⌝ }
