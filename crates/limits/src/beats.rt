@@ -14,7 +14,6 @@ use crate::notes::notes;
 use crate::say;
 use crate::say::text;
 use crate::sleeping::judged;
-use crate::sleeping::patched;
 use crate::sleeping::sleeping;
 use crate::sleeping::turn;
 use crate::words::REFUSED;
@@ -80,7 +79,7 @@ const REFUSALS: [u64; 45] = [
 // What is refused is a message that is right.
 const RIGHT: u64 = 0x0043_47b2_4300_0306;
 
-// A case is eight numbers: the first as above; three patches to the chain (sleeping.rt) and two that are expected of it then, 0 where there is
+// A case is eight numbers: the first as above; three patches to the chain and two that are expected of it then, 0 where there is
 // none; the message that comes, and the one that is handed out. Every other byte of the table and of the buffer stays.
 const ROWS: [u64; 1056] = [
     // a wake: room to spare, a monitor that is no manager, and the ends of the chain
@@ -1161,6 +1160,12 @@ fn number(k: usize) -> u64 {
     ROWS[k % 1056]
 }
 
+// A patch is, from the left, the place in the table in four digits, how many bytes in two, and these: up to five.
+fn patched(table: Bytes, k: usize) -> Bytes {
+    let patch = number(k);
+    lay(table, patch >> 48, (patch >> 40) % 256, patch)
+}
+
 // Says what was done: to so many monitors, at a position, with so much room and so many bytes; and of how many bytes a table is that is not
 // theirs.
 fn named(sizes: u64) {
@@ -1253,9 +1258,9 @@ fn verdict(sizes: u64, sent: u64) -> bool {
 pub(crate) fn beat(i: usize) -> bool {
     let k = i % 132 * 8;
     let sizes = number(k);
-    let begun = patched(sleeping(sizes / 100_000_000_000 % 100), number(k + 1));
-    let before = patched(patched(begun, number(k + 2)), number(k + 3));
-    let wanted = patched(patched(before, number(k + 4)), number(k + 5));
+    let begun = patched(sleeping(sizes / 100_000_000_000 % 100), k + 1);
+    let before = patched(patched(begun, k + 2), k + 3);
+    let wanted = patched(patched(before, k + 4), k + 5);
     named(sizes);
     note(NOTES + (i % 132) as u64);
     if sizes / 10_000_000_000_000 == 4 {

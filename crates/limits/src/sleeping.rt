@@ -44,11 +44,6 @@ pub(crate) fn sleeping(n: u64) -> Bytes {
     lay(table, last + 114, 5, 0x80_4200_0020 + (monitors << 24))
 }
 
-// A patch is, from the left, the place in the table in four digits, how many bytes in two, and these: up to five.
-pub(crate) fn patched(table: Bytes, patch: u64) -> Bytes {
-    lay(table, patch >> 48, (patch >> 40) % 256, patch)
-}
-
 fn refused(refusal: Refusal) -> Numbers {
     Numbers {
         number: refusals::number_of(refusal),
