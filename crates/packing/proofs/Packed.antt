@@ -1,6 +1,6 @@
 -- The packing loses nothing: parts that fit come back from their answer, each from its own bits, and the answer has 32 bits.
 -- Assumes nothing.
-use mathlib.Core.Path.{_≡_, sym, ap, _∙_}
+use mathlib.Core.Path.{_≡_, sym, ap, _∙_, subst}
 use Prim.Native.Nat.{ℕ, _^_, _/_, _%_, _<_}
 use native.Mathlib.Omega.{arith}
 use Rattle.refusals.specs.declared.Refusal.{Refusal}
@@ -32,6 +32,10 @@ module _ (p : Parts) (fit : Fit p) where
 -- what is packed of an outcome that was told to be so
 pub as-told : {A : Type 0} (parts : A → Parts) {r : ℕ} {v w : A} → r ≡ packed (parts v) → w ≡ v → r ≡ packed (parts w)
 as-told parts e here = e ∙ ap (λ x. packed (parts x)) (sym here)
+
+-- and it fits where the outcome does
+pub fits-as-told : {A : Type 0} (parts : A → Parts) {v w : A} → w ≡ v → Fit (parts w) → Fit (parts v)
+fits-as-told parts here = subst (λ x. Fit (parts x)) here
 
 -- ---- what fits
 

@@ -1,28 +1,15 @@
 -- `door::hosts::osk_two_ports` meets its contract, port by port: where a port answers, the position is one of the chain's, so that
 -- the offset fits.
 -- Assumes nothing.
-use mathlib.Core.Path.{sym, ap, _∙_}
+use mathlib.Core.Path.{sym, _∙_}
 use native.Mathlib.Omega.{arith}
-use Rattle.ports.specs.declared.ports.Port.{Port}
 use Rattle.ports.specs.Ports.{placeA, placeB}
 use Rattle.ports.proofs.TwoPorts.{Asked, only-a, only-b}
-use Rattle.packing.specs.Packed.{packed}
+use Rattle.packing.proofs.Packed.{as-told}
 use Rattle.door.specs.Answers.{portParts}
 use borrow.Author.Needs.{needs}
 use Rattle.door.proofs.hosts.osk_two_ports.Statement.{statement}
 use Rattle.door.proofs.hosts.osk_two_ports.Tie as tie
-
-port-of-requires : tie.Need-port-of-requires
-port-of-requires c κs = search needs
-
-enum-known-refusal : tie.Need-enum-known-refusal
-enum-known-refusal c = search needs
-
-refused-requires : tie.Need-refused-requires
-refused-requires c κs = search needs
-
-enum-told : tie.Need-enum-told
-enum-told c = search needs
 
 -- where port A answers, and where port B does
 asked-a : (c : tie.After-enum-told) → let q = c .before .before .before .before .before .args in Asked (q .a .now) (q .b .now) (q .monitors) (q .position)
@@ -44,12 +31,6 @@ mul-accepted c = omega (arith, asked-a c .most, asked-a c .last)
 cast-accepted : tie.Need-cast-accepted
 cast-accepted c = omega (arith, asked-a c .most, asked-a c .last)
 
-accepted-requires : tie.Need-accepted-requires
-accepted-requires c κs = search needs
-
-enum-told-2 : tie.Need-enum-told-2
-enum-told-2 c = search needs
-
 sub-accepted-2 : tie.Need-sub-accepted-2
 sub-accepted-2 c = omega (arith, asked-b c .first, asked-b c .last)
 
@@ -59,43 +40,40 @@ mul-accepted-2 c = omega (arith, asked-b c .most, asked-b c .last)
 cast-accepted-2 : tie.Need-cast-accepted-2
 cast-accepted-2 c = omega (arith, asked-b c .most, asked-b c .last)
 
-accepted-requires-2 : tie.Need-accepted-requires-2
-accepted-requires-2 c κs = search needs
-
 returns : tie.Need-returns
 returns c =
     let q = c .before .before .before .before .before .before .before .args in
-    c .refused .ensures ∙ ap (λ (x : Port). packed (portParts (q .monitors) (q .position) x)) (sym (c .before .before .refusal .given .1) ∙ c .before .before .before .before .port-of .ensures)
+    as-told (portParts (q .monitors) (q .position)) (c .refused .ensures) (sym (c .before .before .before .before .port-of .ensures) ∙ c .before .before .refusal .given .1)
 
 returns-2 : tie.Need-returns-2
 unfolding placeA
 returns-2 c =
     let q = c .before .before .before .before .before .before .args in
-    c .accepted .ensures ∙ ap (λ (x : Port). packed (portParts (q .monitors) (q .position) x)) (sym (c .before .enum-told .given .1) ∙ c .before .before .before .port-of .ensures)
+    as-told (portParts (q .monitors) (q .position)) (c .accepted .ensures) (sym (c .before .before .before .port-of .ensures) ∙ c .before .enum-told .given .1)
 
 returns-3 : tie.Need-returns-3
 unfolding placeB
 returns-3 c =
     let q = c .before .before .before .before .before .before .args in
-    c .accepted2 .ensures ∙ ap (λ (x : Port). packed (portParts (q .monitors) (q .position) x)) (sym (c .before .enum-told2 .given .1) ∙ c .before .before .before .port-of .ensures)
+    as-told (portParts (q .monitors) (q .position)) (c .accepted2 .ensures) (sym (c .before .before .before .port-of .ensures) ∙ c .before .enum-told2 .given .1)
 
 pub osk-two-ports-spec : {M : Type 1} → statement M
 osk-two-ports-spec =
     tie.close
     (tie.spec
-    port-of-requires
-    enum-known-refusal
-    refused-requires
-    enum-told
+    (λ c κs. search needs)
+    (λ c. search needs)
+    (λ c κs. search needs)
+    (λ c. search needs)
     sub-accepted
     mul-accepted
     cast-accepted
-    accepted-requires
-    enum-told-2
+    (λ c κs. search needs)
+    (λ c. search needs)
     sub-accepted-2
     mul-accepted-2
     cast-accepted-2
-    accepted-requires-2
+    (λ c κs. search needs)
     returns
     returns-2
     returns-3)

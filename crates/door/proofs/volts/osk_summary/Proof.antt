@@ -23,21 +23,6 @@ use borrow.Author.Needs.{needs}
 use Rattle.door.proofs.volts.osk_summary.Statement.{statement}
 use Rattle.door.proofs.volts.osk_summary.Tie as tie
 
-summary-of-requires : tie.Need-summary-of-requires
-summary-of-requires c κs = search needs
-
-enum-known-refusal : tie.Need-enum-known-refusal
-enum-known-refusal c = search needs
-
-refused-requires : tie.Need-refused-requires
-refused-requires c κs = search needs
-
-enum-told : tie.Need-enum-told
-enum-told c = search needs
-
-refused-requires-2 : tie.Need-refused-requires-2
-refused-requires-2 c κs = search needs
-
 -- ---- by the room
 
 module _ {A : Type 0} {room : ℕ} (refuses : Refusal → A) (a : A) where
@@ -68,15 +53,6 @@ returns c =
     let a = test .before .before .before .before .args in
     (c .refused2 .ensures ∙ sym (ap packed (no-room _ _ (c .before .if1 .taken))) ∙ parts (a .out .now) (is-nothing test), out-by (a .out .now) (is-nothing test))
 
-accepted-requires : tie.Need-accepted-requires
-accepted-requires c κs = search needs
-
-enum-known-summary : tie.Need-enum-known-summary
-enum-known-summary c = search needs
-
-refused-requires-3 : tie.Need-refused-requires-3
-refused-requires-3 c κs = search needs
-
 returns-2 : tie.Need-returns-2
 returns-2 c =
     let test = c .before .before .before in
@@ -85,9 +61,6 @@ returns-2 c =
       sym (no-room (λ r. a .out .now) _ (c .before .if2 .taken)) ∙ out-by (a .out .now) (is-whole test),
     )
 
-slice-write-out : tie.Need-slice-write-out
-slice-write-out c = search needs
-
 slice-write-out-2 : tie.Need-slice-write-out-2
 slice-write-out-2 c =
     let out = c .before .before .before .before .before .before .args .out .now in
@@ -95,17 +68,11 @@ slice-write-out-2 c =
     let there : 1 < length (set out 0 lowest) = omega (arith, length-set out 0 lowest, c .if2 .left) in
     there
 
-slice-write-out-3 : tie.Need-slice-write-out-3
-slice-write-out-3 c = search needs
-
 cast-accepted : tie.Need-cast-accepted
 cast-accepted c =
     let told = c .before .before .before in
     let few = subst (λ (p : Pack). cellsOf p ≤ mostCodes) (sym (is-whole told)) (few-cells (told .before .before .before .before .args .codes .now)) in
     omega (arith, few)
-
-accepted-requires-2 : tie.Need-accepted-requires-2
-accepted-requires-2 c κs = search needs
 
 returns-3 : tie.Need-returns-3
 returns-3 c =
@@ -119,9 +86,6 @@ returns-4 c =
     let test = c .before .before in
     let a = test .before .before .before .before .args in
     (c .accepted .ensures ∙ sym (ap packed (has-room _ _ (c .before .if1 .left))) ∙ parts (a .out .now) (is-nothing test), out-by (a .out .now) (is-nothing test))
-
-same-length : tie.Need-same-length
-same-length c = search needs
 
 -- three stores are the three places and what lies past them
 three-stores : (out : List Float) (x y z : Float) → summarySize ≤ length out → set (set (set out 0 x) 1 y) 2 z ≡ x ∷ y ∷ z ∷ drop summarySize out
@@ -142,22 +106,22 @@ pub osk-summary-spec : {M : Type 1} → statement M
 osk-summary-spec =
     tie.close
     (tie.spec
-    summary-of-requires
-    enum-known-refusal
-    refused-requires
-    enum-told
-    refused-requires-2
+    (λ c κs. search needs)
+    (λ c. search needs)
+    (λ c κs. search needs)
+    (λ c. search needs)
+    (λ c κs. search needs)
     returns
-    accepted-requires
-    enum-known-summary
-    refused-requires-3
+    (λ c κs. search needs)
+    (λ c. search needs)
+    (λ c κs. search needs)
     returns-2
-    slice-write-out
+    (λ c. search needs)
     slice-write-out-2
-    slice-write-out-3
+    (λ c. search needs)
     cast-accepted
-    accepted-requires-2
+    (λ c κs. search needs)
     returns-3
     returns-4
-    same-length
+    (λ c. search needs)
     returns-5)

@@ -1,6 +1,6 @@
 -- `oskorbine::discharges::osk_discharge` meets its contract, answer by answer: at most sixteen outputs are on.
 -- Assumes nothing.
-use mathlib.Core.Path.{_≡_, sym, ap, _∙_, subst}
+use mathlib.Core.Path.{_≡_, sym, ap, _∙_}
 use mathlib.Core.List.{List}
 use Prim.Native.Nat.{ℕ}
 use native.Mathlib.Omega.{arith}
@@ -9,7 +9,8 @@ use borrow.Author.Needs.{needs}
 use Rattle.priorities.specs.declared.outputs.Events.{Events}
 use Rattle.discharge.specs.declared.question.Discharged.{Discharged}
 use Rattle.discharge.specs.Question.{discharged, outputsAfter}
-use Rattle.packing.specs.Packed.{packed, Fit}
+use Rattle.packing.specs.Packed.{packed}
+use Rattle.packing.proofs.Packed.{fits-as-told}
 use Rattle.oskorbine.specs.Answers.{dischargedParts}
 use Rattle.oskorbine.proofs.Fits.{discharge-fits}
 use Rattle.oskorbine.proofs.discharges.osk_discharge.Statement.{statement}
@@ -19,7 +20,7 @@ cast-accepted : tie.Need-cast-accepted
 cast-accepted c =
     let call = c .before .before .before .before .before in
     let a = call .before .before .before .before .before .args in
-    let fit = subst (λ (x : Discharged). Fit (dischargedParts x)) (sym (call .discharge .ensures .0) ∙ c .before .outputs .given .1) (discharge-fits (a .table .now) (a .position) (call .before .before .events-in .result) (a .phase) (length (a .out .now))) in
+    let fit = fits-as-told dischargedParts (sym (call .discharge .ensures .0) ∙ c .before .outputs .given .1) (discharge-fits (a .table .now) (a .position) (call .before .before .events-in .result) (a .phase) (length (a .out .now))) in
     omega (arith, fit .first-fits)
 
 -- the question as the byte of events asks it: its answer, packed, and its outputs
