@@ -41,10 +41,10 @@ enum {
     OSK_CODE_NOT_LISTED = 4, /* code not listed */
     OSK_LENGTH_WRONG = 5,    /* length not the one for this command and N; a reply, payload or message of the wrong length */
     OSK_NO_ROOM = 6,         /* the buffer to be written is too small */
-    OSK_POSITION_WRONG = 7,  /* N not 1 to 32, position not 1 to N, or phase not 0 to 14 */
+    OSK_POSITION_WRONG = 7,  /* N not 1 to 32, position not 1 to N, phase not 0 to 14, or an expected counter above 63 */
     OSK_COUNT_WRONG = 8,     /* wrong number of codes or value bytes */
     OSK_CODE_CLEARED = 9,    /* a code to store or load is -32768 */
-    OSK_NEITHER_RIGHT = 10   /* neither port's bytes are right */
+    OSK_BOTH_DAMAGED = 10    /* both ports' bytes are damaged */
 };
 
 /* ---- the chain: a table of N records, nearest monitor first, each laid out as document 01 has it, with more behind its byte 69: the groups
@@ -175,18 +175,29 @@ osk_answer osk_time_out(uint8_t *table, size_t table_length, size_t position);
  */
 osk_answer osk_host_frame(uint16_t command, size_t monitors, const uint8_t *values, size_t values_length, uint8_t *out, size_t out_length);
 
-enum { OSK_RIGHT = 1, OSK_DAMAGED = 2 };
-
-/* Checks the data PEC of one monitor's reply of eight bytes.
- * First: OSK_RIGHT or OSK_DAMAGED. Refusals: 5.
+/* A monitor counts the writes and bare commands that it takes: after 63 comes 1, RSTCC (002E) makes it 0, reads leave it. Each reply carries the
+ * counter as it stands, the six high bits of byte 7 of the eight. A host that keeps the same count knows what to expect of a reply, and a monitor that
+ * missed a command shows by another counter. A WRRR is counted whatever its check, so a damaged one does not show; in LPCM no write is taken.
  */
-osk_answer osk_check(const uint8_t *payload, size_t payload_length);
+enum { OSK_RIGHT = 1, OSK_DAMAGED = 2, OSK_COUNTER_DIFFERS = 3 };
+
+/* Checks one monitor's reply of eight bytes against the counter that the host expects, 0 to 63. One whose data PEC is wrong is damaged, whatever counter
+ * it carries; else it is right, or right but for its counter.
+ * First: OSK_RIGHT, OSK_DAMAGED or OSK_COUNTER_DIFFERS. Second: the counter received where it differs, else 0. Refusals: 7 (an expected counter above
+ * 63), 5.
+ */
+osk_answer osk_check(const uint8_t *payload, size_t payload_length, uint8_t expected);
+
+/* What two ports answer beside OSK_PORT_A and OSK_PORT_B: that port's, and its counter differs. */
+enum { OSK_PORT_A_DIFFERS = 3, OSK_PORT_B_DIFFERS = 4 };
 
 /* The chain was read from both ends: port A's reply `a` has monitor 1 first, port B's `b` has monitor N first. Asked for the monitor at
- * a position: its eight bytes as they lie in one of the two, A's if their data PEC is right, otherwise B's if right.
- * First: OSK_PORT_A or OSK_PORT_B. Second: the byte of that reply that the eight start at. Refusals: 7, 5 (either reply not 8N bytes), 10.
+ * a position: its eight bytes as they lie in one of the two, A's if right, else B's if right, else A's if only its counter differs, else B's
+ * likewise.
+ * First: OSK_PORT_A, OSK_PORT_B, OSK_PORT_A_DIFFERS or OSK_PORT_B_DIFFERS. Second: the byte of that reply that the eight start at. Refusals: 7 (an
+ * expected counter above 63), 7 (N or position), 5 (either reply not 8N bytes), 10.
  */
-osk_answer osk_two_ports(const uint8_t *a, size_t a_length, const uint8_t *b, size_t b_length, size_t monitors, size_t position);
+osk_answer osk_two_ports(const uint8_t *a, size_t a_length, const uint8_t *b, size_t b_length, size_t monitors, size_t position, uint8_t expected);
 
 /* The host's verdict on a heartbeat in LPCM: passed; failed; damaged; timed out. */
 enum { OSK_PASSED = 1, OSK_FAILED = 2, OSK_MESSAGE_DAMAGED = 3, OSK_TIMED_OUT = 4 };

@@ -10,6 +10,7 @@ use monitor::carry_out;
 use records::Bare;
 use records::COUNTER;
 use records::Command;
+use records::MOST_COUNT;
 use records::RECORD_SIZE;
 use records::UNLOCKED;
 use records::Write;
@@ -30,7 +31,7 @@ fn lock(rec: &mut [u8])
 fn next_count(n: u8) -> u8
     ensures { λ r. ⌜ r ≡ nextCount n ⌝ }
 {
-    if n < 63 { n + 1 } else { 1 }
+    if n < MOST_COUNT { n + 1 } else { 1 }
 }
 
 // Locked, and counted where it is taken: so begins every command that is no read.

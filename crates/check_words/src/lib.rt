@@ -3,6 +3,7 @@ mod words;
 
 pub use words::command_check;
 pub use words::command_right;
+pub use words::counter_in;
 pub use words::four_in;
 pub use words::four_right;
 pub use words::number_in;

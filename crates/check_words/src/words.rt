@@ -13,6 +13,7 @@ ghost use Rattle.pec.specs.Words.{
   seal,
   sealedRight,
   payloadRight,
+  counterOf,
   numberIn,
   numberRight,
 };
@@ -133,6 +134,16 @@ pub fn payload_right(eight: &[u8]) -> bool
     ensures { λ r. ⌜ r ≡ payloadRight (now (eight .entry)) ⌝ }
 {
     number_right(number_in(eight))
+}
+
+// The counter that a payload carries: the six high bits of its seventh byte, and 0 where it has none.
+pub fn counter_in(eight: &[u8]) -> u8
+    ensures { λ r. ⌜ r ≡ counterOf (now (eight .entry)) ⌝ }
+{
+    if eight.len() < 7 {
+        return 0;
+    }
+    eight[6] / 4
 }
 
 // Bytes that lead the check back to its start value. With them in front, two bytes have the check that they have alone: what seals six, and

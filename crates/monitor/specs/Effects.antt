@@ -14,7 +14,7 @@ use Rattle.records.specs.declared.commands.Command.{Command}
 use Rattle.records.specs.declared.commands.Command.the-variants.{Reads, Writes, Bares, Unlisted}
 use Rattle.records.specs.declared.commands.Write.{Write}
 use Rattle.records.specs.declared.record.Part.{Part}
-use Rattle.records.specs.Record.{cells, counter, unlocked, snapshot, statusBits, cmf1, lastCells, snapped, inLpcm, bytesOf, byteOf, onBytes}
+use Rattle.records.specs.Record.{cells, counter, unlocked, snapshot, statusBits, cmf1, lastCells, mostCount, snapped, inLpcm, bytesOf, byteOf, onBytes}
 use Rattle.records.specs.Commands.{dataSize, widthOf}
 use Rattle.writes.specs.Writes.{rulesOf, written}
 
@@ -26,7 +26,7 @@ locked r = onBytes unlocked (λ i old. 0) r
 
 -- after 63 comes 1
 unfoldable pub nextCount : ℕ → ℕ
-nextCount n = cond (ltb n 63) (n + 1) 1
+nextCount n = cond (ltb n mostCount) (n + 1) 1
 
 unfoldable pub counted : List ℕ → List ℕ
 counted r = onBytes counter (λ i old. nextCount old) r

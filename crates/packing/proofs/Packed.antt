@@ -4,7 +4,7 @@ use mathlib.Core.Path.{_≡_, sym, ap, _∙_, subst}
 use Prim.Native.Nat.{ℕ, _^_, _/_, _%_, _<_}
 use native.Mathlib.Omega.{arith}
 use Rattle.refusals.specs.declared.Refusal.{Refusal}
-use Rattle.refusals.specs.declared.Refusal.the-variants.{TableNotSound, FrameShort, CommandWrong, CodeNotListed, LengthWrong, NoRoom, PositionWrong, CountWrong, CodeCleared, NeitherRight}
+use Rattle.refusals.specs.declared.Refusal.the-variants.{TableNotSound, FrameShort, CommandWrong, CodeNotListed, LengthWrong, NoRoom, PositionWrong, CountWrong, CodeCleared, BothDamaged}
 use Rattle.refusals.specs.Numbers.{numberOf}
 use Rattle.packing.specs.Packed.{Parts, packed, apart, Fit, refused, accepted}
 
@@ -56,4 +56,4 @@ refused-fits r = record { number-fits = at-most-ten r; first-fits = omega arith;
     at-most-ten PositionWrong = omega arith
     at-most-ten CountWrong = omega arith
     at-most-ten CodeCleared = omega arith
-    at-most-ten NeitherRight = omega arith
+    at-most-ten BothDamaged = omega arith

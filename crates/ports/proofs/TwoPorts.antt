@@ -9,7 +9,7 @@ use lib.Dec.{leb, eqb}
 use lib.ListN.{length}
 use native.Mathlib.Omega.{arith}
 use borrow.Author.Tests.{not-false, eqb-true, eq-eqb, le-leb}
-use Rattle.refusals.specs.declared.Refusal.the-variants.{LengthWrong, PositionWrong, NeitherRight}
+use Rattle.refusals.specs.declared.Refusal.the-variants.{LengthWrong, PositionWrong, BothDamaged}
 use Rattle.refusals.specs.Order.{decide}
 use Rattle.refusals.proofs.Deciding.{decide-map, passes, has-passed}
 use Rattle.laws.proofs.Tests.{both-first, both-second}
@@ -66,7 +66,7 @@ module _ (a b : List ℕ) (n k : ℕ) where
   unfolding portOf portRefusals decide
   b-right p l r s = simp (p, l, r, s)
 
-  pub neither-right : positionTest ≡ true → lengthTest ≡ true → rightA ≡ false → rightB ≡ false → portOf a b n k ≡ Refused NeitherRight
+  pub neither-right : positionTest ≡ true → lengthTest ≡ true → rightA ≡ false → rightB ≡ false → portOf a b n k ≡ Refused BothDamaged
   unfolding portOf portRefusals decide
   neither-right p l r s = simp (p, l, r, s)
 
@@ -156,7 +156,7 @@ module _ (a b : List ℕ) (n k : ℕ) where
       (e, bytes-by-port ∙ ap (byPort [] (partA a n k) (partB b n k)) e)
 
   -- no bytes where both are wrong
-  pub answer-none : Asked a b n k → rightA ≡ false → rightB ≡ false → (portOf a b n k ≡ Refused NeitherRight) × (bytesOf a b n k ≡ [])
+  pub answer-none : Asked a b n k → rightA ≡ false → rightB ≡ false → (portOf a b n k ≡ Refused BothDamaged) × (bytesOf a b n k ≡ [])
   answer-none q r s =
       let e = neither-right (asked-position q) (asked-length q) r s in
       (e, bytes-by-port ∙ ap (byPort [] (partA a n k) (partB b n k)) e)

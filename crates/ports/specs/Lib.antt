@@ -1,3 +1,4 @@
+pub mod Verdicts
 pub mod Check
 pub mod Ports
 pub mod Parts

@@ -1,19 +1,19 @@
--- Document 01, "Two ends of the chain": port A's reply has monitor 1 first, port B's has monitor N first. Asked for monitor k, the
--- host hands back k's eight bytes as they lie in one of the two replies.
+-- Document 01, "Two ends of the chain", and document 02, L5: port A's reply has monitor 1 first, port B's has monitor N first. Asked for
+-- monitor k, the host hands back k's eight bytes as they lie in one of the two replies.
 -- Assumes nothing.
-use mathlib.Core.Bool.{Bool, cond, not, _&&_, _||_}
+use mathlib.Core.Bool.{Bool, true, false, cond, not, _&&_}
 use mathlib.Core.List.{List, [], _∷_}
 use Prim.Native.Nat.{ℕ, _-_, _*_}
 use lib.Dec.{eqb, leb}
 use lib.ListN.{length, take, drop}
 use Rattle.laws.specs.Rows.{rowAt}
-use Rattle.pec.specs.Words.{payloadRight}
 use Rattle.refusals.specs.declared.Refusal.{Refusal}
-use Rattle.refusals.specs.declared.Refusal.the-variants.{LengthWrong, PositionWrong, NeitherRight}
+use Rattle.refusals.specs.declared.Refusal.the-variants.{LengthWrong, PositionWrong, BothDamaged}
 use Rattle.refusals.specs.Order.{Row, _gives_, decide}
 use Rattle.records.specs.Commands.{mostMonitors, payloadSize}
 use Rattle.ports.specs.declared.ports.Port.{Port}
 use Rattle.ports.specs.declared.ports.Port.the-variants.{Refused, A, B}
+use Rattle.ports.specs.Verdicts.{isDamaged, isRight, counterDiffers, counterRow}
 
 -- monitor k's place in each reply, in payloads from its start; k counts from 1
 unfoldable pub placeA : ℕ → ℕ → ℕ
@@ -29,13 +29,25 @@ partA a n k = rowAt payloadSize (placeA n k) a
 unfoldable pub partB : List ℕ → ℕ → ℕ → List ℕ
 partB b n k = rowAt payloadSize (placeB n k) b
 
-unfoldable pub portRefusals : List ℕ → List ℕ → ℕ → ℕ → List Row
-portRefusals a b n k =
-    (not (leb 1 n && leb n mostMonitors && leb 1 k && leb k n) gives PositionWrong)
+unfoldable pub portRefusals : List ℕ → List ℕ → ℕ → ℕ → ℕ → List Row
+portRefusals a b n k expected =
+    counterRow expected
+    ∷ (not (leb 1 n && leb n mostMonitors && leb 1 k && leb k n) gives PositionWrong)
     ∷ (not (eqb (length a) (payloadSize * n) && eqb (length b) (payloadSize * n)) gives LengthWrong)
-    ∷ (not (payloadRight (partA a n k) || payloadRight (partB b n k)) gives NeitherRight)
+    ∷ (isDamaged (partA a n k) && isDamaged (partB b n k) gives BothDamaged)
     ∷ []
 
--- which reply has them: port A's where it is right there
-unfoldable pub portOf : List ℕ → List ℕ → ℕ → ℕ → Port
-portOf a b n k = decide (portRefusals a b n k) Refused (cond (payloadRight (partA a n k)) A B)
+-- which of two parts that are not both damaged, and does its counter differ: A's if right, else B's if right, else A's if only its counter
+-- differs, else B's likewise
+unfoldable pub chosen : List ℕ → List ℕ → ℕ → Port
+chosen inA inB expected = cond (isRight inA expected) (A false) (cond (isRight inB expected) (B false) (cond (counterDiffers inA expected) (A true) (B true)))
+
+-- which reply has monitor k's bytes, and does their counter differ
+unfoldable pub portOf : List ℕ → List ℕ → ℕ → ℕ → ℕ → Port
+portOf a b n k expected = decide (portRefusals a b n k expected) Refused (chosen (partA a n k) (partB b n k) expected)
+
+-- what is made of each port: where none answers, of A's reply, of B's
+abbrev pub byPort : {R : Type 0} → R → R → R → Port → R
+byPort none ofA ofB (Refused r) = none
+byPort none ofA ofB (A differs) = ofA
+byPort none ofA ofB (B differs) = ofB

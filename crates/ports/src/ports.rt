@@ -1,22 +1,26 @@
 // Two ends of the chain: a monitor's eight bytes as they lie in one of two replies, port A's with monitor 1 first, port B's
 // with monitor N first.
 ghost use mathlib.Core.Path.{_≡_};
-ghost use mathlib.Core.Bool.{_&&_};
+ghost use mathlib.Core.Bool.{cond, _&&_};
 ghost use Prim.Native.Nat.{_+_, _*_, _≤_};
 ghost use lib.Dec.{leb};
 ghost use lib.ListN.{length};
 ghost use Rattle.records.specs.Commands.{mostMonitors, payloadSize};
-ghost use Rattle.ports.specs.Ports.{placeA, placeB, portOf};
+ghost use Rattle.refusals.specs.declared.Refusal.the-variants.{BothDamaged};
+ghost use Rattle.ports.specs.declared.ports.Port.the-variants.{Refused};
+ghost use Rattle.ports.specs.Verdicts.{isDamaged, isRight};
+ghost use Rattle.ports.specs.Ports.{placeA, placeB, chosen, portOf};
 ghost use Rattle.ports.specs.Parts.{bytesOf, lying, part, partOf};
+use records::MOST_COUNT;
 use records::MOST_MONITORS;
 use records::PAYLOAD_SIZE;
 use refusals::Refusal;
 
-// Which reply has the bytes, or why none is handed back.
+// Which reply has the bytes, and does their counter differ; or why none is handed back.
 pub enum Port {
     Refused(Refusal),
-    A,
-    B,
+    A(bool),
+    B(bool),
 }
 
 // Can a monitor stand at k, counted from 1, in a chain of n? A chain that has a monitor at k is not empty.
@@ -58,10 +62,42 @@ fn part_at(reply: &[u8], place: usize) -> &[u8]
     &reply[from..to]
 }
 
-// Which reply has monitor k's bytes: port A's where they are right there, else port B's.
-pub fn port_of(a: &[u8], b: &[u8], n: usize, k: usize) -> Port
-    ensures { λ r. ⌜ r ≡ portOf (now (a .entry)) (now (b .entry)) n k ⌝ }
+// Is a payload right, and its counter the one expected?
+fn is_right(eight: &[u8], expected: u8) -> bool
+    ensures { λ r. ⌜ r ≡ isRight (now (eight .entry)) expected ⌝ }
 {
+    if !check_words::payload_right(eight) {
+        return false;
+    }
+    check_words::counter_in(eight) == expected
+}
+
+// Which of two parts: A's if right, else B's if right, else A's if only its counter differs, else B's likewise; none if both are damaged.
+fn choose(in_a: &[u8], in_b: &[u8], expected: u8) -> Port
+    ensures { λ r. ⌜ r ≡ cond (isDamaged (now (in_a .entry)) && isDamaged (now (in_b .entry))) (Refused BothDamaged) (chosen (now (in_a .entry)) (now (in_b .entry)) expected) ⌝ }
+{
+    if is_right(in_a, expected) {
+        return Port::A(false);
+    }
+    if is_right(in_b, expected) {
+        return Port::B(false);
+    }
+    if check_words::payload_right(in_a) {
+        return Port::A(true);
+    }
+    if check_words::payload_right(in_b) {
+        return Port::B(true);
+    }
+    Port::Refused(Refusal::BothDamaged)
+}
+
+// Which reply has monitor k's bytes, and does their counter differ from the one expected?
+pub fn port_of(a: &[u8], b: &[u8], n: usize, k: usize, expected: u8) -> Port
+    ensures { λ r. ⌜ r ≡ portOf (now (a .entry)) (now (b .entry)) n k expected ⌝ }
+{
+    if expected > MOST_COUNT {
+        return Port::Refused(Refusal::PositionWrong);
+    }
     if !is_position(n, k) {
         return Port::Refused(Refusal::PositionWrong);
     }
@@ -71,24 +107,18 @@ pub fn port_of(a: &[u8], b: &[u8], n: usize, k: usize) -> Port
     if b.len() != PAYLOAD_SIZE * n {
         return Port::Refused(Refusal::LengthWrong);
     }
-    if check_words::payload_right(part_at(a, place_a(n, k))) {
-        return Port::A;
-    }
-    if check_words::payload_right(part_at(b, place_b(n, k))) {
-        return Port::B;
-    }
-    Port::Refused(Refusal::NeitherRight)
+    choose(part_at(a, place_a(n, k)), part_at(b, place_b(n, k)), expected)
 }
 
 // Monitor k's eight bytes as they lie in one of the two replies, and no bytes where that is refused.
-pub fn part_of<'x>(a: &'x [u8], b: &'x [u8], n: usize, k: usize) -> &'x [u8]
-    ensures { λ r. ⌜ now r ≡ bytesOf (now (a .entry)) (now (b .entry)) n k ⌝ }
-    ensures { λ r. ⌜ lying r ≡ partOf (a .entry) (b .entry) n k ⌝ }
+pub fn part_of<'x>(a: &'x [u8], b: &'x [u8], n: usize, k: usize, expected: u8) -> &'x [u8]
+    ensures { λ r. ⌜ now r ≡ bytesOf (now (a .entry)) (now (b .entry)) n k expected ⌝ }
+    ensures { λ r. ⌜ lying r ≡ partOf (a .entry) (b .entry) n k expected ⌝ }
 {
-    let port = port_of(a, b, n, k);
+    let port = port_of(a, b, n, k, expected);
     match port {
         Port::Refused(_) => &a[..0],
-        Port::A => part_at(a, place_a(n, k)),
-        Port::B => part_at(b, place_b(n, k)),
+        Port::A(_) => part_at(a, place_a(n, k)),
+        Port::B(_) => part_at(b, place_b(n, k)),
     }
 }

@@ -146,6 +146,10 @@ onBytes p f r = anew f (p .at) (p .size) r
 unfoldable pub isRecord : List ℕ → Bool
 isRecord r = eqb (length r) recordSize
 
--- the counter is 0 to 63, and the retention byte 0 or 1; other bytes are free
+-- a command counter is 0 to 63
+abbrev pub mostCount : ℕ
+mostCount = 63
+
+-- the counter is one, and the retention byte 0 or 1; other bytes are free
 unfoldable pub recordSound : List ℕ → Bool
-recordSound r = leb (byteOf counter r) 63 && leb (byteOf unlocked r) 1
+recordSound r = leb (byteOf counter r) mostCount && leb (byteOf unlocked r) 1

@@ -30,6 +30,7 @@ pub use record::LPCM_CELL_THRESHOLDS;
 pub use record::LPCM_CONFIGURATION;
 pub use record::LPCM_FLAGS;
 pub use record::LPCM_GPIO_THRESHOLDS;
+pub use record::MOST_COUNT;
 pub use record::PWM_A;
 pub use record::PWM_B;
 pub use record::Part;

@@ -35,6 +35,9 @@ pub(crate) const SERIAL_ID: usize = 62;
 
 pub const COUNTER: usize = 68;
 
+// A command counter is 0 to 63.
+pub const MOST_COUNT: u8 = 63;
+
 pub const UNLOCKED: usize = 69;
 
 // The duties of cells 1 to 12.
@@ -205,14 +208,14 @@ pub fn in_lpcm(rec: &[u8]) -> bool
     byte_at(rec, CMF1) / 128 % 2 == 1
 }
 
-// Is it a record, with a counter of 0 to 63 and a retention byte of 0 or 1?
+// Is it a record, with a counter that is one and a retention byte of 0 or 1?
 pub fn record_sound(rec: &[u8]) -> bool
     ensures { λ r. ⌜ r ≡ (isRecord (now (rec .entry)) && recordSound (now (rec .entry))) ⌝ }
 {
     if rec.len() != RECORD_SIZE {
         return false;
     }
-    if rec[COUNTER] > 63 {
+    if rec[COUNTER] > MOST_COUNT {
         return false;
     }
     rec[UNLOCKED] <= 1

@@ -2,7 +2,7 @@
 -- Assumes nothing.
 use Prim.Native.Nat.{ℕ}
 use Rattle.refusals.specs.declared.Refusal.{Refusal}
-use Rattle.refusals.specs.declared.Refusal.the-variants.{TableNotSound, FrameShort, CommandWrong, CodeNotListed, LengthWrong, NoRoom, PositionWrong, CountWrong, CodeCleared, NeitherRight}
+use Rattle.refusals.specs.declared.Refusal.the-variants.{TableNotSound, FrameShort, CommandWrong, CodeNotListed, LengthWrong, NoRoom, PositionWrong, CountWrong, CodeCleared, BothDamaged}
 
 abbrev pub numberOf : Refusal → ℕ
 numberOf TableNotSound = 1
@@ -14,4 +14,4 @@ numberOf NoRoom = 6
 numberOf PositionWrong = 7
 numberOf CountWrong = 8
 numberOf CodeCleared = 9
-numberOf NeitherRight = 10
+numberOf BothDamaged = 10

@@ -15,14 +15,14 @@ pub enum Refusal {
     LengthWrong,
     // The buffer to be written is too small.
     NoRoom,
-    // N is not 1 to 32, or the position not 1 to N.
+    // N is not 1 to 32, or the position not 1 to N; a phase is above 14; an expected counter is above 63.
     PositionWrong,
     // The number of codes or value bytes is wrong.
     CountWrong,
     // A loaded code is -32768.
     CodeCleared,
-    // Neither port's bytes are right.
-    NeitherRight,
+    // Both ports' bytes are damaged.
+    BothDamaged,
 }
 
 pub fn number_of(refusal: Refusal) -> u8
@@ -38,6 +38,6 @@ pub fn number_of(refusal: Refusal) -> u8
         Refusal::PositionWrong => 7,
         Refusal::CountWrong => 8,
         Refusal::CodeCleared => 9,
-        Refusal::NeitherRight => 10,
+        Refusal::BothDamaged => 10,
     }
 }

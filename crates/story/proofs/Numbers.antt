@@ -11,7 +11,7 @@ use lib.ListN.{length, getD}
 use native.Mathlib.Omega.{arith}
 use Prim.Native.Nat.{ℕ, _-_, _≤_}
 use Rattle.refusals.specs.declared.Refusal.{Refusal}
-use Rattle.refusals.specs.declared.Refusal.the-variants.{TableNotSound, FrameShort, CommandWrong, CodeNotListed, LengthWrong, NoRoom, PositionWrong, CountWrong, CodeCleared, NeitherRight}
+use Rattle.refusals.specs.declared.Refusal.the-variants.{TableNotSound, FrameShort, CommandWrong, CodeNotListed, LengthWrong, NoRoom, PositionWrong, CountWrong, CodeCleared, BothDamaged}
 use Rattle.refusals.specs.Numbers.{numberOf}
 use Rattle.refusals.specs.Order.{Row, decide, Passed}
 use Rattle.refusals.proofs.Deciding.{holds-here, holds-not, decide-map, passes, has-passed}
@@ -55,7 +55,7 @@ use Rattle.story.specs.Numbers.{dischargedNumbers, sentNumbers, relayedN
 -- the refusals by their numbers
 refusalOf : ℕ → Refusal
 refusalOf n =
-    getD (TableNotSound ∷ FrameShort ∷ CommandWrong ∷ CodeNotListed ∷ LengthWrong ∷ NoRoom ∷ PositionWrong ∷ CountWrong ∷ CodeCleared ∷ NeitherRight ∷ []) (n - 1) TableNotSound
+    getD (TableNotSound ∷ FrameShort ∷ CommandWrong ∷ CodeNotListed ∷ LengthWrong ∷ NoRoom ∷ PositionWrong ∷ CountWrong ∷ CodeCleared ∷ BothDamaged ∷ []) (n - 1) TableNotSound
 
 told : (r : Refusal) → refusalOf (numberOf r) ≡ r
 unfolding refusalOf
@@ -68,7 +68,7 @@ told NoRoom = refl
 told PositionWrong = refl
 told CountWrong = refl
 told CodeCleared = refl
-told NeitherRight = refl
+told BothDamaged = refl
 
 -- no refusal has the number 0
 some-number : (r : Refusal) → 1 ≤ numberOf r
@@ -81,7 +81,7 @@ some-number NoRoom = omega arith
 some-number PositionWrong = omega arith
 some-number CountWrong = omega arith
 some-number CodeCleared = omega arith
-some-number NeitherRight = omega arith
+some-number BothDamaged = omega arith
 
 -- ---- exactly when its condition is the first to hold
 
