@@ -13,6 +13,8 @@ use lib.IntN.{ℤ}
 use lib.ListN.{length, getD}
 use borrow.Author.Tests.{leb-true, not-false}
 use Rattle.laws.proofs.Tests.{both-second}
+use Rattle.pec.specs.Words.{wordAt, counterOf}
+use Rattle.pec.proofs.Messages.{word-below}
 use Rattle.refusals.proofs.Decided.{by-passing}
 use Rattle.records.specs.declared.commands.Command.{Command}
 use Rattle.records.specs.declared.commands.Command.the-variants.{Reads, Writes, Bares, Unlisted}
@@ -21,15 +23,16 @@ use Rattle.records.proofs.Widths.{width-most}
 use Rattle.host.specs.declared.frames.Built.the-variants.{Unbuilt}
 use Rattle.host.specs.Frames.{buildRefusals, built}
 use Rattle.host.proofs.Judging.{chain-test}
-use Rattle.ports.specs.declared.checks.Checked.{Checked}
-use Rattle.ports.specs.declared.checks.Checked.the-variants.{Unchecked, Right, Wrong}
+use Rattle.ports.specs.declared.checks.Checked.the-variants.{Unchecked, Right, CounterDiffers, Damaged}
 use Rattle.ports.specs.declared.ports.Port.{Port}
 use Rattle.ports.specs.declared.ports.Port.the-variants.{Refused as Unported, A, B}
-use Rattle.messages.specs.declared.verdicts.Verdict.the-variants.{Refused as Unjudged, Passed, Failed, Damaged, TimedOut}
+use Rattle.messages.specs.declared.verdicts.Verdict.the-variants.{Refused as Unjudged, Passed, Failed, Damaged as MessageDamaged, TimedOut}
 use Rattle.messages.specs.Messages.{countIn, flagsIn, messageRight, isPass}
 use Rattle.messages.specs.Verdicts.{verdictRefusals, verdictOf, verdict}
+use Rattle.ports.specs.Verdicts.{isDamaged, counterDiffers}
+use Rattle.ports.specs.Check.{checkRefusals, checked}
 use Rattle.ports.specs.Ports.{placeA, placeB, portOf}
-use Rattle.ports.proofs.TwoPorts.{only-a, only-b}
+use Rattle.ports.proofs.TwoPorts.{asked-a, asked-b}
 use Rattle.readings.specs.declared.pack_summary.Pack.{Pack}
 use Rattle.readings.specs.declared.pack_summary.Pack.the-variants.{Refused as Unsummed, Nothing, Whole}
 use Rattle.readings.specs.Readings.{mostCodes, measured, wholeOf, summaryOf}
@@ -61,25 +64,35 @@ unfolding verdict verdictOf countIn flagsIn
 verdict-fits bytes late small =
     by-passing (λ x. Fit (verdictParts x)) (verdictRefusals bytes late) Unjudged _ refused-fits (λ none. each late (messageRight bytes) (isPass (getD bytes 4 0) (getD bytes 5 0)))
   where
-    each : (l r p : Bool) → Fit (verdictParts (cond l TimedOut (cond (not r) Damaged (cond p Passed (Failed (getD bytes 4 0) (getD bytes 5 0))))))
+    each : (l r p : Bool) → Fit (verdictParts (cond l TimedOut (cond (not r) MessageDamaged (cond p Passed (Failed (getD bytes 4 0) (getD bytes 5 0))))))
     each true r p = accepted-fits 4 0 (omega arith) (omega arith)
     each false false p = accepted-fits 3 0 (omega arith) (omega arith)
     each false true true = accepted-fits 1 0 (omega arith) (omega arith)
     each false true false = accepted-fits 2 (256 * getD bytes 4 0 + getD bytes 5 0) (omega arith) (omega (arith, small 4, small 5))
 
-pub checked-fits : (c : Checked) → Fit (checkedParts c)
-checked-fits (Unchecked r) = refused-fits r
-checked-fits Right = accepted-fits 1 0 (omega arith) (omega arith)
-checked-fits Wrong = accepted-fits 2 0 (omega arith) (omega arith)
-
-pub port-fits : (a b : List ℕ) (n k : ℕ) → Fit (portParts n k (portOf a b n k))
-unfolding placeA placeB
-port-fits a b n k = by (portOf a b n k) refl
+-- a check of bytes: a counter received has six bits
+pub checked-fits : (payload : List ℕ) (expected : ℕ) → ((k : ℕ) → getD payload k 0 < 256) → Fit (checkedParts (checked payload expected))
+unfolding checked counterOf
+checked-fits payload expected small =
+    by-passing (λ x. Fit (checkedParts x)) (checkRefusals payload expected) Unchecked _ refused-fits (λ none. each (isDamaged payload) (counterDiffers payload expected))
   where
-    by : (port : Port) → portOf a b n k ≡ port → Fit (portParts n k port)
+    each : (d c : Bool) → Fit (checkedParts (cond d Damaged (cond c (CounterDiffers (counterOf payload)) Right)))
+    each true c = accepted-fits 2 0 (omega arith) (omega arith)
+    each false true = accepted-fits 3 (counterOf payload) (omega arith) (omega (arith, word-below payload small 6))
+    each false false = accepted-fits 1 0 (omega arith) (omega arith)
+
+pub port-fits : (a b : List ℕ) (n k expected : ℕ) → Fit (portParts n k (portOf a b n k expected))
+unfolding placeA placeB
+port-fits a b n k expected = by (portOf a b n k expected) refl
+  where
+    few : (d : Bool) {x y : ℕ} → x < 256 → y < 256 → cond d x y < 256
+    few true h l = h
+    few false h l = l
+
+    by : (port : Port) → portOf a b n k expected ≡ port → Fit (portParts n k port)
     by (Unported r) e = refused-fits r
-    by A e = let asked = only-a a b n k e .0 in accepted-fits 1 _ (omega arith) (omega (arith, asked .most, asked .last))
-    by B e = let asked = only-b a b n k e .0 in accepted-fits 2 _ (omega arith) (omega (arith, asked .most, asked .last))
+    by (A differs) e = let asked = asked-a a b n k expected differs e in accepted-fits _ _ (few differs (omega arith) (omega arith)) (omega (arith, asked .most, asked .last))
+    by (B differs) e = let asked = asked-b a b n k expected differs e in accepted-fits _ _ (few differs (omega arith) (omega arith)) (omega (arith, asked .most, asked .last))
 
 -- ---- a summary
 

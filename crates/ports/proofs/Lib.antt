@@ -1,4 +1,5 @@
 pub mod Tests
+pub mod Choosing
 pub mod TwoPorts
 pub mod BothEnds
 pub mod Handed

@@ -107,7 +107,11 @@ pub fn port_of(a: &[u8], b: &[u8], n: usize, k: usize, expected: u8) -> Port
     if b.len() != PAYLOAD_SIZE * n {
         return Port::Refused(Refusal::LengthWrong);
     }
-    choose(part_at(a, place_a(n, k)), part_at(b, place_b(n, k)), expected)
+    choose(
+        part_at(a, place_a(n, k)),
+        part_at(b, place_b(n, k)),
+        expected,
+    )
 }
 
 // Monitor k's eight bytes as they lie in one of the two replies, and no bytes where that is refused.

@@ -16,5 +16,24 @@ returns-2 c = as-told checkedParts (c .accepted .ensures) (sym (c .before .befor
 returns-3 : tie.Need-returns-3
 returns-3 c = as-told checkedParts (c .accepted2 .ensures) (sym (c .before .before .before .check .ensures) ∙ c .before .enum-told2 .given .1)
 
+returns-4 : tie.Need-returns-4
+returns-4 c = as-told checkedParts (c .accepted3 .ensures) (sym (c .before .before .before .before .check .ensures) ∙ c .before .before .received .given .1)
+
 pub osk-check-spec : {M : Type 1} → statement M
-osk-check-spec = tie.close (tie.spec (λ c κs. search needs) (λ c. search needs) (λ c κs. search needs) (λ c. search needs) (λ c κs. search needs) (λ c. search needs) (λ c κs. search needs) returns returns-2 returns-3)
+osk-check-spec =
+    tie.close
+    (tie.spec
+    (λ c κs. search needs)
+    (λ c. search needs)
+    (λ c κs. search needs)
+    (λ c. search needs)
+    (λ c κs. search needs)
+    (λ c. search needs)
+    (λ c κs. search needs)
+    (λ c. search needs)
+    (λ c. search needs)
+    (λ c κs. search needs)
+    returns
+    returns-2
+    returns-3
+    returns-4)
