@@ -176,8 +176,10 @@ osk_answer osk_time_out(uint8_t *table, size_t table_length, size_t position);
 osk_answer osk_host_frame(uint16_t command, size_t monitors, const uint8_t *values, size_t values_length, uint8_t *out, size_t out_length);
 
 /* A monitor counts the writes and bare commands that it takes: after 63 comes 1, RSTCC (002E) makes it 0, reads leave it. Each reply carries the
- * counter as it stands, the six high bits of byte 7 of the eight. A host that keeps the same count knows what to expect of a reply, and a monitor that
- * missed a command shows by another counter. A WRRR is counted whatever its check, so a damaged one does not show; in LPCM no write is taken.
+ * counter as it stands, in the six high bits of the seventh of its eight bytes (payload[6] >> 2). A host that keeps the same count knows what to expect:
+ * after a write or a bare command the next counter, and of a monitor that missed it the reply has the old one. An RSTCC hides what was missed before it,
+ * and 63 missed in a row come round to the same. A WRRR is counted whatever its check, so a damaged one does not show; in LPCM no write is taken, which
+ * shows as one that was missed.
  */
 enum { OSK_RIGHT = 1, OSK_DAMAGED = 2, OSK_COUNTER_DIFFERS = 3 };
 
@@ -188,12 +190,12 @@ enum { OSK_RIGHT = 1, OSK_DAMAGED = 2, OSK_COUNTER_DIFFERS = 3 };
  */
 osk_answer osk_check(const uint8_t *payload, size_t payload_length, uint8_t expected);
 
-/* What two ports answer beside OSK_PORT_A and OSK_PORT_B: that port's, and its counter differs. */
+/* What two ports answer beside OSK_PORT_A and OSK_PORT_B: that port's bytes, and their counter differs. */
 enum { OSK_PORT_A_DIFFERS = 3, OSK_PORT_B_DIFFERS = 4 };
 
 /* The chain was read from both ends: port A's reply `a` has monitor 1 first, port B's `b` has monitor N first. Asked for the monitor at
- * a position: its eight bytes as they lie in one of the two, A's if right, else B's if right, else A's if only its counter differs, else B's
- * likewise.
+ * a position: its eight bytes as they lie in one of the two, A's if right (data PEC and counter, as osk_check has it), else B's if right, else A's if
+ * only their counter differs, else B's likewise.
  * First: OSK_PORT_A, OSK_PORT_B, OSK_PORT_A_DIFFERS or OSK_PORT_B_DIFFERS. Second: the byte of that reply that the eight start at. Refusals: 7 (an
  * expected counter above 63), 7 (N or position), 5 (either reply not 8N bytes), 10.
  */

@@ -32,18 +32,18 @@ by-b false q true true h e = refl
 by-b false q true false h e = absurd (false≢true e)
 by-b false q false s h e = absurd (false≢true e)
 
-by-a-but : (p q r s : Bool) → p && q ≡ false → r && s ≡ false → p ≡ true → choice p q r s ≡ A true
-by-a-but true true r s h e d = absurd (false≢true (sym h))
-by-a-but true false true true h e d = absurd (false≢true (sym e))
-by-a-but true false true false h e d = refl
-by-a-but true false false s h e d = refl
-by-a-but false q r s h e d = absurd (false≢true d)
+by-a-differs : (p q r s : Bool) → p && q ≡ false → r && s ≡ false → p ≡ true → choice p q r s ≡ A true
+by-a-differs true true r s h e d = absurd (false≢true (sym h))
+by-a-differs true false true true h e d = absurd (false≢true (sym e))
+by-a-differs true false true false h e d = refl
+by-a-differs true false false s h e d = refl
+by-a-differs false q r s h e d = absurd (false≢true d)
 
-by-b-but : (p q r s : Bool) → p ≡ false → r && s ≡ false → r ≡ true → choice p q r s ≡ B true
-by-b-but true q r s h e d = absurd (false≢true (sym h))
-by-b-but false q true true h e d = absurd (false≢true (sym e))
-by-b-but false q true false h e d = refl
-by-b-but false q false s h e d = absurd (false≢true d)
+by-b-differs : (p q r s : Bool) → p ≡ false → r && s ≡ false → r ≡ true → choice p q r s ≡ B true
+by-b-differs true q r s h e d = absurd (false≢true (sym h))
+by-b-differs false q true true h e d = absurd (false≢true (sym e))
+by-b-differs false q true false h e d = refl
+by-b-differs false q false s h e d = absurd (false≢true d)
 
 by-none : (p q r s : Bool) → p ≡ false → r ≡ false → choice p q r s ≡ Refused BothDamaged
 by-none true q r s h e = absurd (false≢true (sym h))
@@ -71,13 +71,13 @@ module _ (inA inB : List ℕ) (expected : ℕ) where
   unfolding isDamaged isRight counterDiffers chosen
   either-b h e = by-b rightA (eqb (counterOf inA) expected) rightB (eqb (counterOf inB) expected) h e
 
-  pub either-a-but : isRight inA expected ≡ false → isRight inB expected ≡ false → rightA ≡ true → either ≡ A true
+  pub either-a-differs : isRight inA expected ≡ false → isRight inB expected ≡ false → rightA ≡ true → either ≡ A true
   unfolding isDamaged isRight counterDiffers chosen
-  either-a-but h e d = by-a-but rightA (eqb (counterOf inA) expected) rightB (eqb (counterOf inB) expected) h e d
+  either-a-differs h e d = by-a-differs rightA (eqb (counterOf inA) expected) rightB (eqb (counterOf inB) expected) h e d
 
-  pub either-b-but : rightA ≡ false → isRight inB expected ≡ false → rightB ≡ true → either ≡ B true
+  pub either-b-differs : rightA ≡ false → isRight inB expected ≡ false → rightB ≡ true → either ≡ B true
   unfolding isDamaged isRight counterDiffers chosen
-  either-b-but h e d = by-b-but rightA (eqb (counterOf inA) expected) rightB (eqb (counterOf inB) expected) h e d
+  either-b-differs h e d = by-b-differs rightA (eqb (counterOf inA) expected) rightB (eqb (counterOf inB) expected) h e d
 
   pub either-none : rightA ≡ false → rightB ≡ false → either ≡ Refused BothDamaged
   unfolding isDamaged isRight counterDiffers chosen

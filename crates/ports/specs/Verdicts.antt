@@ -23,8 +23,8 @@ isRight eight expected = payloadRight eight && eqb (counterOf eight) expected
 unfoldable pub counterDiffers : List ℕ → ℕ → Bool
 counterDiffers eight expected = payloadRight eight && not (eqb (counterOf eight) expected)
 
--- ---- what may be expected
+-- ---- which counters may be expected
 
--- nothing that is no counter
+-- none above 63
 unfoldable pub counterRow : ℕ → Row
 counterRow expected = ltb mostCount expected gives PositionWrong

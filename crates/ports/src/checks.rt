@@ -23,10 +23,10 @@ pub fn check(payload: &[u8], expected: u8) -> Checked
     if payload.len() != PAYLOAD_SIZE {
         return Checked::Unchecked(Refusal::LengthWrong);
     }
+    let counter = check_words::counter_in(payload);
     if !check_words::payload_right(payload) {
         return Checked::Damaged;
     }
-    let counter = check_words::counter_in(payload);
     if counter != expected {
         return Checked::CounterDiffers(counter);
     }

@@ -5,6 +5,7 @@ ghost use mathlib.Core.Bool.{cond, _&&_};
 ghost use Prim.Native.Nat.{_+_, _*_, _≤_};
 ghost use lib.Dec.{leb};
 ghost use lib.ListN.{length};
+ghost use Rattle.pec.specs.Words.{payloadRight};
 ghost use Rattle.records.specs.Commands.{mostMonitors, payloadSize};
 ghost use Rattle.refusals.specs.declared.Refusal.the-variants.{BothDamaged};
 ghost use Rattle.ports.specs.declared.ports.Port.the-variants.{Refused};
@@ -62,11 +63,12 @@ fn part_at(reply: &[u8], place: usize) -> &[u8]
     &reply[from..to]
 }
 
-// Is a payload right, and its counter the one expected?
-fn is_right(eight: &[u8], expected: u8) -> bool
+// Is a payload right, its check being so or not?
+fn is_right(check: bool, eight: &[u8], expected: u8) -> bool
+    requires { ⌜ check ≡ payloadRight (now eight) ⌝ }
     ensures { λ r. ⌜ r ≡ isRight (now (eight .entry)) expected ⌝ }
 {
-    if !check_words::payload_right(eight) {
+    if !check {
         return false;
     }
     check_words::counter_in(eight) == expected
@@ -76,16 +78,18 @@ fn is_right(eight: &[u8], expected: u8) -> bool
 fn choose(in_a: &[u8], in_b: &[u8], expected: u8) -> Port
     ensures { λ r. ⌜ r ≡ cond (isDamaged (now (in_a .entry)) && isDamaged (now (in_b .entry))) (Refused BothDamaged) (chosen (now (in_a .entry)) (now (in_b .entry)) expected) ⌝ }
 {
-    if is_right(in_a, expected) {
+    let check_a = check_words::payload_right(in_a);
+    if is_right(check_a, in_a, expected) {
         return Port::A(false);
     }
-    if is_right(in_b, expected) {
+    let check_b = check_words::payload_right(in_b);
+    if is_right(check_b, in_b, expected) {
         return Port::B(false);
     }
-    if check_words::payload_right(in_a) {
+    if check_a {
         return Port::A(true);
     }
-    if check_words::payload_right(in_b) {
+    if check_b {
         return Port::B(true);
     }
     Port::Refused(Refusal::BothDamaged)

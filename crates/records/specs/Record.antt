@@ -150,6 +150,6 @@ isRecord r = eqb (length r) recordSize
 abbrev pub mostCount : ℕ
 mostCount = 63
 
--- the counter is one, and the retention byte 0 or 1; other bytes are free
+-- the counter is at most that, and the retention byte 0 or 1; other bytes are free
 unfoldable pub recordSound : List ℕ → Bool
 recordSound r = leb (byteOf counter r) mostCount && leb (byteOf unlocked r) 1

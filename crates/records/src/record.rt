@@ -208,7 +208,7 @@ pub fn in_lpcm(rec: &[u8]) -> bool
     byte_at(rec, CMF1) / 128 % 2 == 1
 }
 
-// Is it a record, with a counter that is one and a retention byte of 0 or 1?
+// Is it a record, with a counter of 0 to 63 and a retention byte of 0 or 1?
 pub fn record_sound(rec: &[u8]) -> bool
     ensures { λ r. ⌜ r ≡ (isRecord (now (rec .entry)) && recordSound (now (rec .entry))) ⌝ }
 {

@@ -64,26 +64,27 @@ returns-2 c =
 
 returns-3 : tie.Need-returns-3
 returns-3 c =
-    let s = c .before .before in
+    let s = c .before .before .before in
     let q = s .before .before .before .args in
     sym (is-damaged (q .payload .now) (q .expected) (counted (s .before)) (whole s) (sym (c .before .payload-right .ensures) ∙ not-true _ (c .if3 .taken)))
 
 returns-4 : tie.Need-returns-4
 returns-4 c =
-    let t = c .before .before in
-    let s = t .before .before in
+    let t = c .before in
+    let s = t .before .before .before in
     let q = s .before .before .before .args in
-    ap CounterDiffers (c .before .counter-in .ensures)
+    let received = t .before .before .counter-in .ensures in
+    ap CounterDiffers received
     ∙ sym (differs (q .payload .now) (q .expected) (counted (s .before)) (whole s) (sym (t .before .payload-right .ensures) ∙ not-false _ (t .if3 .left))
-    (ap (λ (n : ℕ). eqb n (q .expected)) (sym (c .before .counter-in .ensures)) ∙ ne-eqb _ (q .expected) (c .if4 .taken)))
+    (ap (λ (n : ℕ). eqb n (q .expected)) (sym received) ∙ ne-eqb _ (q .expected) (c .if4 .taken)))
 
 returns-5 : tie.Need-returns-5
 returns-5 c =
-    let t = c .before .before in
-    let s = t .before .before in
+    let t = c .before in
+    let s = t .before .before .before in
     let q = s .before .before .before .args in
     sym (is-right (q .payload .now) (q .expected) (counted (s .before)) (whole s) (sym (t .before .payload-right .ensures) ∙ not-false _ (t .if3 .left))
-    (ap (λ (n : ℕ). eqb n (q .expected)) (sym (c .before .counter-in .ensures)) ∙ eq-eqb _ (q .expected) (c .if4 .left)))
+    (ap (λ (n : ℕ). eqb n (q .expected)) (sym (t .before .before .counter-in .ensures)) ∙ eq-eqb _ (q .expected) (c .if4 .left)))
 
 pub check-spec : {M : Type 1} → statement M
-check-spec = tie.close (tie.spec returns returns-2 (λ c κs. search needs) returns-3 (λ c κs. search needs) returns-4 returns-5)
+check-spec = tie.close (tie.spec returns returns-2 (λ c κs. search needs) (λ c κs. search needs) returns-3 returns-4 returns-5)

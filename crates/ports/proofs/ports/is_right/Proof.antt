@@ -14,15 +14,17 @@ use Rattle.ports.proofs.ports.is_right.Tie as tie
 returns : tie.Need-returns
 unfolding isRight
 returns c =
-    let q = c .before .before .before .args in
-    ap (λ (b : Bool). b && eqb (counterOf (q .eight .now)) (q .expected)) (sym (not-true _ (c .if1 .taken)) ∙ c .before .payload-right .ensures)
+    let s = c .before .before in
+    let q = s .args in
+    ap (λ (b : Bool). b && eqb (counterOf (q .eight .now)) (q .expected)) (sym (not-true _ (c .if1 .taken)) ∙ s .pre)
 
 returns-2 : tie.Need-returns-2
 unfolding isRight
 returns-2 c =
-    let q = c .before .before .before .before .args in
+    let s = c .before .before .before in
+    let q = s .args in
     ap (λ (n : ℕ). eqb n (q .expected)) (c .counter-in .ensures)
-    ∙ ap (λ (b : Bool). b && eqb (counterOf (q .eight .now)) (q .expected)) (sym (not-false _ (c .before .if1 .left)) ∙ c .before .before .payload-right .ensures)
+    ∙ ap (λ (b : Bool). b && eqb (counterOf (q .eight .now)) (q .expected)) (sym (not-false _ (c .before .if1 .left)) ∙ s .pre)
 
 pub is-right-spec : {M : Type 1} → statement M
-is-right-spec = tie.close (tie.spec (λ c κs. search needs) returns (λ c κs. search needs) returns-2)
+is-right-spec = tie.close (tie.spec returns (λ c κs. search needs) returns-2)
