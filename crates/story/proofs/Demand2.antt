@@ -20,6 +20,7 @@ use Rattle.laws.specs.Rows.{rows, rowAt, joined}
 use Rattle.laws.specs.Tables.{tabulate}
 use Rattle.pec.specs.Words.{seal, commandRight, sealedRight, payloadRight}
 use Rattle.pec.specs.Spikes.{Spike}
+use Rattle.pec.proofs.Spikes.{spike-some}
 use Rattle.wire.specs.Order.{replyData}
 use Rattle.refusals.specs.declared.Refusal.{Refusal}
 use Rattle.refusals.specs.declared.Refusal.the-variants.{TableNotSound, FrameShort, CommandWrong, CodeNotListed, LengthWrong, NoRoom, PositionWrong, CountWrong, CodeCleared}
@@ -124,7 +125,8 @@ use Rattle.story.proofs.Beats.{manager-wakes, no-manager-sleeps, monito
 use Rattle.story.proofs.Muting.{mute-answers, unmute-answers}
 use Rattle.story.proofs.BothEnds.{the-replies, handed-from-a, handed-from-b}
 use Rattle.story.proofs.Cleared.{clrcell-clears}
-use Rattle.story.proofs.Spikes.{hit-by-bit, unhit-by-bits, struck-answer, struck-answer-awake, awake-unhit, struck-no-reply, struck-some, struck-fewer, struck-hit, struck-lpcm, struck-unhit, struck-wrrr-answer, struck-wrrr-stores, struck-wrrr-locked, struck-refused}
+use Rattle.story.proofs.Spoilt.{struck-answer, struck-answer-awake, awake-unhit, struck-no-reply, struck-some, struck-fewer, struck-hit, struck-lpcm, struck-unhit}
+use Rattle.story.proofs.Spikes.{hit-by-bit, unhit-by-bits, struck-spoilt, struck-wrrr-answer, struck-wrrr-stores, struck-wrrr-locked, struck-refused}
 use Rattle.story.proofs.Sharp.{Sharp, sharp}
 use Rattle.story.proofs.EitherSide.{EitherSide, either-side}
 
@@ -864,16 +866,18 @@ demand-2 =
       port-a = the-replies;
       handed-from-a = handed-from-a;
       handed-from-b = handed-from-b;
-      spike-answer = λ table sent came buffer s c other struck. (struck-answer table s c struck other (length buffer), struck-no-reply table s c struck buffer);
-      spike-answer-awake = λ table sent came buffer s c other struck awake. struck-answer-awake table s c struck other awake (length buffer);
-      unhit-awake = λ table sent came s c struck. awake-unhit table s c struck;
-      spike-not-all = λ table sent came s c struck. (struck-some table s c struck, struck-fewer table s c struck);
+      spike-answer = λ table sent came buffer s c other struck.
+          (struck-answer table s c (struck-spoilt struck) other (length buffer), struck-no-reply table s c (struck-spoilt struck) buffer);
+      spike-answer-awake = λ table sent came buffer s c other struck awake. struck-answer-awake table s c (struck-spoilt struck) other awake (length buffer);
+      unhit-awake = λ table sent came s c struck. awake-unhit table s c (struck-spoilt struck);
+      spike-not-all = λ table sent came s c struck.
+          (struck-some table s c (struck-spoilt struck) (spike-some (struck .spike)), struck-fewer table s c (struck-spoilt struck) (spike-some (struck .spike)));
       hit-by-bit = λ c n sent came k h. hit-by-bit c n sent came k;
       unhit-by-bits = λ c n sent came k h. unhit-by-bits c n sent came k;
-      spike-hit = λ table sent came room s c other struck k h. struck-hit table s c struck room k h other;
-      spike-lpcm = λ table sent came room s c struck k h. struck-lpcm table s c struck room k h;
-      spike-unhit = λ table sent came room s c struck k h. struck-unhit table s c struck room k h;
-      spike-wrrr = λ table sent came buffer s struck. (struck-wrrr-answer table s struck (length buffer), struck-no-reply table s Wrrr struck buffer);
+      spike-hit = λ table sent came room s c other struck k h. struck-hit table s c (struck-spoilt struck) room k h other;
+      spike-lpcm = λ table sent came room s c struck k h. struck-lpcm table s c (struck-spoilt struck) room k h;
+      spike-unhit = λ table sent came room s c struck k h. struck-unhit table s c (struck-spoilt struck) room k h;
+      spike-wrrr = λ table sent came buffer s struck. (struck-wrrr-answer table s struck (length buffer), struck-no-reply table s Wrrr (struck-spoilt struck) buffer);
       spike-wrrr-unlocked = λ table sent came room s struck k h. struck-wrrr-stores table s struck room k h;
       spike-wrrr-locked = λ table sent came room s struck k h. struck-wrrr-locked table s struck room k h;
       spike-refused = λ table sent came buffer s c n struck. struck-refused struck table buffer s;

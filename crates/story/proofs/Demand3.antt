@@ -15,6 +15,7 @@ use lib.Dec.{lit≤}
 use lib.IntN.{ℤ}
 use lib.ListN.{length, take, drop, replicate}
 use Rattle.laws.specs.Rows.{rows, rowAt}
+use Rattle.pec.proofs.Spikes.{spike-some}
 use Rattle.wire.specs.Order.{replyData}
 use Rattle.refusals.specs.declared.Refusal.{Refusal}
 use Rattle.refusals.specs.declared.Refusal.the-variants.{TableNotSound, CommandWrong}
@@ -70,7 +71,8 @@ use Rattle.story.proofs.Lpcm.{enabled-after, last-cells}
 use Rattle.story.proofs.OneMoment.{lent-read, frozen-read, one-moment, behind-front, no-unsnap, live-read, cells-left}
 use Rattle.story.proofs.ByteFour.{only-byte-four, at-byte-four, noted-stays, another-n}
 use Rattle.story.proofs.Muting.{mute-answers, unmute-answers}
-use Rattle.story.proofs.Spikes.{struck-answer, struck-fewer, struck-hit, struck-unhit, struck-kept, struck-wrrr-answer, struck-refused}
+use Rattle.story.proofs.Spoilt.{struck-answer, struck-fewer, struck-hit, struck-unhit, struck-kept}
+use Rattle.story.proofs.Spikes.{struck-spoilt, struck-wrrr-answer, struck-refused}
 use Rattle.story.proofs.Operations.{operation-step, operation-monitors}
 use Rattle.story.proofs.Runs.{frame-step, length-after, full, has-room, clock-whole, back-whole, clocked-step}
 
@@ -363,8 +365,8 @@ module _ (engine : Engine) (table : List ℕ) (ready : Ready engine table) (s : 
       → rowAt recordSize k (by engine table (Frame came ∷ []) .table)
       ≡ cond (unhit (Writes c) (monitors table) sent came k) (rowAt recordSize k (by engine table (Frame sent ∷ []) .table)) (locked (rowAt recordSize k table)))
   spike-by c other struck = (
-    ap (λ (left : Left). left .seen) (either-by-rules engine table (Frame came ∷ []) ready) ∙ seen-none table came (struck-answer table s c struck other (length (full table))),
-    struck-fewer table s c struck,
+    ap (λ (left : Left). left .seen) (either-by-rules engine table (Frame came ∷ []) ready) ∙ seen-none table came (struck-answer table s c (struck-spoilt struck) other (length (full table))),
+    struck-fewer table s c (struck-spoilt struck) (spike-some (struck .spike)),
     λ k h. ap (rowAt recordSize k) (one-frame engine table came ready) ∙ each k h (unhit (Writes c) (monitors table) sent came k) refl,
   )
     where
@@ -372,11 +374,11 @@ module _ (engine : Engine) (table : List ℕ) (ready : Ready engine table) (s : 
           → rowAt recordSize k (tableAfter table came (length (full table)))
           ≡ cond (unhit (Writes c) (monitors table) sent came k) (rowAt recordSize k (by engine table (Frame sent ∷ []) .table)) (locked (rowAt recordSize k table))
       each k h true e =
-          struck-unhit table s c struck (length (full table)) k h e
+          struck-unhit table s c (struck-spoilt struck) (length (full table)) k h e
           ∙ ap (rowAt recordSize k) (sym (one-frame engine table sent ready))
           ∙ ap (λ (b : Bool). cond b (rowAt recordSize k (by engine table (Frame sent ∷ []) .table)) (locked (rowAt recordSize k table))) (sym e)
       each k h false e =
-          struck-hit table s c struck (length (full table)) k h other e
+          struck-hit table s c (struck-spoilt struck) (length (full table)) k h other e
           ∙ ap (λ (b : Bool). cond b (rowAt recordSize k (by engine table (Frame sent ∷ []) .table)) (locked (rowAt recordSize k table))) (sym e)
 
   refused-by : (c : Command) (n : ℕ) → StruckCommand c n sent came → (events : List Event)
@@ -419,7 +421,7 @@ demand-3 =
       lpcm-enabled = λ engine table cmen ready passed its k h. enabled-by engine table cmen ready passed k h its;
       spike-wrrr = λ engine table sent came ready s struck. (
         ap (λ (left : Left). left .seen) (either-by-rules engine table (Frame came ∷ []) ready) ∙ seen-none table came (struck-wrrr-answer table s struck (length (full table))),
-        λ k h. ap (rowAt recordSize k) (one-frame engine table came ready) ∙ struck-kept table s Wrrr struck (length (full table)) k h,
+        λ k h. ap (rowAt recordSize k) (one-frame engine table came ready) ∙ struck-kept table s Wrrr (struck-spoilt struck) (length (full table)) k h,
       );
       spike-command = λ engine table sent came events ready s c n struck. refused-by engine table ready s c n struck events;
       every-byte = view;

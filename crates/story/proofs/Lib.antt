@@ -22,6 +22,7 @@ pub mod Lpcm
 pub mod Beats
 pub mod Muting
 pub mod Retention
+pub mod Spoilt
 pub mod Spikes
 pub mod Sharp
 pub mod Snapshot

@@ -45,7 +45,8 @@ use Rattle.story.specs.Spikes.{Ours, StruckData, StruckCommand, ownIn, u
 use Rattle.story.proofs.Accepted.{write-answer-awake, bare-answer, kept-at}
 use Rattle.story.proofs.ReadBack.{stores-whole}
 use Rattle.story.proofs.EitherSide.{with}
-use Rattle.story.proofs.Spikes.{came-passes, came-command, struck-answer, struck-refused-any}
+use Rattle.story.proofs.Spoilt.{came-passes, came-command, struck-answer}
+use Rattle.story.proofs.Spikes.{struck-spoilt, struck-refused-any}
 
 -- WRCFGB to two monitors: the near one is to get VUV 250 and VOV 875, steps of 2.4 mV above 1.5 V: 2.1 V and 3.6 V
 abbrev pub writeSent : List ℕ
@@ -146,7 +147,7 @@ eleven-spike = spike-of-parts 11 113 (are-bytes writeSent refl) (are-bytes write
 module _ (table : List ℕ) (room : ℕ) (s : sound table ≡ true) (two : monitors table ≡ 2) where
   ten-is-taken : answer table writeTen room ≡ Accepted 0 0
   ten-is-taken =
-      struck-answer table s Wrcfgb (subst⁻¹ (λ (n : ℕ). StruckData (Writes Wrcfgb) n writeSent writeTen) two ten-struck) not-wrrr room
+      struck-answer table s Wrcfgb (struck-spoilt (subst⁻¹ (λ (n : ℕ). StruckData (Writes Wrcfgb) n writeSent writeTen) two ten-struck)) not-wrrr room
       ∙ ap (λ (n : ℕ). Accepted (unhitAwake (Writes Wrcfgb) n table writeSent writeTen) 0) two
       ∙ ap (λ (taken : ℕ). Accepted taken 0) (both-hit table)
 

@@ -1,19 +1,24 @@
 -- Document 02, L7: what a spike on the wire can do. Frames that our host builds, as they were sent and as they came, and which monitors a spike
--- spares. Monitors are counted from 0.
+-- spares. And L5: writes that came with a spike at each of some monitors, or with some monitors' checks wrong, however that came about. Monitors are
+-- counted from 0.
 -- Assumes nothing.
 use mathlib.Core.Path.{_≡_}
-use mathlib.Core.Bool.{Bool, not, _&&_}
+use mathlib.Core.Bool.{Bool, true, false, not, _&&_}
 use mathlib.Core.List.{List}
-use Prim.Native.Nat.{ℕ, suc, _-_}
+use mathlib.Core.Logic.{_⊎_}
+use Prim.Native.Nat.{ℕ, suc, _-_, _<_}
 use lib.ListN.{length, take, drop}
 use Rattle.laws.specs.Counts.{count, same}
 use Rattle.laws.specs.Rows.{rowAt}
 use Rattle.laws.specs.Tables.{tabulate}
+use Rattle.pec.specs.Words.{sealedRight}
 use Rattle.pec.specs.Spikes.{Spike}
 use Rattle.refusals.specs.Order.{Passed}
 use Rattle.records.specs.declared.commands.Command.{Command}
+use Rattle.records.specs.declared.commands.Command.the-variants.{Writes}
+use Rattle.records.specs.declared.commands.Write.{Write}
 use Rattle.records.specs.Record.{recordSize, inLpcm}
-use Rattle.records.specs.Commands.{commands, commandOf, widthOf}
+use Rattle.records.specs.Commands.{commands, commandOf, dataSize, widthOf}
 use Rattle.host.specs.Frames.{headSize, frameFor, buildRefusals}
 
 -- ---- what was sent, and what came
@@ -62,3 +67,19 @@ unhitOf c n sent came = count (unhit c n sent came) (tabulate (λ k. k) 0 n)
 -- and how many of those are not in LPCM
 unfoldable pub unhitAwake : Command → ℕ → List ℕ → List ℕ → List ℕ → ℕ
 unhitAwake c n table sent came = count (λ k. not (inLpcm (rowAt recordSize k table)) && unhit c n sent came k) (tabulate (λ k. k) 0 n)
+
+-- ---- a write that some monitors cannot take
+
+-- its length and its first four bytes came as they were sent, and so did each monitor's own bytes, or a spike struck these
+pub record StruckEach (c : Write) (n : ℕ) (sent came : List ℕ) : Type 0 where
+  pub ours : Ours (Writes c) n sent
+  pub as-long : length came ≡ length sent
+  pub same-head : take headSize came ≡ take headSize sent
+  pub each : (k : ℕ) → k < n → (unhit (Writes c) n sent came k ≡ true) ⊎ Spike dataPlaces (ownIn (Writes c) n sent k) (ownIn (Writes c) n came k)
+
+-- or their check is wrong, whatever was turned over
+pub record Spoilt (c : Write) (n : ℕ) (sent came : List ℕ) : Type 0 where
+  pub ours : Ours (Writes c) n sent
+  pub as-long : length came ≡ length sent
+  pub same-head : take headSize came ≡ take headSize sent
+  pub each : (k : ℕ) → k < n → (unhit (Writes c) n sent came k ≡ true) ⊎ (sealedRight (dataSize c) (ownIn (Writes c) n came k) ≡ false)
