@@ -105,7 +105,7 @@ fine-count f r h s =
       lock = subst⁻¹ (λ (x : ℕ). x ≤ 1) (anew-above f (counter .at) 1 r {j = unlocked .at} (lit≤ tt)) (s .lock);
     }
 
-next-fine : (n : ℕ) → nextCount n ≤ 63
+pub next-fine : (n : ℕ) → nextCount n ≤ 63
 unfolding nextCount
 next-fine n = below (ltb n 63) refl
   where
@@ -128,7 +128,7 @@ before-both at n h = (inl h, inl (omega arith))
 behind-both : (at n : ℕ) → unlocked .at + 1 ≤ at → Outside counter at n × Outside unlocked at n
 behind-both at n h = (inr (omega arith), inr h)
 
-rules-elsewhere : (w : Write) → Outside counter (rulesOf w .at) (dataSize w) × Outside unlocked (rulesOf w .at) (dataSize w)
+pub rules-elsewhere : (w : Write) → Outside counter (rulesOf w .at) (dataSize w) × Outside unlocked (rulesOf w .at) (dataSize w)
 rules-elsewhere Wrcfga = before-both _ 6 (lit≤ tt)
 rules-elsewhere Wrcfgb = before-both _ 6 (lit≤ tt)
 rules-elsewhere Wrrr = before-both _ 6 (lit≤ tt)

@@ -1,5 +1,5 @@
 -- Demand 2. What the chain does with a frame is what the data sheet says as document 01 condenses it, with the requests of document 02 that
--- have landed (L1, L2, L3, L6, L7, L8), monitor by monitor. What our host writes hands each monitor its own data bytes: nearest first in our list, farthest
+-- have landed (L1, L2, L3, L5, L6, L7, L8), monitor by monitor. What our host writes hands each monitor its own data bytes: nearest first in our list, farthest
 -- first on the wire. Monitors are counted from 0 here: monitor 1 of the paper is k = 0. Each field is proved where it is cited from.
 -- Assumes nothing.
 use mathlib.Core.Path.{_≡_, refl}
@@ -18,12 +18,12 @@ use Rattle.laws.specs.Counts.{all, count}
 use Rattle.laws.specs.Bits.{bitAt, bitsOfBytes, Bytes}
 use Rattle.laws.specs.Rows.{rows, rowAt, joined}
 use Rattle.laws.specs.Tables.{tabulate}
-use Rattle.pec.specs.Words.{seal, commandRight, sealedRight, payloadRight}
+use Rattle.pec.specs.Words.{seal, counterOf, commandRight, sealedRight, payloadRight}
 use Rattle.pec.specs.Spikes.{Spike}
 use Rattle.pec.proofs.Spikes.{spike-some}
 use Rattle.wire.specs.Order.{replyData}
 use Rattle.refusals.specs.declared.Refusal.{Refusal}
-use Rattle.refusals.specs.declared.Refusal.the-variants.{TableNotSound, FrameShort, CommandWrong, CodeNotListed, LengthWrong, NoRoom, PositionWrong, CountWrong, CodeCleared}
+use Rattle.refusals.specs.declared.Refusal.the-variants.{TableNotSound, FrameShort, CommandWrong, CodeNotListed, LengthWrong, NoRoom, PositionWrong, CountWrong, CodeCleared, BothDamaged}
 use Rattle.refusals.specs.Order.{_gives_, Passed}
 use Rattle.records.specs.declared.commands.Bare.{Bare}
 use Rattle.records.specs.declared.commands.Bare.the-variants.{Mute, Unmute, Ulrr, Clrcell, Snap, Unsnap, Cmen, Cmdis}
@@ -37,7 +37,7 @@ use Rattle.records.specs.Commands.{commands, commandOf, isListed, rdcfga, rdcfg
 use Rattle.records.proofs.Widths.{six-but-clrcmflag}
 use Rattle.writes.specs.Writes.{written}
 use Rattle.writes.proofs.Written.{needs-but-wrrr}
-use Rattle.monitor.specs.Effects.{locked, counted, done, keeps}
+use Rattle.monitor.specs.Effects.{locked, nextCount, counted, done, accepts, keeps}
 use Rattle.reads.specs.Shown.{cellReads, ofCells, shownCells}
 use Rattle.reads.specs.Reply.{sixBytes, register, reply}
 use Rattle.monitor.proofs.Keeping.{keeps-right, keeps-wrong, keeps-none}
@@ -79,7 +79,11 @@ use Rattle.discharge.specs.declared.question.Discharged.the-variants.{On}
 use Rattle.discharge.specs.Question.{dischargeRefusals, discharged, outputsAfter}
 use Rattle.host.specs.declared.frames.Built.the-variants.{Length}
 use Rattle.host.specs.Frames.{headSize, sealed, valueCount, frameFor, buildRefusals, built, bufferAfter}
-use Rattle.ports.specs.Ports.{partA}
+use Rattle.ports.specs.declared.checks.Checked.the-variants.{Right, CounterDiffers, Damaged as Broken}
+use Rattle.ports.specs.declared.ports.Port.the-variants.{A, B}
+use Rattle.ports.specs.Verdicts.{isDamaged, isRight, counterDiffers, counterRow}
+use Rattle.ports.specs.Check.{checkRefusals, checked}
+use Rattle.ports.specs.Ports.{partA, partB, portRefusals, chosen, portOf, byPort}
 use Rattle.ports.specs.Parts.{bytesOf}
 use Rattle.messages.specs.declared.verdicts.Verdict.the-variants.{Refused as Unjudged, Passed as Good, Failed, Damaged, TimedOut}
 use Rattle.messages.specs.Messages.{message, countIn, flagsIn as flagsByte, messageRight, isPass}
@@ -95,7 +99,8 @@ use Rattle.story.specs.Numbers.{First}
 use Rattle.story.specs.Snapshots.{snappedAfter}
 use Rattle.story.specs.Growth.{size01, sizeL2, sizeL6, sizeL8}
 use Rattle.story.specs.Lpcm.{enabledAfter}
-use Rattle.story.specs.Spikes.{StruckData, StruckCommand, ownIn, unhit, unhitOf, unhitAwake}
+use Rattle.story.specs.Spikes.{StruckData, StruckCommand, ownIn, unhit, unhitOf, unhitAwake, StruckEach, Spoilt}
+use Rattle.story.specs.Missed.{OneCounter, fromA, fromB, Seen, SomeDiffer}
 use Rattle.story.proofs.Accepted.{frame-refused, write-answer, write-answer-awake, wrrr-answer, read-answer, bare-answer, record-after, reply-own, reply-past, write-no-reply, bare-no-reply, store-done, store-own, store-others, compare-done, compare-own, compare-others, load-done, load-own, load-others, discharge-answer, host-writes}
 use Rattle.story.proofs.OurHost.{own-data, write-taken, write-taken-by-all, bare-taken-by-all, each-keeps-its-own, reply-right, read-taken-by-all, each-reply-its-own, each-reply-right}
 use Rattle.story.specs.ReadsBack.{ReadsBack, as-written, fixed-behind-two, three-thresholds}
@@ -123,10 +128,12 @@ use Rattle.story.proofs.Operations.{wake-placed, wake-room}
 use Rattle.story.proofs.Heartbeats.{nothing-handed, message-handed, nothing-told, message-told, Turned, wake-done, beat-done, relay-done, time-done}
 use Rattle.story.proofs.Beats.{manager-wakes, no-manager-sleeps, monitor-sends-on, timeout-judges, time-runs-out}
 use Rattle.story.proofs.Muting.{mute-answers, unmute-answers}
-use Rattle.story.proofs.BothEnds.{the-replies, handed-from-a, handed-from-b}
+use Rattle.story.proofs.Verdicts.{three-verdicts, checked-right, checked-damaged, checked-differs, port-chosen, last-differs}
+use Rattle.story.proofs.BothEnds.{reply-same, reply-differs, the-replies, handed-from-a, handed-from-b, any-from-a, any-from-b}
 use Rattle.story.proofs.Cleared.{clrcell-clears}
 use Rattle.story.proofs.Spoilt.{struck-answer, struck-answer-awake, awake-unhit, struck-no-reply, struck-some, struck-fewer, struck-hit, struck-lpcm, struck-unhit}
-use Rattle.story.proofs.Spikes.{hit-by-bit, unhit-by-bits, struck-spoilt, struck-wrrr-answer, struck-wrrr-stores, struck-wrrr-locked, struck-refused}
+use Rattle.story.proofs.Spikes.{hit-by-bit, unhit-by-bits, struck-each, each-spoilt, struck-spoilt, struck-wrrr-answer, struck-wrrr-stores, struck-wrrr-locked, struck-refused, struck-refused-any}
+use Rattle.story.proofs.Missed.{own-counter-right, other-counter-differs, next-apart, counter-after, missed-in-reply, missed-at-ports, missed-seen, some-seen, read-from-a, refused-in-reply, refused-seen, wrrr-unseen, any-accepted, any-kept, right-accepted, differs-accepted}
 use Rattle.story.proofs.Sharp.{Sharp, sharp}
 use Rattle.story.proofs.EitherSide.{EitherSide, either-side}
 
@@ -481,15 +488,54 @@ pub record Demand2 : Type 0 where
   read-back-lpcm : ReadsBack Wrcmcfg rdcmcfg as-written
   read-back-cell-thresholds : ReadsBack Wrcmcellt rdcmcellt three-thresholds
   read-back-gpio-thresholds : ReadsBack Wrcmgpiot rdcmgpiot three-thresholds
-  -- `host::part_of`: what the chain replies at port A, and from its other end at port B, hands over monitor k's own reply, k from 1
+  -- `ports::check`: one payload against the counter that the host expects. The exact refusals, in their order
+  check-refusals : (payload : List ℕ) (expected : ℕ) → checkRefusals payload expected
+      ≡ (ltb 63 expected gives PositionWrong) ∷ (not (eqb (length payload) 8) gives LengthWrong) ∷ []
+  -- the three verdicts: eight bytes whose check is wrong are damaged, whatever their counter; else they are right, or their counter differs. One of the three holds, and no other
+  verdicts : (eight : List ℕ) (expected : ℕ)
+      → (isDamaged eight ≡ not (payloadRight eight))
+      × (counterDiffers eight expected ≡ payloadRight eight && not (eqb (counterOf eight) expected))
+      × (isRight eight expected ≡ payloadRight eight && eqb (counterOf eight) expected)
+  three-verdicts : (eight : List ℕ) (expected : ℕ) → count (λ (b : Bool). b) (isRight eight expected ∷ counterDiffers eight expected ∷ isDamaged eight ∷ []) ≡ 1
+  -- none refused: each is given exactly where it holds, and with a counter that differs the one received
+  check-right : (payload : List ℕ) (expected : ℕ) → Passed (checkRefusals payload expected) → (checked payload expected ≡ Right) ↔ (isRight payload expected ≡ true)
+  check-damaged : (payload : List ℕ) (expected : ℕ) → Passed (checkRefusals payload expected) → (checked payload expected ≡ Broken) ↔ (isDamaged payload ≡ true)
+  check-differs : (payload : List ℕ) (expected : ℕ) → Passed (checkRefusals payload expected)
+      → (c : ℕ) → (checked payload expected ≡ CounterDiffers c) ↔ ((counterDiffers payload expected ≡ true) × (c ≡ counterOf payload))
+  -- `ports::port_of` and `ports::part_of`: monitor k of two replies, k from 1. The exact refusals, in their order
+  port-refusals : (a b : List ℕ) (n k expected : ℕ) → portRefusals a b n k expected
+      ≡ (ltb 63 expected gives PositionWrong)
+      ∷ (not (leb 1 n && leb n mostMonitors && leb 1 k && leb k n) gives PositionWrong)
+      ∷ (not (eqb (length a) (8 * n) && eqb (length b) (8 * n)) gives LengthWrong)
+      ∷ (isDamaged (partA a n k) && isDamaged (partB b n k) gives BothDamaged)
+      ∷ []
+  -- none holds: port A's part if it is right, else port B's if it is, else A's if only its counter differs, else B's, of which that is then so; and whether it differs
+  which-port : (a b : List ℕ) (n k expected : ℕ) → Passed (portRefusals a b n k expected) → portOf a b n k expected
+      ≡ cond (isRight (partA a n k) expected) (A false) (cond (isRight (partB b n k) expected) (B false) (cond (counterDiffers (partA a n k) expected) (A true) (B true)))
+  last-differs : (a b : List ℕ) (n k expected : ℕ) → Passed (portRefusals a b n k expected)
+      → isRight (partA a n k) expected ≡ false → isRight (partB b n k) expected ≡ false → counterDiffers (partA a n k) expected ≡ false → counterDiffers (partB b n k) expected ≡ true
+  -- what is handed over is that port's part, and nothing where it is refused
+  port-hands : (a b : List ℕ) (n k expected : ℕ) → bytesOf a b n k expected ≡ byPort [] (partA a n k) (partB b n k) (portOf a b n k expected)
+  -- what the chain replies at port A, and from its other end at port B (`fromA`, `fromB`), hands over monitor k's own reply. Its own counter expected: from A whatever came to
+  -- B, and from B where A's part is not right. Any counter expected, and told whether that is right: from A where B's part is not right, and from B where A's is damaged
   port-a : (table buffer : List ℕ) (code : ℕ) (part : Part) → commandOf code commands ≡ Reads part → sound table ≡ true
       → length buffer ≡ payloadSize * monitors table
       → replyAfter table (frameFor code (monitors table) []) buffer ≡ replyData (map (reply part) (rows recordSize (monitors table) table))
-  handed-from-a : (part : Part) (n : ℕ) (table : List ℕ) (k : ℕ) → 1 ≤ k → k ≤ n → n ≤ mostMonitors → (b : List ℕ) → length b ≡ payloadSize * n
-      → bytesOf (replyData (map (reply part) (rows recordSize n table))) b n k ≡ reply part (rowAt recordSize (k - 1) table)
-  handed-from-b : (part : Part) (n : ℕ) (table : List ℕ) (k : ℕ) → 1 ≤ k → k ≤ n → n ≤ mostMonitors → (a : List ℕ) → length a ≡ payloadSize * n
-      → payloadRight (partA a n k) ≡ false
-      → bytesOf a (replyData (reverse (map (reply part) (rows recordSize n table)))) n k ≡ reply part (rowAt recordSize (k - 1) table)
+  handed-from-a : (part : Part) (n : ℕ) (table : List ℕ) (k : ℕ) → 1 ≤ k → k ≤ n → n ≤ mostMonitors
+      → (expected : ℕ) → expected ≤ 63 → expected ≡ byteOf counter (rowAt recordSize (k - 1) table) → (b : List ℕ) → length b ≡ payloadSize * n
+      → (portOf (fromA part n table) b n k expected ≡ A false) × (bytesOf (fromA part n table) b n k expected ≡ reply part (rowAt recordSize (k - 1) table))
+  handed-from-b : (part : Part) (n : ℕ) (table : List ℕ) (k : ℕ) → 1 ≤ k → k ≤ n → n ≤ mostMonitors
+      → (expected : ℕ) → expected ≤ 63 → expected ≡ byteOf counter (rowAt recordSize (k - 1) table) → (a : List ℕ) → length a ≡ payloadSize * n
+      → isRight (partA a n k) expected ≡ false
+      → (portOf a (fromB part n table) n k expected ≡ B false) × (bytesOf a (fromB part n table) n k expected ≡ reply part (rowAt recordSize (k - 1) table))
+  any-from-a : (part : Part) (n : ℕ) (table : List ℕ) (k : ℕ) → 1 ≤ k → k ≤ n → n ≤ mostMonitors
+      → (expected : ℕ) → expected ≤ 63 → (b : List ℕ) → length b ≡ payloadSize * n → isRight (partB b n k) expected ≡ false
+      → (portOf (fromA part n table) b n k expected ≡ A (not (isRight (reply part (rowAt recordSize (k - 1) table)) expected)))
+      × (bytesOf (fromA part n table) b n k expected ≡ reply part (rowAt recordSize (k - 1) table))
+  any-from-b : (part : Part) (n : ℕ) (table : List ℕ) (k : ℕ) → 1 ≤ k → k ≤ n → n ≤ mostMonitors
+      → (expected : ℕ) → expected ≤ 63 → (a : List ℕ) → length a ≡ payloadSize * n → isDamaged (partA a n k) ≡ true
+      → (portOf a (fromB part n table) n k expected ≡ B (not (isRight (reply part (rowAt recordSize (k - 1) table)) expected)))
+      × (bytesOf a (fromB part n table) n k expected ≡ reply part (rowAt recordSize (k - 1) table))
   -- ---- a spike on the wire: what our host's frames do where bits came turned over. `Spike` says what a spike is, `StruckData` and `StruckCommand` which frames
   -- it struck and where
 
@@ -539,6 +585,80 @@ pub record Demand2 : Type 0 where
       → (answer table came (length buffer) ≡ Refused CommandWrong) × (tableAfter table came (length buffer) ≡ table) × (replyAfter table came buffer ≡ buffer)
   -- and no further: examples of both, and eleven places behind a command and sixteen in one that get through
   sharp : Sharp
+  -- ---- a missed command: what a read that our host builds shows of a command that came before it
+
+  -- a reply, of a monitor whose counter is one, is right against its own counter, and against any other its counter differs and is told; and so is each monitor's part of the
+  -- chain's reply
+  own-counter : (part : Part) (r : List ℕ) → byteOf counter r ≤ 63 → checked (reply part r) (byteOf counter r) ≡ Right
+  other-counter : (part : Part) (r : List ℕ) (expected : ℕ) → expected ≤ 63 → byteOf counter r ≤ 63 → (expected ≡ byteOf counter r → ⊥)
+      → checked (reply part r) expected ≡ CounterDiffers (byteOf counter r)
+  each-own-counter : (table buffer : List ℕ) (code : ℕ) (part : Part) → commandOf code commands ≡ Reads part → sound table ≡ true
+      → payloadSize * monitors table ≤ length buffer → (k : ℕ) → k < monitors table
+      → checked (rowAt payloadSize k (replyAfter table (frameFor code (monitors table) []) buffer)) (byteOf counter (rowAt recordSize k table)) ≡ Right
+  each-other-counter : (table buffer : List ℕ) (code : ℕ) (part : Part) → commandOf code commands ≡ Reads part → sound table ≡ true
+      → payloadSize * monitors table ≤ length buffer → (k : ℕ) → k < monitors table → (expected : ℕ) → expected ≤ 63
+      → (expected ≡ byteOf counter (rowAt recordSize k table) → ⊥)
+      → checked (rowAt payloadSize k (replyAfter table (frameFor code (monitors table) []) buffer)) expected ≡ CounterDiffers (byteOf counter (rowAt recordSize k table))
+  -- a counter and the next after it, which is never the same
+  next-count : (n : ℕ) → nextCount n ≡ cond (ltb n 63) (n + 1) 1
+  next-apart : (n : ℕ) → nextCount n ≡ n → ⊥
+  -- a write that came with its length and its first four bytes, and at each monitor with its own bytes or with a wrong check (`Spoilt`): one that a spike struck at each of
+  -- some monitors (`StruckEach`) is such a write, and one that a single spike struck is one of those
+  struck-each : (c : Write) (n : ℕ) (sent came : List ℕ) → StruckData (Writes c) n sent came → StruckEach c n sent came
+  each-spoilt : (c : Write) (n : ℕ) (sent came : List ℕ) → StruckEach c n sent came → Spoilt c n sent came
+  -- after it the counter of a monitor that was not hit and is not in LPCM is the next one, and that of any other as it was; WRRR is excepted
+  counter-after : (table sent came : List ℕ) (room : ℕ) → sound table ≡ true → (c : Write) → (c ≡ Wrrr → ⊥) → Spoilt c (monitors table) sent came
+      → (k : ℕ) → k < monitors table
+      → let r = rowAt recordSize k table in
+      byteOf counter (rowAt recordSize k (tableAfter table came room))
+      ≡ cond (not (inLpcm r) && unhit (Writes c) (monitors table) sent came k) (nextCount (byteOf counter r)) (byteOf counter r)
+  -- so in any chain, each monitor read and judged against its next counter: those whose counter differs are exactly those that were hit and those in LPCM, each with its
+  -- old counter, and all others are right. In the chain's reply, and from both ports (`Seen`), k there from 1
+  missed-read : (table sent came : List ℕ) (room : ℕ) → sound table ≡ true → (c : Write) → (c ≡ Wrrr → ⊥) → Spoilt c (monitors table) sent came
+      → (code : ℕ) (part : Part) (buffer : List ℕ) → commandOf code commands ≡ Reads part → payloadSize * monitors table ≤ length buffer → (k : ℕ) → k < monitors table
+      → let r = rowAt recordSize k table in
+      checked (rowAt payloadSize k (replyAfter (tableAfter table came room) (frameFor code (monitors table) []) buffer)) (nextCount (byteOf counter r))
+      ≡ cond (not (inLpcm r) && unhit (Writes c) (monitors table) sent came k) Right (CounterDiffers (byteOf counter r))
+  missed-at-ports : (table sent came : List ℕ) (room : ℕ) → sound table ≡ true → (c : Write) → (c ≡ Wrrr → ⊥) → Spoilt c (monitors table) sent came
+      → (part : Part) (k : ℕ) → 1 ≤ k → k ≤ monitors table
+      → let r = rowAt recordSize (k - 1) table in
+      Seen part (monitors table) (tableAfter table came room) k (nextCount (byteOf counter r)) (not (inLpcm r) && unhit (Writes c) (monitors table) sent came (k - 1)) (byteOf counter r)
+  -- a missed write is seen: all N monitors have one counter and none is in LPCM. Against the next counter exactly the monitors that were hit are seen with another, which is
+  -- the old one, and all others right, from port A and from port B; and some monitor is where a spike struck
+  missed-seen : (table sent came : List ℕ) (room : ℕ) → sound table ≡ true → (c : Write) → (c ≡ Wrrr → ⊥) → Spoilt c (monitors table) sent came
+      → (old : ℕ) → OneCounter (monitors table) table old → Awake (monitors table) table → (part : Part) (k : ℕ) → 1 ≤ k → k ≤ monitors table
+      → Seen part (monitors table) (tableAfter table came room) k (nextCount old) (unhit (Writes c) (monitors table) sent came (k - 1)) old
+  some-seen : (table sent came : List ℕ) (room : ℕ) → sound table ≡ true → (c : Write) → (c ≡ Wrrr → ⊥) → StruckData (Writes c) (monitors table) sent came
+      → (old : ℕ) → OneCounter (monitors table) table old → Awake (monitors table) table → (part : Part)
+      → SomeDiffer part (monitors table) (tableAfter table came room) (nextCount old) old
+  -- what comes to port A there is what the chain leaves in a buffer of that length for a read that our host builds
+  read-from-a : (table frame buffer : List ℕ) (room code : ℕ) (part : Part) → commandOf code commands ≡ Reads part → sound table ≡ true
+      → length buffer ≡ payloadSize * monitors table
+      → replyAfter (tableAfter table frame room) (frameFor code (monitors table) []) buffer ≡ fromA part (monitors table) (tableAfter table frame room)
+  -- a frame that the chain refuses is missed by all: against its next counter every monitor's reply differs, and tells the old one. So is any frame with a spike in its command
+  refused-read : (table frame : List ℕ) (room : ℕ) → sound table ≡ true → (refusal : Refusal) → answer table frame room ≡ Refused refusal
+      → (code : ℕ) (part : Part) (buffer : List ℕ) → commandOf code commands ≡ Reads part → payloadSize * monitors table ≤ length buffer → (k : ℕ) → k < monitors table
+      → let r = rowAt recordSize k table in
+      checked (rowAt payloadSize k (replyAfter (tableAfter table frame room) (frameFor code (monitors table) []) buffer)) (nextCount (byteOf counter r)) ≡ CounterDiffers (byteOf counter r)
+  refused-seen : (table frame : List ℕ) (room : ℕ) → sound table ≡ true → (refusal : Refusal) → answer table frame room ≡ Refused refusal
+      → (part : Part) (k : ℕ) → 1 ≤ k → k ≤ monitors table
+      → let r = rowAt recordSize (k - 1) table in
+      Seen part (monitors table) (tableAfter table frame room) k (nextCount (byteOf counter r)) false (byteOf counter r)
+  command-seen : (table sent came : List ℕ) (room : ℕ) → sound table ≡ true → (c : Command) (n : ℕ) → StruckCommand c n sent came
+      → (part : Part) (k : ℕ) → 1 ≤ k → k ≤ monitors table
+      → let r = rowAt recordSize (k - 1) table in
+      Seen part (monitors table) (tableAfter table came room) k (nextCount (byteOf counter r)) false (byteOf counter r)
+  -- why WRRR is excepted: it is taken whatever its check, so a monitor not in LPCM that was hit counts it too, and its reply is right against the next counter
+  wrrr-unseen : (table sent came : List ℕ) (room : ℕ) → sound table ≡ true → Spoilt Wrrr (monitors table) sent came → (k : ℕ) → k < monitors table
+      → inLpcm (rowAt recordSize k table) ≡ false
+      → (code : ℕ) (part : Part) (buffer : List ℕ) → commandOf code commands ≡ Reads part → payloadSize * monitors table ≤ length buffer
+      → checked (rowAt payloadSize k (replyAfter (tableAfter table came room) (frameFor code (monitors table) []) buffer)) (nextCount (byteOf counter (rowAt recordSize k table))) ≡ Right
+  -- a monitor that receives a write takes either right: data with the check over them and any counter are accepted by every monitor that is not in LPCM, and it keeps the same of
+  -- all of them; and of a write of six bytes, own bytes that are right against a counter, and own bytes whose counter differs
+  any-accepted : (c : Write) (own r : List ℕ) → length own ≡ dataSize c → (i : ℕ) → accepts c (own ++ seal own i) r ≡ not (inLpcm r)
+  any-kept : (c : Write) (own r : List ℕ) → length own ≡ dataSize c → (i j : ℕ) → keeps (Writes c) (own ++ seal own i) r ≡ keeps (Writes c) (own ++ seal own j) r
+  right-accepted : (c : Write) (own r : List ℕ) (expected : ℕ) → (c ≡ Clrcmflag → ⊥) → isRight own expected ≡ true → accepts c own r ≡ not (inLpcm r)
+  differs-accepted : (c : Write) (own r : List ℕ) (expected : ℕ) → (c ≡ Clrcmflag → ⊥) → counterDiffers own expected ≡ true → accepts c own r ≡ not (inLpcm r)
   -- ---- LPCM: one monitor's turn in a heartbeat, `heartbeats::wake`, `heartbeats::reach` and `heartbeats::run_out`. A heartbeat is no frame
 
   -- who manages, who is a timeout monitor, how many devices, and which way: by the configuration
@@ -690,7 +810,7 @@ pub record Demand2 : Type 0 where
   examples : EitherSide
 
 pub demand-2 : Demand2
-unfolding commandOf commands ownIn frameRefusals storeRefusals compareRefusals loadRefusals dischargeRefusals muted snapped inLpcm byteOf locked done shownCells outputs tabulate phases table27 outputOf keeps reply wakeRefusals relayRefusals timeOutRefusals hops behind way passing verdictRefusals countIn flagsByte violates cuv cov manages isManager isTimeout ndev towardsA
+unfolding commandOf commands ownIn frameRefusals storeRefusals compareRefusals loadRefusals dischargeRefusals muted snapped inLpcm byteOf locked done shownCells outputs tabulate phases table27 outputOf keeps reply wakeRefusals relayRefusals timeOutRefusals hops behind way passing verdictRefusals countIn flagsByte violates cuv cov manages isManager isTimeout ndev towardsA checkRefusals counterRow portRefusals isDamaged counterDiffers isRight chosen bytesOf nextCount
 demand-2 =
     record {
       refusals = λ table frame room. refl;
@@ -863,9 +983,21 @@ demand-2 =
       read-back-lpcm = lpcm-read-back;
       read-back-cell-thresholds = cell-thresholds-read-back;
       read-back-gpio-thresholds = gpio-thresholds-read-back;
+      check-refusals = λ payload expected. refl;
+      verdicts = λ eight expected. (refl, refl, refl);
+      three-verdicts = three-verdicts;
+      check-right = checked-right;
+      check-damaged = checked-damaged;
+      check-differs = checked-differs;
+      port-refusals = λ a b n k expected. refl;
+      which-port = port-chosen;
+      last-differs = last-differs;
+      port-hands = λ a b n k expected. refl;
       port-a = the-replies;
       handed-from-a = handed-from-a;
       handed-from-b = handed-from-b;
+      any-from-a = any-from-a;
+      any-from-b = any-from-b;
       spike-answer = λ table sent came buffer s c other struck.
           (struck-answer table s c (struck-spoilt struck) other (length buffer), struck-no-reply table s c (struck-spoilt struck) buffer);
       spike-answer-awake = λ table sent came buffer s c other struck awake. struck-answer-awake table s c (struck-spoilt struck) other awake (length buffer);
@@ -882,6 +1014,29 @@ demand-2 =
       spike-wrrr-locked = λ table sent came room s struck k h. struck-wrrr-locked table s struck room k h;
       spike-refused = λ table sent came buffer s c n struck. struck-refused struck table buffer s;
       sharp = sharp;
+      own-counter = reply-same;
+      other-counter = reply-differs;
+      each-own-counter = own-counter-right;
+      each-other-counter = other-counter-differs;
+      next-count = λ n. refl;
+      next-apart = next-apart;
+      struck-each = λ c n sent came. struck-each;
+      each-spoilt = λ c n sent came. each-spoilt;
+      counter-after = λ table sent came room s c other spoilt. counter-after table s c spoilt room other;
+      missed-read = λ table sent came room s c other spoilt code part buffer. missed-in-reply table s c spoilt room other part code buffer;
+      missed-at-ports = λ table sent came room s c other spoilt. missed-at-ports table s c spoilt room other;
+      missed-seen = λ table sent came room s c other spoilt. missed-seen table s c spoilt room other;
+      some-seen = λ table sent came room s c other struck old one awake part.
+          some-seen table s c (struck-spoilt struck) room other old one awake part (spike-some (struck .spike));
+      read-from-a = read-from-a;
+      refused-read = λ table frame room s r refused code part buffer. refused-in-reply table frame room s r refused part code buffer;
+      refused-seen = refused-seen;
+      command-seen = λ table sent came room s c n struck. refused-seen table came room s CommandWrong (struck-refused-any struck table room s);
+      wrrr-unseen = λ table sent came room s spoilt k h awake code part buffer. wrrr-unseen table s spoilt room k h awake part code buffer;
+      any-accepted = any-accepted;
+      any-kept = any-kept;
+      right-accepted = right-accepted;
+      differs-accepted = differs-accepted;
       wake-refusals = λ table position room. refl;
       relay-refusals = λ table position bytes room. refl;
       time-out-refusals = λ table position. refl;

@@ -1,5 +1,6 @@
 pub mod OurHost
 pub mod ReadBack
+pub mod Verdicts
 pub mod BothEnds
 pub mod EitherSide
 pub mod OneOutcome
@@ -24,6 +25,7 @@ pub mod Muting
 pub mod Retention
 pub mod Spoilt
 pub mod Spikes
+pub mod Missed
 pub mod Sharp
 pub mod Snapshot
 pub mod Along

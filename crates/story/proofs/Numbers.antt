@@ -16,7 +16,7 @@ use Rattle.refusals.specs.Numbers.{numberOf}
 use Rattle.refusals.specs.Order.{Row, decide, Passed}
 use Rattle.refusals.proofs.Deciding.{holds-here, holds-not, decide-map, passes, has-passed}
 use Rattle.laws.specs.Rows.{rowAt}
-use Rattle.pec.specs.Words.{payloadRight}
+use Rattle.pec.specs.Words.{counterOf}
 use Rattle.records.specs.Record.{recordSize}
 use Rattle.chain.specs.declared.frames.Answer.the-variants.{Refused as Refuses}
 use Rattle.chain.specs.Frame.{frameRefusals, answer}
@@ -32,11 +32,12 @@ use Rattle.clocking.specs.Clock.{Clock}
 use Rattle.releasing.specs.Release.{releaseRefusals, released}
 use Rattle.releasing.specs.Look.{lookRefusals, looked}
 use Rattle.host.specs.declared.frames.Built.the-variants.{Unbuilt}
-use Rattle.ports.specs.declared.checks.Checked.the-variants.{Unchecked, Right, Wrong}
+use Rattle.ports.specs.declared.checks.Checked.the-variants.{Unchecked, Right, CounterDiffers, Damaged as Broken}
 use Rattle.ports.specs.declared.ports.Port.the-variants.{Refused, A, B}
 use Rattle.host.specs.Frames.{buildRefusals, built}
+use Rattle.ports.specs.Verdicts.{isDamaged, isRight, counterDiffers}
 use Rattle.ports.specs.Check.{checkRefusals, checked}
-use Rattle.ports.specs.Ports.{partA, portRefusals, portOf}
+use Rattle.ports.specs.Ports.{partA, partB, portRefusals, chosen, portOf}
 use Rattle.messages.specs.declared.verdicts.Verdict.the-variants.{Refused as Unjudged, Passed as Good, Failed, Damaged, TimedOut}
 use Rattle.messages.specs.Messages.{countIn, flagsIn, messageRight, isPass}
 use Rattle.messages.specs.Verdicts.{verdictRefusals, verdictOf, verdict}
@@ -48,7 +49,7 @@ use Rattle.passing.specs.Hops.{hopSends}
 use Rattle.passing.specs.Operations.{sentTowards, wakeRefusals, wokenAt, relayRefusals, relayedAt, beaten, timeOutRefusals, timedOut}
 use Rattle.readings.specs.declared.pack_summary.Pack.the-variants.{Refused as Unsummed}
 use Rattle.readings.specs.Readings.{measured, wholeOf, summaryOf}
-use Rattle.story.specs.Numbers.{dischargedNumbers, sentNumbers, relayedNumbers, timedNumbers, builtNumbers, checkedNumbers, portNumber, verdictNumbers, lookedNumbers, packNumbers, summaryRefusals, firstNumber, First}
+use Rattle.story.specs.Numbers.{dischargedNumbers, sentNumbers, relayedNumbers, timedNumbers, builtNumbers, checkedNumbers, portNumbers, verdictNumbers, lookedNumbers, packNumbers, summaryRefusals, firstNumber, First}
 
 -- ---- which refusal it is
 
@@ -151,21 +152,27 @@ pub built-number : (code n : ℕ) (values : List ℕ) (room : ℕ) → builtNumb
 unfolding built
 built-number code n values room = number-by (λ b. builtNumbers b .number) (buildRefusals code n values room) Unbuilt _ (λ r. refl) refl
 
-pub checked-number : (payload : List ℕ) → checkedNumbers (checked payload) .number ≡ firstNumber (checkRefusals payload)
+pub checked-number : (payload : List ℕ) (expected : ℕ) → checkedNumbers (checked payload expected) .number ≡ firstNumber (checkRefusals payload expected)
 unfolding checked
-checked-number payload = number-by (λ c. checkedNumbers c .number) (checkRefusals payload) Unchecked _ (λ r. refl) (either (payloadRight payload))
+checked-number payload expected =
+    number-by (λ c. checkedNumbers c .number) (checkRefusals payload expected) Unchecked _ (λ r. refl) (each (isDamaged payload) (counterDiffers payload expected))
   where
-    either : (b : Bool) → checkedNumbers (cond b Right Wrong) .number ≡ 0
-    either true = refl
-    either false = refl
+    each : (damaged differs : Bool) → checkedNumbers (cond damaged Broken (cond differs (CounterDiffers (counterOf payload)) Right)) .number ≡ 0
+    each true differs = refl
+    each false true = refl
+    each false false = refl
 
-pub port-number : (a b : List ℕ) (n k : ℕ) → portNumber (portOf a b n k) ≡ firstNumber (portRefusals a b n k)
-unfolding portOf
-port-number a b n k = number-by portNumber (portRefusals a b n k) Refused _ (λ r. refl) (either (payloadRight (partA a n k)))
+pub port-number : (a b : List ℕ) (n k expected : ℕ) → portNumbers (portOf a b n k expected) .number ≡ firstNumber (portRefusals a b n k expected)
+unfolding portOf chosen
+port-number a b n k expected =
+    number-by (λ p. portNumbers p .number) (portRefusals a b n k expected) Refused _ (λ r. refl)
+    (each (isRight (partA a n k) expected) (isRight (partB b n k) expected) (counterDiffers (partA a n k) expected))
   where
-    either : (c : Bool) → portNumber (cond c A B) ≡ 0
-    either true = refl
-    either false = refl
+    each : (r s t : Bool) → portNumbers (cond r (A false) (cond s (B false) (cond t (A true) (B true)))) .number ≡ 0
+    each true s t = refl
+    each false true t = refl
+    each false false true = refl
+    each false false false = refl
 
 -- what is sent, or sent on, or no timeout monitor, is no refusal
 sent-accepted : (r bytes : List ℕ) → sentNumbers (sentTowards r bytes) .number ≡ 0

@@ -113,7 +113,7 @@ module _ (table values buffer : List ℕ) (code : ℕ) (c : Command) (its : comm
 -- ---- writes
 
 -- right bytes are accepted by every monitor that is not in LPCM
-accepts-right : (w : Write) (own r : List ℕ) → sealedRight (dataSize w) own ≡ true → accepts w own r ≡ not (inLpcm r)
+pub accepts-right : (w : Write) (own r : List ℕ) → sealedRight (dataSize w) own ≡ true → accepts w own r ≡ not (inLpcm r)
 unfolding accepts
 accepts-right w own r h = ap (λ (b : Bool). not (inLpcm r) && b) (right-good w own h) ∙ and-true (not (inLpcm r))
 

@@ -154,7 +154,7 @@ module _ (table : List ℕ) (sound-table : sound table ≡ true) (w : Write) {se
   came-its = came-command table sent came sound-table ours (spoilt .as-long) (spoilt .same-head)
 
   -- a monitor's own bytes are right where they came as they were sent, and nowhere else
-  right-unhit : (k : ℕ) → k < n → sealedRight (dataSize w) (ownIn (Writes w) n came k) ≡ unhit (Writes w) n sent came k
+  pub right-unhit : (k : ℕ) → k < n → sealedRight (dataSize w) (ownIn (Writes w) n came k) ≡ unhit (Writes w) n sent came k
   unfolding unhit
   right-unhit k h = by (spoilt .each k h) (unhit (Writes w) n sent came k) refl
     where
@@ -213,7 +213,7 @@ module _ (table : List ℕ) (sound-table : sound table ≡ true) (w : Write) {se
   -- ---- someone is hit
 
   -- where none is hit nothing was turned over
-  all-unhit : ((k : ℕ) → k < n → unhit (Writes w) n sent came k ≡ true) → came ≡ sent
+  pub all-unhit : ((k : ℕ) → k < n → unhit (Writes w) n sent came k ≡ true) → came ≡ sent
   unfolding unhit ownIn
   all-unhit each =
       sym (take-append-drop headSize came) ∙ ap₂ (λ (a b : List ℕ). a ++ b) (spoilt .same-head) same-rest ∙ take-append-drop headSize sent

@@ -1,7 +1,7 @@
 -- A refusal changes nothing: where the answer is a refusal, every lent buffer is as it was. The answer and the buffer go by the same
 -- refusals, and an accepted answer is no refusal. That of a whole frame is in `chain`, that of a store, a compare and a load in `loads`.
 -- Assumes nothing.
-use mathlib.Core.Path.{_≡_, ap, _∙_}
+use mathlib.Core.Path.{_≡_, ap}
 use mathlib.Core.Bool.{Bool, true, false, cond}
 use mathlib.Core.List.{List, []}
 use Prim.Native.Nat.{ℕ, _-_}
@@ -11,7 +11,7 @@ use lib.ListN.{length}
 use Rattle.laws.specs.Rows.{rowAt}
 use Rattle.refusals.specs.declared.Refusal.{Refusal}
 use Rattle.records.specs.Record.{recordSize}
-use Rattle.chain.specs.declared.frames.Answer.the-variants.{Refused, Accepted}
+use Rattle.chain.specs.declared.frames.Answer.the-variants.{Refused}
 use Rattle.chain.proofs.Refused.{accepted-apart}
 use Rattle.refusals.proofs.Decided.{stays-so}
 use Rattle.priorities.specs.declared.outputs.Events.{Events}
@@ -30,9 +30,8 @@ use Rattle.releasing.specs.Look.{lookRefusals, looked, outAfter}
 use Rattle.host.specs.declared.frames.Built.the-variants.{Unbuilt, Length}
 use Rattle.ports.specs.declared.ports.Port.the-variants.{Refused as Unported}
 use Rattle.host.specs.Frames.{buildRefusals, built, bufferAfter}
-use Rattle.ports.specs.Ports.{partA, partB, portOf}
+use Rattle.ports.specs.Ports.{partA, partB, portOf, byPort}
 use Rattle.ports.specs.Parts.{bytesOf}
-use Rattle.ports.proofs.TwoPorts.{byPort, bytes-by-port}
 
 -- a release
 pub refused-release : (c : Clock) (table : List ℕ) (r : Refusal) → released c table ≡ Refused r → tableReleased c table ≡ table
@@ -111,5 +110,6 @@ unfolding built bufferAfter
 refused-build code n values buffer r e = stays-so (buildRefusals code n values (length buffer)) Unbuilt _ r buffer _ (length-apart _ r) e
 
 -- two ports: beside a refusal number the part handed back is empty
-pub refused-part : (a b : List ℕ) (n k : ℕ) (r : Refusal) → portOf a b n k ≡ Unported r → bytesOf a b n k ≡ []
-refused-part a b n k r e = bytes-by-port a b n k ∙ ap (byPort [] (partA a n k) (partB b n k)) e
+pub refused-part : (a b : List ℕ) (n k expected : ℕ) (r : Refusal) → portOf a b n k expected ≡ Unported r → bytesOf a b n k expected ≡ []
+unfolding bytesOf
+refused-part a b n k expected r e = ap (byPort [] (partA a n k) (partB b n k)) e

@@ -21,7 +21,7 @@ use Rattle.releasing.specs.declared.looks.Looked.the-variants.{Refused as Unsee
 use Rattle.host.specs.declared.frames.Built.{Built}
 use Rattle.host.specs.declared.frames.Built.the-variants.{Unbuilt, Length}
 use Rattle.ports.specs.declared.checks.Checked.{Checked}
-use Rattle.ports.specs.declared.checks.Checked.the-variants.{Unchecked, Right, Wrong}
+use Rattle.ports.specs.declared.checks.Checked.the-variants.{Unchecked, Right, CounterDiffers, Damaged as Broken}
 use Rattle.ports.specs.declared.ports.Port.{Port}
 use Rattle.ports.specs.declared.ports.Port.the-variants.{Refused, A, B}
 use Rattle.messages.specs.declared.verdicts.Verdict.{Verdict}
@@ -71,17 +71,20 @@ abbrev pub builtNumbers : Built → Numbered ℕ
 builtNumbers (Unbuilt r) = record { number = numberOf r; values = [] }
 builtNumbers (Length n) = record { number = 0; values = n ∷ [] }
 
--- the check of one payload: is it right
-abbrev pub checkedNumbers : Checked → Numbered Bool
+-- the check of one payload: which of the three, and where its counter differs the one received
+abbrev pub checkedNumbers : Checked → Numbered ℕ
 checkedNumbers (Unchecked r) = record { number = numberOf r; values = [] }
-checkedNumbers Right = record { number = 0; values = true ∷ [] }
-checkedNumbers Wrong = record { number = 0; values = false ∷ [] }
+checkedNumbers Right = record { number = 0; values = 1 ∷ [] }
+checkedNumbers Broken = record { number = 0; values = 2 ∷ [] }
+checkedNumbers (CounterDiffers c) = record { number = 0; values = 3 ∷ c ∷ [] }
 
--- the two ports: the bytes come from the function beside it
-abbrev pub portNumber : Port → ℕ
-portNumber (Refused r) = numberOf r
-portNumber A = 0
-portNumber B = 0
+-- the two ports: which of them, and whether its counter differs. The bytes come from the function beside it
+abbrev pub portNumbers : Port → Numbered ℕ
+portNumbers (Refused r) = record { number = numberOf r; values = [] }
+portNumbers (A false) = record { number = 0; values = 1 ∷ [] }
+portNumbers (B false) = record { number = 0; values = 2 ∷ [] }
+portNumbers (A true) = record { number = 0; values = 3 ∷ [] }
+portNumbers (B true) = record { number = 0; values = 4 ∷ [] }
 
 -- the verdict on a heartbeat: which of the four, and where it failed the count and the flags
 abbrev pub verdictNumbers : Verdict → Numbered ℕ

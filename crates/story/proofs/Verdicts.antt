@@ -1,0 +1,145 @@
+-- The verdicts on eight bytes against the counter that the host expects (L5), and which of two ports answers by them. By two tests: is the check right,
+-- and is the counter the one expected.
+-- Assumes nothing.
+use mathlib.Core.Path.{_≡_, refl, sym, ap, _∙_}
+use mathlib.Core.Bool.{Bool, true, false, cond, not, _&&_}
+use mathlib.Core.List.{List, [], _∷_}
+use mathlib.Core.Logic.{_↔_}
+use Prim.Native.Nat.{ℕ, _*_, _≤_}
+use native.Mathlib.Omega.{arith}
+use lib.Dec.{eqb}
+use lib.ListN.{length}
+use borrow.Author.Tests.{eq-eqb, le-leb, le-ltb}
+use Rattle.laws.specs.Counts.{count}
+use Rattle.pec.specs.Words.{counterOf, payloadRight}
+use Rattle.refusals.specs.Order.{Passed}
+use Rattle.refusals.proofs.Deciding.{passes}
+use Rattle.records.specs.Record.{mostCount}
+use Rattle.records.specs.Commands.{mostMonitors, payloadSize}
+use Rattle.ports.specs.declared.checks.Checked.{Checked}
+use Rattle.ports.specs.declared.checks.Checked.the-variants.{Unchecked, Right, CounterDiffers, Damaged}
+use Rattle.ports.specs.declared.ports.Port.the-variants.{Refused, A, B}
+use Rattle.ports.specs.Verdicts.{isDamaged, isRight, counterDiffers, counterRow}
+use Rattle.ports.specs.Check.{checkRefusals, checked}
+use Rattle.ports.specs.Ports.{partA, partB, portRefusals, chosen, portOf}
+
+-- ---- the three
+
+-- one of them holds, and no other
+pub three-verdicts : (eight : List ℕ) (expected : ℕ) → count (λ (b : Bool). b) (isRight eight expected ∷ counterDiffers eight expected ∷ isDamaged eight ∷ []) ≡ 1
+unfolding isRight counterDiffers isDamaged count
+three-verdicts eight expected = by (payloadRight eight) (eqb (counterOf eight) expected)
+  where
+    by : (right same : Bool) → count (λ (b : Bool). b) ((right && same) ∷ (right && not same) ∷ not right ∷ []) ≡ 1
+    by true true = refl
+    by true false = refl
+    by false same = refl
+
+module _ (c : ℕ) where
+  -- the answer, by both tests
+  abbrev pub told : Bool → Bool → Checked
+  told right same = cond (not right) Damaged (cond (right && not same) (CounterDiffers c) Right)
+
+  told-right : (right same : Bool) → (told right same ≡ Right) ↔ (right && same ≡ true)
+  told-right true true = (λ e. refl, λ e. refl)
+  told-right true false = (λ e. let z : _≡_ {A = ℕ} 0 1 = cc in absurd (omega arith), λ e. let z : _≡_ {A = ℕ} 0 1 = cc in absurd (omega arith))
+  told-right false same = (λ e. let z : _≡_ {A = ℕ} 0 1 = cc in absurd (omega arith), λ e. let z : _≡_ {A = ℕ} 0 1 = cc in absurd (omega arith))
+
+  told-damaged : (right same : Bool) → (told right same ≡ Damaged) ↔ (not right ≡ true)
+  told-damaged true true = (λ e. let z : _≡_ {A = ℕ} 0 1 = cc in absurd (omega arith), λ e. let z : _≡_ {A = ℕ} 0 1 = cc in absurd (omega arith))
+  told-damaged true false = (λ e. let z : _≡_ {A = ℕ} 0 1 = cc in absurd (omega arith), λ e. let z : _≡_ {A = ℕ} 0 1 = cc in absurd (omega arith))
+  told-damaged false same = (λ e. refl, λ e. refl)
+
+  told-differs : (right same : Bool) (x : ℕ) → (told right same ≡ CounterDiffers x) ↔ ((right && not same ≡ true) × (x ≡ c))
+  told-differs true true x = (λ e. let z : _≡_ {A = ℕ} 0 1 = cc in absurd (omega arith), λ e. let z : _≡_ {A = ℕ} 0 1 = cc (e .0) in absurd (omega arith))
+  told-differs true false x = (λ e. (refl, cc), λ e. ap CounterDiffers (sym (e .1)))
+  told-differs false same x = (λ e. let z : _≡_ {A = ℕ} 0 1 = cc in absurd (omega arith), λ e. let z : _≡_ {A = ℕ} 0 1 = cc (e .0) in absurd (omega arith))
+
+-- ---- the check of one payload
+
+module _ (payload : List ℕ) (expected : ℕ) (none : Passed (checkRefusals payload expected)) where
+  abbrev right : Bool
+  right = payloadRight payload
+
+  abbrev same : Bool
+  same = eqb (counterOf payload) expected
+
+  pub checked-told : checked payload expected ≡ told (counterOf payload) right same
+  unfolding checked isDamaged counterDiffers
+  checked-told = passes (checkRefusals payload expected) Unchecked (told (counterOf payload) right same) none
+
+  by-told : {v : Checked} {P : Type 0} → (told (counterOf payload) right same ≡ v) ↔ P → (checked payload expected ≡ v) ↔ P
+  by-told both = (λ e. both .0 (sym checked-told ∙ e), λ p. checked-told ∙ both .1 p)
+
+  pub checked-right : (checked payload expected ≡ Right) ↔ (isRight payload expected ≡ true)
+  unfolding isRight
+  checked-right = by-told (told-right (counterOf payload) right same)
+
+  pub checked-damaged : (checked payload expected ≡ Damaged) ↔ (isDamaged payload ≡ true)
+  unfolding isDamaged
+  checked-damaged = by-told (told-damaged (counterOf payload) right same)
+
+  pub checked-differs : (c : ℕ) → (checked payload expected ≡ CounterDiffers c) ↔ ((counterDiffers payload expected ≡ true) × (c ≡ counterOf payload))
+  unfolding counterDiffers
+  checked-differs c = by-told (told-differs (counterOf payload) right same c)
+
+-- ---- which of two parts is chosen
+
+module _ (inA inB : List ℕ) (expected : ℕ) where
+  -- A's, where its check is right, and B's is not right or A's is
+  pub chosen-a : payloadRight inA ≡ true → (isRight inB expected ≡ true → isRight inA expected ≡ true) → chosen inA inB expected ≡ A (not (isRight inA expected))
+  unfolding chosen isRight counterDiffers
+  chosen-a whole no-better = by (payloadRight inA) (eqb (counterOf inA) expected) (isRight inB expected) whole no-better
+    where
+      by : (r s t : Bool) → r ≡ true → (t ≡ true → r && s ≡ true) → cond (r && s) (A false) (cond t (B false) (cond (r && not s) (A true) (B true))) ≡ A (not (r && s))
+      by true true t d h = refl
+      by true false true d h = let e = h refl in let z : _≡_ {A = ℕ} 0 1 = cc in absurd (omega arith)
+      by true false false d h = refl
+      by false s t d h = let z : _≡_ {A = ℕ} 0 1 = cc in absurd (omega arith)
+
+  -- B's where A's is damaged
+  pub chosen-b : isDamaged inA ≡ true → chosen inA inB expected ≡ B (not (isRight inB expected))
+  unfolding chosen isDamaged isRight counterDiffers
+  chosen-b damaged = by (payloadRight inA) (eqb (counterOf inA) expected) (isRight inB expected) damaged
+    where
+      by : (r s t : Bool) → not r ≡ true → cond (r && s) (A false) (cond t (B false) (cond (r && not s) (A true) (B true))) ≡ B (not t)
+      by true s t d = let z : _≡_ {A = ℕ} 0 1 = cc in absurd (omega arith)
+      by false s true d = refl
+      by false s false d = refl
+
+  -- and where it is right and A's is not
+  pub chosen-right : isRight inA expected ≡ false → isRight inB expected ≡ true → chosen inA inB expected ≡ B false
+  unfolding chosen
+  chosen-right wrong right = simp (wrong, right)
+
+-- ---- the two ports
+
+module _ (a b : List ℕ) (n k expected : ℕ) where
+  pub port-passes : expected ≤ mostCount → n ≤ mostMonitors → 1 ≤ k → k ≤ n → length a ≡ payloadSize * n → length b ≡ payloadSize * n
+      → isDamaged (partA a n k) && isDamaged (partB b n k) ≡ false → Passed (portRefusals a b n k expected)
+  unfolding portRefusals counterRow
+  port-passes small few first last size-a size-b whole = (
+    le-ltb mostCount expected small,
+    (
+      simp (le-leb 1 n (omega arith), le-leb n mostMonitors few, le-leb 1 k first, le-leb k n last),
+      (simp (eq-eqb (length a) (payloadSize * n) size-a, eq-eqb (length b) (payloadSize * n) size-b), (whole, tt)),
+    ),
+  )
+
+  pub port-chosen : Passed (portRefusals a b n k expected) → portOf a b n k expected ≡ chosen (partA a n k) (partB b n k) expected
+  unfolding portOf
+  port-chosen none = passes (portRefusals a b n k expected) Refused (chosen (partA a n k) (partB b n k) expected) none
+
+  -- where neither is right and A's counter does not differ, B's does
+  pub last-differs : Passed (portRefusals a b n k expected)
+      → isRight (partA a n k) expected ≡ false → isRight (partB b n k) expected ≡ false → counterDiffers (partA a n k) expected ≡ false → counterDiffers (partB b n k) expected ≡ true
+  unfolding portRefusals isDamaged isRight counterDiffers
+  last-differs none =
+      by (payloadRight (partA a n k)) (eqb (counterOf (partA a n k)) expected) (payloadRight (partB b n k)) (eqb (counterOf (partB b n k)) expected) (none .1 .1 .1 .0)
+    where
+      by : (r s t u : Bool) → not r && not t ≡ false → r && s ≡ false → t && u ≡ false → r && not s ≡ false → t && not u ≡ true
+      by true true t u d e f g = let z : _≡_ {A = ℕ} 0 1 = cc in absurd (omega arith)
+      by true false t u d e f g = let z : _≡_ {A = ℕ} 0 1 = cc in absurd (omega arith)
+      by false s true true d e f g = let z : _≡_ {A = ℕ} 0 1 = cc in absurd (omega arith)
+      by false s true false d e f g = refl
+      by false s false u d e f g = let z : _≡_ {A = ℕ} 0 1 = cc in absurd (omega arith)
