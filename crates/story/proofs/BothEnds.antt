@@ -9,9 +9,8 @@ use native.Mathlib.Nat.{mul-comm, mod-eq-of-lt}
 use native.Mathlib.Omega.{arith}
 use lib.Dec.{eqb}
 use lib.ListN.{length, length-map, length-reverse, getD, drop-of-length-le}
-use borrow.Author.Tests.{eq-eqb, ne-eqb, le-ltb}
+use borrow.Author.Tests.{eq-eqb, ne-eqb, le-ltb, not-true}
 use Rattle.laws.specs.Rows.{rows, rowAt}
-use Rattle.laws.proofs.Counts.{and-false}
 use Rattle.laws.proofs.Lists.{getD-map}
 use Rattle.laws.proofs.Rows.{Every, every-image, every-reverse, length-rows, length-joined, row-at}
 use Rattle.pec.specs.Words.{counterOf, payloadRight}
@@ -32,13 +31,15 @@ use Rattle.ports.specs.declared.checks.Checked.the-variants.{Right, CounterDiff
 use Rattle.ports.specs.declared.ports.Port.the-variants.{A, B}
 use Rattle.ports.specs.Verdicts.{isDamaged, isRight, counterRow}
 use Rattle.ports.specs.Check.{checkRefusals, checked}
-use Rattle.ports.specs.Ports.{partA, partB, chosen, portOf, byPort}
+use Rattle.ports.specs.Ports.{partA, partB, portOf, byPort}
 use Rattle.ports.specs.Parts.{bytesOf}
 use Rattle.ports.proofs.BothEnds.{part-at-a, part-at-b}
+use Rattle.ports.proofs.Choosing.{either, either-b}
+use Rattle.ports.proofs.TwoPorts.{Asked, answered}
 use Rattle.story.specs.Missed.{fromA, fromB, Seen}
 use Rattle.story.proofs.OurHost.{reply-after, length-register, reply-right}
 use Rattle.story.proofs.Runs.{length-replies}
-use Rattle.story.proofs.Verdicts.{told, checked-told, chosen-a, chosen-b, chosen-right, port-passes, port-chosen}
+use Rattle.story.proofs.Verdicts.{told, checked-told, either-from-a, either-from-b}
 
 -- ---- one monitor's reply, against a counter
 
@@ -123,23 +124,21 @@ module _ (part : Part) (n : ℕ) (table : List ℕ) (k : ℕ) (first : 1 ≤ k) 
       ∙ mul-comm n payloadSize
 
   module _ (few : n ≤ mostMonitors) (expected : ℕ) (small : expected ≤ mostCount) where
+    asked : {a b : List ℕ} → length a ≡ payloadSize * n → length b ≡ payloadSize * n → Asked a b n k
+    asked l m = record { most = few; first = first; last = last; size-a = l; size-b = m }
+
     -- where port A's reply came whole: its own, if port B's part is not right or its own is
     from-a : (b : List ℕ) → length b ≡ payloadSize * n → (isRight (partB b n k) expected ≡ true → isRight (reply part its-record) expected ≡ true)
         → portOf (fromA part n table) b n k expected ≡ A (not (isRight (reply part its-record) expected))
-    unfolding isDamaged
     from-a b l no-better =
-        port-chosen (fromA part n table) b n k expected
-        (port-passes (fromA part n table) b n k expected small few first last length-from-a l (ap (λ (right : Bool). not right && isDamaged (partB b n k)) right-from-a))
-        ∙ ap (λ (inA : List ℕ). chosen inA (partB b n k) expected) own-from-a
-        ∙ chosen-a (reply part its-record) (partB b n k) expected (reply-right part its-record) no-better
+        answered (fromA part n table) b n k expected (asked length-from-a l) small
+        ∙ ap (λ (inA : List ℕ). either inA (partB b n k) expected) own-from-a
+        ∙ either-from-a (reply part its-record) (partB b n k) expected (reply-right part its-record) no-better
 
     -- where port B's reply came whole
-    from-b : (a : List ℕ) → length a ≡ payloadSize * n → portOf a (fromB part n table) n k expected ≡ chosen (partA a n k) (reply part its-record) expected
-    unfolding isDamaged
+    from-b : (a : List ℕ) → length a ≡ payloadSize * n → portOf a (fromB part n table) n k expected ≡ either (partA a n k) (reply part its-record) expected
     from-b a l =
-        port-chosen a (fromB part n table) n k expected
-        (port-passes a (fromB part n table) n k expected small few first last l length-from-b (ap (λ (right : Bool). isDamaged (partA a n k) && not right) right-from-b ∙ and-false (isDamaged (partA a n k))))
-        ∙ ap (λ (inB : List ℕ). chosen (partA a n k) inB expected) own-from-b
+        answered a (fromB part n table) n k expected (asked l length-from-b) small ∙ ap (λ (inB : List ℕ). either (partA a n k) inB expected) own-from-b
 
     -- what is handed over with the port
     bytes-a : (b : List ℕ) {differs : Bool} → portOf (fromA part n table) b n k expected ≡ A differs → bytesOf (fromA part n table) b n k expected ≡ reply part its-record
@@ -161,7 +160,9 @@ module _ (part : Part) (n : ℕ) (table : List ℕ) (k : ℕ) (first : 1 ≤ k) 
     pub any-from-b : (a : List ℕ) → length a ≡ payloadSize * n → isDamaged (partA a n k) ≡ true
         → (portOf a (fromB part n table) n k expected ≡ B (not (isRight (reply part its-record) expected)))
         × (bytesOf a (fromB part n table) n k expected ≡ reply part its-record)
-    any-from-b a l damaged = let e = from-b a l ∙ chosen-b (partA a n k) (reply part its-record) expected damaged in (e, bytes-b a e)
+    unfolding isDamaged
+    any-from-b a l damaged =
+        let e = from-b a l ∙ either-from-b (partA a n k) (reply part its-record) expected (not-true _ damaged) (reply-right part its-record) in (e, bytes-b a e)
 
     -- expecting its own counter: from port A whatever came to port B, and from port B where port A's part is not right
     module _ (own : expected ≡ byteOf counter its-record) where
@@ -176,7 +177,7 @@ module _ (part : Part) (n : ℕ) (table : List ℕ) (k : ℕ) (first : 1 ≤ k) 
       pub handed-from-b : (a : List ℕ) → length a ≡ payloadSize * n → isRight (partA a n k) expected ≡ false
           → (portOf a (fromB part n table) n k expected ≡ B false) × (bytesOf a (fromB part n table) n k expected ≡ reply part its-record)
       handed-from-b a l not-right =
-          let e = from-b a l ∙ chosen-right (partA a n k) (reply part its-record) expected not-right right-here in (e, bytes-b a e)
+          let e = from-b a l ∙ either-b (partA a n k) (reply part its-record) expected not-right right-here in (e, bytes-b a e)
 
     -- so both ports show it as it is
     pub seen : {right : Bool} {received : ℕ} → checked (reply part its-record) expected ≡ cond right Right (CounterDiffers received) → isRight (reply part its-record) expected ≡ right

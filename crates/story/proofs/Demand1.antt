@@ -72,6 +72,7 @@ use Rattle.clocking.proofs.View.{view-idle}
 use Rattle.host.specs.declared.frames.Built.the-variants.{Unbuilt}
 use Rattle.ports.specs.declared.ports.Port.the-variants.{Refused as Unported}
 use Rattle.host.specs.Frames.{buildRefusals, built, bufferAfter}
+use Rattle.ports.specs.Verdicts.{counterRow}
 use Rattle.ports.specs.Check.{checkRefusals, checked}
 use Rattle.ports.specs.Ports.{portRefusals, portOf}
 use Rattle.ports.specs.Parts.{bytesOf}
@@ -81,7 +82,7 @@ use Rattle.messages.specs.Verdicts.{verdictRefusals, verdict}
 use Rattle.messages.proofs as messages
 use Rattle.readings.specs.Readings.{summaryOf}
 use Rattle.readings.proofs as readings
-use Rattle.story.specs.Numbers.{dischargedNumbers, sentNumbers, relayedNumbers, timedNumbers, builtNumbers, checkedNumbers, portNumber, verdictNumbers, lookedNumbers, packNumbers, summaryRefusals, firstNumber, First, order}
+use Rattle.story.specs.Numbers.{dischargedNumbers, sentNumbers, relayedNumbers, timedNumbers, builtNumbers, checkedNumbers, portNumbers, verdictNumbers, lookedNumbers, packNumbers, summaryRefusals, firstNumber, First, order}
 use Rattle.story.proofs.OneOutcome.{OneOutcome, one-outcomes}
 use Rattle.story.proofs.Numbers.{number-exactly, zero-exactly, frame-number, store-number, compare-number, load-number, discharge-number, wake-number, beat-number, relay-number, time-number, release-number, look-number, built-number, checked-number, port-number, verdict-number, summary-number}
 use Rattle.story.proofs.Stays.{refused-discharge, refused-wake, refused-beat, refused-relay, refused-time, refused-release, refused-look, refused-build, refused-part}
@@ -113,6 +114,7 @@ pub record Promises : Type 2 where
   number-in : Promised check_words.number_in.Statement.statement check_words.number_in.Reads.Asked
   number-right : Promised check_words.number_right.Statement.statement check_words.number_right.Reads.Asked
   payload-right : Promised check_words.payload_right.Statement.statement check_words.payload_right.Reads.Asked
+  counter-in : Promised check_words.counter_in.Statement.statement check_words.counter_in.Reads.Asked
   sealed-two : Promised check_words.sealed_two.Statement.statement check_words.sealed_two.Reads.Asked
   four-in : Promised check_words.four_in.Statement.statement check_words.four_in.Reads.Asked
   four-right : Promised check_words.four_right.Statement.statement check_words.four_right.Reads.Asked
@@ -260,13 +262,13 @@ pub record Demand1 : Type 2 where
   build-order : (code n : ℕ) (values : List ℕ) (room : ℕ) → order (buildRefusals code n values room) ≡ 4 ∷ 7 ∷ 8 ∷ 6 ∷ []
   build-stays : (code n : ℕ) (values buffer : List ℕ) (r : Refusal) → built code n values (length buffer) ≡ Unbuilt r
       → bufferAfter code n values buffer ≡ buffer
-  -- the check of one payload: `host::check`. Nothing is lent to be changed
-  check : (payload : List ℕ) → checkedNumbers (checked payload) .number ≡ firstNumber (checkRefusals payload)
-  check-order : (payload : List ℕ) → order (checkRefusals payload) ≡ 5 ∷ []
-  -- two ports: `host::port_of`, and `host::part_of` beside it, which then hands back an empty part
-  ports : (a b : List ℕ) (n k : ℕ) → portNumber (portOf a b n k) ≡ firstNumber (portRefusals a b n k)
-  ports-order : (a b : List ℕ) (n k : ℕ) → order (portRefusals a b n k) ≡ 7 ∷ 5 ∷ 10 ∷ []
-  no-part : (a b : List ℕ) (n k : ℕ) (r : Refusal) → portOf a b n k ≡ Unported r → bytesOf a b n k ≡ []
+  -- the check of one payload: `ports::check`. Nothing is lent to be changed
+  check : (payload : List ℕ) (expected : ℕ) → checkedNumbers (checked payload expected) .number ≡ firstNumber (checkRefusals payload expected)
+  check-order : (payload : List ℕ) (expected : ℕ) → order (checkRefusals payload expected) ≡ 7 ∷ 5 ∷ []
+  -- two ports: `ports::port_of`, and `ports::part_of` beside it, which then hands back an empty part
+  ports : (a b : List ℕ) (n k expected : ℕ) → portNumbers (portOf a b n k expected) .number ≡ firstNumber (portRefusals a b n k expected)
+  ports-order : (a b : List ℕ) (n k expected : ℕ) → order (portRefusals a b n k expected) ≡ 7 ∷ 7 ∷ 5 ∷ 10 ∷ []
+  no-part : (a b : List ℕ) (n k expected : ℕ) (r : Refusal) → portOf a b n k expected ≡ Unported r → bytesOf a b n k expected ≡ []
   -- the verdict on a heartbeat: `messages::verdict_on`. Nothing is lent to be changed
   verdict : (bytes : List ℕ) (late : Bool) → verdictNumbers (verdict bytes late) .number ≡ firstNumber (verdictRefusals bytes late)
   verdict-order : (bytes : List ℕ) (late : Bool) → order (verdictRefusals bytes late) ≡ 5 ∷ []
@@ -303,6 +305,7 @@ proved =
       number-in = (λ M. check_words.number_in.Met.met, λ κ a. tt);
       number-right = (λ M. check_words.number_right.Met.met, λ κ a. tt);
       payload-right = (λ M. check_words.payload_right.Met.met, λ κ a. tt);
+      counter-in = (λ M. check_words.counter_in.Met.met, λ κ a. tt);
       sealed-two = (λ M. check_words.sealed_two.Met.met, λ κ a. tt);
       four-in = (λ M. check_words.four_in.Met.met, λ κ a. tt);
       four-right = (λ M. check_words.four_right.Met.met, λ κ a. tt);
@@ -388,7 +391,7 @@ proved =
     }
 
 pub demand-1 : Demand1
-unfolding frameRefusals storeRefusals compareRefusals loadRefusals dischargeRefusals wakeRefusals relayRefusals timeOutRefusals buildRefusals checkRefusals portRefusals verdictRefusals releaseRefusals lookRefusals
+unfolding frameRefusals storeRefusals compareRefusals loadRefusals dischargeRefusals wakeRefusals relayRefusals timeOutRefusals buildRefusals checkRefusals counterRow portRefusals verdictRefusals releaseRefusals lookRefusals
 demand-1 =
     record {
       promises = proved;
@@ -427,9 +430,9 @@ demand-1 =
       build-order = λ code n values room. refl;
       build-stays = refused-build;
       check = checked-number;
-      check-order = λ payload. refl;
+      check-order = λ payload expected. refl;
       ports = port-number;
-      ports-order = λ a b n k. refl;
+      ports-order = λ a b n k expected. refl;
       no-part = refused-part;
       verdict = verdict-number;
       verdict-order = λ bytes late. refl;

@@ -79,7 +79,7 @@ use Rattle.discharge.specs.declared.question.Discharged.the-variants.{On}
 use Rattle.discharge.specs.Question.{dischargeRefusals, discharged, outputsAfter}
 use Rattle.host.specs.declared.frames.Built.the-variants.{Length}
 use Rattle.host.specs.Frames.{headSize, sealed, valueCount, frameFor, buildRefusals, built, bufferAfter}
-use Rattle.ports.specs.declared.checks.Checked.the-variants.{Right, CounterDiffers, Damaged as Broken}
+use Rattle.ports.specs.declared.checks.Checked.the-variants.{Right, CounterDiffers, Damaged as PayloadDamaged}
 use Rattle.ports.specs.declared.ports.Port.the-variants.{A, B}
 use Rattle.ports.specs.Verdicts.{isDamaged, isRight, counterDiffers, counterRow}
 use Rattle.ports.specs.Check.{checkRefusals, checked}
@@ -100,7 +100,7 @@ use Rattle.story.specs.Snapshots.{snappedAfter}
 use Rattle.story.specs.Growth.{size01, sizeL2, sizeL6, sizeL8}
 use Rattle.story.specs.Lpcm.{enabledAfter}
 use Rattle.story.specs.Spikes.{StruckData, StruckCommand, ownIn, unhit, unhitOf, unhitAwake, StruckEach, Spoilt}
-use Rattle.story.specs.Missed.{OneCounter, fromA, fromB, Seen, SomeDiffer}
+use Rattle.story.specs.Missed.{OneCounter, readAfter, fromA, fromB, Seen, SomeDiffer}
 use Rattle.story.proofs.Accepted.{frame-refused, write-answer, write-answer-awake, wrrr-answer, read-answer, bare-answer, record-after, reply-own, reply-past, write-no-reply, bare-no-reply, store-done, store-own, store-others, compare-done, compare-own, compare-others, load-done, load-own, load-others, discharge-answer, host-writes}
 use Rattle.story.proofs.OurHost.{own-data, write-taken, write-taken-by-all, bare-taken-by-all, each-keeps-its-own, reply-right, read-taken-by-all, each-reply-its-own, each-reply-right}
 use Rattle.story.specs.ReadsBack.{ReadsBack, as-written, fixed-behind-two, three-thresholds}
@@ -133,7 +133,8 @@ use Rattle.story.proofs.BothEnds.{reply-same, reply-differs, the-replie
 use Rattle.story.proofs.Cleared.{clrcell-clears}
 use Rattle.story.proofs.Spoilt.{struck-answer, struck-answer-awake, awake-unhit, struck-no-reply, struck-some, struck-fewer, struck-hit, struck-lpcm, struck-unhit}
 use Rattle.story.proofs.Spikes.{hit-by-bit, unhit-by-bits, struck-each, each-spoilt, struck-spoilt, struck-wrrr-answer, struck-wrrr-stores, struck-wrrr-locked, struck-refused, struck-refused-any}
-use Rattle.story.proofs.Missed.{own-counter-right, other-counter-differs, next-apart, counter-after, missed-in-reply, missed-at-ports, missed-seen, some-seen, read-from-a, refused-in-reply, refused-seen, wrrr-unseen, any-accepted, any-kept, right-accepted, differs-accepted}
+use Rattle.story.proofs.Counted.{right-accepted, differs-accepted, any-accepted, any-kept, next-apart}
+use Rattle.story.proofs.Missed.{own-counter-right, other-counter-differs, counter-after, missed-in-reply, missed-at-ports, missed-seen, some-seen, read-from-a, refused-in-reply, refused-seen, wrrr-unseen}
 use Rattle.story.proofs.Sharp.{Sharp, sharp}
 use Rattle.story.proofs.EitherSide.{EitherSide, either-side}
 
@@ -499,7 +500,7 @@ pub record Demand2 : Type 0 where
   three-verdicts : (eight : List ℕ) (expected : ℕ) → count (λ (b : Bool). b) (isRight eight expected ∷ counterDiffers eight expected ∷ isDamaged eight ∷ []) ≡ 1
   -- none refused: each is given exactly where it holds, and with a counter that differs the one received
   check-right : (payload : List ℕ) (expected : ℕ) → Passed (checkRefusals payload expected) → (checked payload expected ≡ Right) ↔ (isRight payload expected ≡ true)
-  check-damaged : (payload : List ℕ) (expected : ℕ) → Passed (checkRefusals payload expected) → (checked payload expected ≡ Broken) ↔ (isDamaged payload ≡ true)
+  check-damaged : (payload : List ℕ) (expected : ℕ) → Passed (checkRefusals payload expected) → (checked payload expected ≡ PayloadDamaged) ↔ (isDamaged payload ≡ true)
   check-differs : (payload : List ℕ) (expected : ℕ) → Passed (checkRefusals payload expected)
       → (c : ℕ) → (checked payload expected ≡ CounterDiffers c) ↔ ((counterDiffers payload expected ≡ true) × (c ≡ counterOf payload))
   -- `ports::port_of` and `ports::part_of`: monitor k of two replies, k from 1. The exact refusals, in their order
@@ -585,10 +586,10 @@ pub record Demand2 : Type 0 where
       → (answer table came (length buffer) ≡ Refused CommandWrong) × (tableAfter table came (length buffer) ≡ table) × (replyAfter table came buffer ≡ buffer)
   -- and no further: examples of both, and eleven places behind a command and sixteen in one that get through
   sharp : Sharp
-  -- ---- a missed command: what a read that our host builds shows of a command that came before it
+  -- ---- a missed command: what a read that our host builds shows of a command that came before it (`readAfter`)
 
-  -- a reply, of a monitor whose counter is one, is right against its own counter, and against any other its counter differs and is told; and so is each monitor's part of the
-  -- chain's reply
+  -- a reply of a monitor with a counter of at most 63, as a sound record has, is right against that counter, and against any other its counter differs and is the one told; and so
+  -- is each monitor's part of the chain's reply
   own-counter : (part : Part) (r : List ℕ) → byteOf counter r ≤ 63 → checked (reply part r) (byteOf counter r) ≡ Right
   other-counter : (part : Part) (r : List ℕ) (expected : ℕ) → expected ≤ 63 → byteOf counter r ≤ 63 → (expected ≡ byteOf counter r → ⊥)
       → checked (reply part r) expected ≡ CounterDiffers (byteOf counter r)
@@ -617,7 +618,7 @@ pub record Demand2 : Type 0 where
   missed-read : (table sent came : List ℕ) (room : ℕ) → sound table ≡ true → (c : Write) → (c ≡ Wrrr → ⊥) → Spoilt c (monitors table) sent came
       → (code : ℕ) (part : Part) (buffer : List ℕ) → commandOf code commands ≡ Reads part → payloadSize * monitors table ≤ length buffer → (k : ℕ) → k < monitors table
       → let r = rowAt recordSize k table in
-      checked (rowAt payloadSize k (replyAfter (tableAfter table came room) (frameFor code (monitors table) []) buffer)) (nextCount (byteOf counter r))
+      checked (rowAt payloadSize k (readAfter table came room code buffer)) (nextCount (byteOf counter r))
       ≡ cond (not (inLpcm r) && unhit (Writes c) (monitors table) sent came k) Right (CounterDiffers (byteOf counter r))
   missed-at-ports : (table sent came : List ℕ) (room : ℕ) → sound table ≡ true → (c : Write) → (c ≡ Wrrr → ⊥) → Spoilt c (monitors table) sent came
       → (part : Part) (k : ℕ) → 1 ≤ k → k ≤ monitors table
@@ -634,12 +635,12 @@ pub record Demand2 : Type 0 where
   -- what comes to port A there is what the chain leaves in a buffer of that length for a read that our host builds
   read-from-a : (table frame buffer : List ℕ) (room code : ℕ) (part : Part) → commandOf code commands ≡ Reads part → sound table ≡ true
       → length buffer ≡ payloadSize * monitors table
-      → replyAfter (tableAfter table frame room) (frameFor code (monitors table) []) buffer ≡ fromA part (monitors table) (tableAfter table frame room)
+      → readAfter table frame room code buffer ≡ fromA part (monitors table) (tableAfter table frame room)
   -- a frame that the chain refuses is missed by all: against its next counter every monitor's reply differs, and tells the old one. So is any frame with a spike in its command
   refused-read : (table frame : List ℕ) (room : ℕ) → sound table ≡ true → (refusal : Refusal) → answer table frame room ≡ Refused refusal
       → (code : ℕ) (part : Part) (buffer : List ℕ) → commandOf code commands ≡ Reads part → payloadSize * monitors table ≤ length buffer → (k : ℕ) → k < monitors table
       → let r = rowAt recordSize k table in
-      checked (rowAt payloadSize k (replyAfter (tableAfter table frame room) (frameFor code (monitors table) []) buffer)) (nextCount (byteOf counter r)) ≡ CounterDiffers (byteOf counter r)
+      checked (rowAt payloadSize k (readAfter table frame room code buffer)) (nextCount (byteOf counter r)) ≡ CounterDiffers (byteOf counter r)
   refused-seen : (table frame : List ℕ) (room : ℕ) → sound table ≡ true → (refusal : Refusal) → answer table frame room ≡ Refused refusal
       → (part : Part) (k : ℕ) → 1 ≤ k → k ≤ monitors table
       → let r = rowAt recordSize (k - 1) table in
@@ -652,7 +653,7 @@ pub record Demand2 : Type 0 where
   wrrr-unseen : (table sent came : List ℕ) (room : ℕ) → sound table ≡ true → Spoilt Wrrr (monitors table) sent came → (k : ℕ) → k < monitors table
       → inLpcm (rowAt recordSize k table) ≡ false
       → (code : ℕ) (part : Part) (buffer : List ℕ) → commandOf code commands ≡ Reads part → payloadSize * monitors table ≤ length buffer
-      → checked (rowAt payloadSize k (replyAfter (tableAfter table came room) (frameFor code (monitors table) []) buffer)) (nextCount (byteOf counter (rowAt recordSize k table))) ≡ Right
+      → checked (rowAt payloadSize k (readAfter table came room code buffer)) (nextCount (byteOf counter (rowAt recordSize k table))) ≡ Right
   -- a monitor that receives a write takes either right: data with the check over them and any counter are accepted by every monitor that is not in LPCM, and it keeps the same of
   -- all of them; and of a write of six bytes, own bytes that are right against a counter, and own bytes whose counter differs
   any-accepted : (c : Write) (own r : List ℕ) → length own ≡ dataSize c → (i : ℕ) → accepts c (own ++ seal own i) r ≡ not (inLpcm r)

@@ -25,6 +25,7 @@ pub mod Muting
 pub mod Retention
 pub mod Spoilt
 pub mod Spikes
+pub mod Counted
 pub mod Missed
 pub mod Sharp
 pub mod Snapshot

@@ -1,38 +1,32 @@
--- What a read shows of a missed command (L5). A monitor counts a write where it takes it, so after a frame its counter is the next one or the old one; its
--- reply, right in itself, tells which against the next, in the chain's reply and from both ports. By one monitor's counter after a write; whether it takes it is
--- said by its own bytes and LPCM, and of a frame that the chain refuses by nothing.
+-- What a read shows of a missed command (L5). After a frame a monitor's counter is the next one, where it took it, or the old one; against the next its reply is
+-- right, or its counter differs, in the chain's reply and from both ports. Of a write with some monitors' checks wrong those take it that were not hit and are not
+-- in LPCM; of one of WRRR all that are not in LPCM; of a frame that the chain refuses none.
 -- Assumes nothing.
 use mathlib.Core.Path.{_≡_, refl, sym, ap, ap₂, _∙_, subst, subst⁻¹}
 use mathlib.Core.Bool.{Bool, true, false, cond, not, _&&_}
-use mathlib.Core.List.{List, [], _++_}
+use mathlib.Core.List.{List, []}
 use mathlib.Core.Logic.{_⊎_, inl, inr}
-use Prim.Native.Nat.{ℕ, zero, suc, _+_, _-_, _*_, _≤_, _<_}
+use Prim.Native.Nat.{ℕ, zero, suc, _-_, _*_, _≤_, _<_}
 use native.Mathlib.Decide.{decLt}
 use native.Mathlib.Omega.{arith}
-use lib.Dec.{eqb, leb, ltb, lit<, lit≤}
-use lib.ListN.{length, getD, List·getD-append}
-use borrow.Author.Tests.{eq-eqb, ne-eqb, leb-true, ltb-false}
+use lib.Dec.{eqb, leb}
+use lib.ListN.{length}
+use borrow.Author.Tests.{eq-eqb, ne-eqb, leb-true}
 use Rattle.laws.specs.Rows.{rows, rowAt}
 use Rattle.laws.proofs.Counts.{and-true, all-fails}
 use Rattle.laws.proofs.Rows.{length-rows, row-at}
 use Rattle.laws.proofs.Tests.{both-first}
-use Rattle.pec.specs.Words.{seal, sealedRight, payloadRight}
-use Rattle.pec.proofs.CheckWords.{own-right}
 use Rattle.refusals.specs.declared.Refusal.{Refusal}
 use Rattle.records.specs.declared.commands.Command.the-variants.{Reads, Writes}
 use Rattle.records.specs.declared.commands.Write.{Write}
-use Rattle.records.specs.declared.commands.Write.the-variants.{Wrrr, Clrcmflag}
+use Rattle.records.specs.declared.commands.Write.the-variants.{Wrrr}
 use Rattle.records.specs.declared.record.Part.{Part}
-use Rattle.records.specs.Record.{recordSize, counter, unlocked, mostCount, inLpcm, byteOf, onBytes, recordSound}
-use Rattle.records.specs.Commands.{commands, commandOf, dataSize, payloadSize, widthOf}
-use Rattle.records.proofs.Anew.{anew-inside, anew-same}
-use Rattle.records.proofs.Parts.{outside-byte}
-use Rattle.records.proofs.Widths.{six-but-clrcmflag}
-use Rattle.writes.specs.Writes.{rulesOf, changed, byRules, opens, written}
+use Rattle.records.specs.Record.{recordSize, counter, unlocked, mostCount, inLpcm, byteOf, recordSound}
+use Rattle.records.specs.Commands.{commands, commandOf, payloadSize, widthOf}
 use Rattle.writes.proofs.Written.{needs-but-wrrr}
-use Rattle.monitor.specs.Effects.{locked, nextCount, counted, accepts, keeps}
+use Rattle.monitor.specs.Effects.{nextCount, accepts}
 use Rattle.monitor.proofs.Keeping.{good-checked, good-unchecked}
-use Rattle.monitor.proofs.Sound.{length-locked, next-fine, rules-elsewhere}
+use Rattle.monitor.proofs.Sound.{next-fine}
 use Rattle.reads.specs.Reply.{reply}
 use Rattle.judging.specs.Table.{monitors, sound}
 use Rattle.judging.proofs.Keeps.{Keeps}
@@ -45,90 +39,18 @@ use Rattle.chain.proofs.FrameKeeps.{frame-keeps}
 use Rattle.chain.proofs.Refused.{refused-table}
 use Rattle.host.specs.Frames.{frameFor}
 use Rattle.ports.specs.declared.checks.Checked.the-variants.{Right, CounterDiffers}
-use Rattle.ports.specs.Verdicts.{isRight, counterDiffers}
+use Rattle.ports.specs.Verdicts.{isRight}
 use Rattle.ports.specs.Check.{checked}
 use Rattle.story.specs.Spikes.{ownIn, unhit, Spoilt}
 use Rattle.story.specs.Missed.{OneCounter, readAfter, fromA, Seen, SomeDiffer}
 use Rattle.story.proofs.Accepted.{own-long}
-use Rattle.story.proofs.OurHost.{accepts-right, each-reply-its-own}
+use Rattle.story.proofs.OurHost.{each-reply-its-own}
 use Rattle.story.proofs.BothEnds.{reply-is-right, reply-verdict, reply-same, reply-differs, seen, the-replies}
 use Rattle.story.proofs.Spoilt.{came-none, came-its, right-unhit, struck-kept, all-unhit}
+use Rattle.story.proofs.Counted.{next-apart, counter-kept}
 
--- ---- a monitor that receives a write takes either right
+-- ---- a sound table's counters
 
--- six own bytes with their check right, whatever their counter
-module _ (c : Write) (own r : List ℕ) (expected : ℕ) (other : c ≡ Clrcmflag → ⊥) where
-  by-check : (b : Bool) → payloadRight own && b ≡ true → accepts c own r ≡ not (inLpcm r)
-  unfolding payloadRight
-  by-check b e = accepts-right c own r (ap (λ (d : ℕ). sealedRight d own) (six-but-clrcmflag c other) ∙ both-first (sealedRight 6 own) b e)
-
-  pub right-accepted : isRight own expected ≡ true → accepts c own r ≡ not (inLpcm r)
-  unfolding isRight
-  right-accepted = by-check _
-
-  pub differs-accepted : counterDiffers own expected ≡ true → accepts c own r ≡ not (inLpcm r)
-  unfolding counterDiffers
-  differs-accepted = by-check _
-
--- and data with their check over any counter: it keeps the same of all of them
-module _ (c : Write) (own r : List ℕ) (l : length own ≡ dataSize c) where
-  pub any-accepted : (i : ℕ) → accepts c (own ++ seal own i) r ≡ not (inLpcm r)
-  any-accepted i = accepts-right c (own ++ seal own i) r (own-right own i (dataSize c) l)
-
-  pub any-kept : (i j : ℕ) → keeps (Writes c) (own ++ seal own i) r ≡ keeps (Writes c) (own ++ seal own j) r
-  unfolding keeps
-  any-kept i j =
-      ap₂ (λ (took : Bool) (after : List ℕ). cond took after (locked r)) (any-accepted i ∙ sym (any-accepted j)) same-written
-    where
-      byte : (m t : ℕ) → m < dataSize c → getD (own ++ seal own t) m 0 ≡ getD own m 0
-      byte m t h = List·getD-append own (seal own t) 0 m (omega arith)
-
-      same-byte : (m old : ℕ) → m < dataSize c → changed (rulesOf c) (own ++ seal own i) m old ≡ changed (rulesOf c) (own ++ seal own j) m old
-      same-byte m old h = unfold changed in rw (byte m i h, byte m j h)
-
-      same-written : written c (byteOf unlocked r) (own ++ seal own i) (counted (locked r)) ≡ written c (byteOf unlocked r) (own ++ seal own j) (counted (locked r))
-      same-written = unfold written byRules in
-          ap (λ (after : List ℕ). cond (opens (rulesOf c) (byteOf unlocked r)) after (counted (locked r)))
-          (anew-same _ _ (rulesOf c .at) (dataSize c) (counted (locked r)) (λ m h. same-byte m _ h))
-
--- ---- counters
-
--- the next one is another
-pub next-apart : (n : ℕ) → nextCount n ≡ n → ⊥
-unfolding nextCount
-next-apart n = by (ltb n mostCount) refl
-  where
-    by : (b : Bool) → ltb n mostCount ≡ b → cond b (n + 1) 1 ≡ n → ⊥
-    by true e f = omega arith
-    by false e f = omega (arith, ltb-false n mostCount e)
-
--- a monitor counts a write that it takes, and no other
-module _ (c : Write) (own r : List ℕ) (whole : length r ≡ recordSize) where
-  when-locked : byteOf counter (locked r) ≡ byteOf counter r
-  unfolding locked onBytes
-  when-locked = outside-byte counter _ (unlocked .at) 1 r (lit≤ tt) (inr (lit≤ tt))
-
-  when-counted : byteOf counter (counted (locked r)) ≡ nextCount (byteOf counter r)
-  unfolding counted onBytes byteOf
-  when-counted = anew-inside (λ i old. nextCount old) (counter .at) 1 (locked r) 0 (lit< tt) (omega (arith, length-locked r)) ∙ ap nextCount when-locked
-
-  when-written : byteOf counter (written c (byteOf unlocked r) own (counted (locked r))) ≡ nextCount (byteOf counter r)
-  unfolding written byRules
-  when-written = by (opens (rulesOf c) (byteOf unlocked r))
-    where
-      by : (opened : Bool) → byteOf counter (cond opened (byRules c own (counted (locked r))) (counted (locked r))) ≡ nextCount (byteOf counter r)
-      by true = outside-byte counter _ (rulesOf c .at) (dataSize c) (counted (locked r)) (lit≤ tt) (rules-elsewhere c .0) ∙ when-counted
-      by false = when-counted
-
-  pub counter-kept : byteOf counter (keeps (Writes c) own r) ≡ cond (accepts c own r) (nextCount (byteOf counter r)) (byteOf counter r)
-  unfolding keeps
-  counter-kept = by (accepts c own r)
-    where
-      by : (took : Bool) → byteOf counter (cond took (written c (byteOf unlocked r) own (counted (locked r))) (locked r)) ≡ cond took (nextCount (byteOf counter r)) (byteOf counter r)
-      by true = when-written
-      by false = when-locked
-
--- of a sound table they are counters
 pub counter-fine : (table : List ℕ) → sound table ≡ true → (k : ℕ) → k < monitors table → byteOf counter (rowAt recordSize k table) ≤ mostCount
 counter-fine table s k h = leb-true _ _ (both-first (leb (byteOf counter its) mostCount) (leb (byteOf unlocked its) 1) (by (recordSound its) refl))
   where

@@ -32,13 +32,13 @@ use Rattle.clocking.specs.Clock.{Clock}
 use Rattle.releasing.specs.Release.{releaseRefusals, released}
 use Rattle.releasing.specs.Look.{lookRefusals, looked}
 use Rattle.host.specs.declared.frames.Built.the-variants.{Unbuilt}
-use Rattle.ports.specs.declared.checks.Checked.the-variants.{Unchecked, Right, CounterDiffers, Damaged as Broken}
+use Rattle.ports.specs.declared.checks.Checked.the-variants.{Unchecked, Right, CounterDiffers, Damaged}
 use Rattle.ports.specs.declared.ports.Port.the-variants.{Refused, A, B}
 use Rattle.host.specs.Frames.{buildRefusals, built}
 use Rattle.ports.specs.Verdicts.{isDamaged, isRight, counterDiffers}
 use Rattle.ports.specs.Check.{checkRefusals, checked}
 use Rattle.ports.specs.Ports.{partA, partB, portRefusals, chosen, portOf}
-use Rattle.messages.specs.declared.verdicts.Verdict.the-variants.{Refused as Unjudged, Passed as Good, Failed, Damaged, TimedOut}
+use Rattle.messages.specs.declared.verdicts.Verdict.the-variants.{Refused as Unjudged, Passed as Good, Failed, Damaged as MessageDamaged, TimedOut}
 use Rattle.messages.specs.Messages.{countIn, flagsIn, messageRight, isPass}
 use Rattle.messages.specs.Verdicts.{verdictRefusals, verdictOf, verdict}
 use Rattle.heartbeats.specs.Steps.{isTimeout, towardsA}
@@ -157,7 +157,7 @@ unfolding checked
 checked-number payload expected =
     number-by (λ c. checkedNumbers c .number) (checkRefusals payload expected) Unchecked _ (λ r. refl) (each (isDamaged payload) (counterDiffers payload expected))
   where
-    each : (damaged differs : Bool) → checkedNumbers (cond damaged Broken (cond differs (CounterDiffers (counterOf payload)) Right)) .number ≡ 0
+    each : (damaged differs : Bool) → checkedNumbers (cond damaged Damaged (cond differs (CounterDiffers (counterOf payload)) Right)) .number ≡ 0
     each true differs = refl
     each false true = refl
     each false false = refl
@@ -217,7 +217,7 @@ unfolding verdict verdictOf
 verdict-number bytes late =
     number-by (λ v. verdictNumbers v .number) (verdictRefusals bytes late) Unjudged _ (λ r. refl) (each late (messageRight bytes) (isPass (countIn bytes) (flagsIn bytes)))
   where
-    each : (l r p : Bool) → verdictNumbers (cond l TimedOut (cond (not r) Damaged (cond p Good (Failed (countIn bytes) (flagsIn bytes))))) .number ≡ 0
+    each : (l r p : Bool) → verdictNumbers (cond l TimedOut (cond (not r) MessageDamaged (cond p Good (Failed (countIn bytes) (flagsIn bytes))))) .number ≡ 0
     each true r p = refl
     each false false p = refl
     each false true true = refl

@@ -19,7 +19,7 @@ use Rattle.packing.specs.Packed.{packed, refused, accepted}
 use Rattle.packing.proofs as packing
 use Rattle.laws.specs.Bits.{bitsOf}
 use Rattle.pec.specs.Remainder.{remainder}
-use Rattle.pec.specs.Words.{twoBytes, polynomial15, polynomial10, pec15, pec10, commandCheck, commandRight, dataPec, seal, sealedRight, payloadRight, numberIn, numberRight}
+use Rattle.pec.specs.Words.{twoBytes, polynomial15, polynomial10, pec15, pec10, commandCheck, commandRight, dataPec, seal, counterOf, sealedRight, payloadRight, numberIn, numberRight}
 use Rattle.pec.proofs as pec
 use Rattle.check_words.proofs as check_words
 use Rattle.remainders.proofs as remainders
@@ -143,6 +143,7 @@ pub record OneOutcome : Type 0 where
   four-in : Settles check_words.four_in.Reads.Post (λ κ z e. leaves z []) (λ κ a. leaves (numberIn (0x00 ∷ 0x00 ∷ 0x01 ∷ 0x1A ∷ now (a .0))) [])
   four-right : Settles check_words.four_right.Reads.Post (λ κ z e. leaves z []) (λ κ a. leaves (sealedRight 2 (now (a .0))) [])
   payload-right : Settles check_words.payload_right.Reads.Post (λ κ z e. leaves z []) (λ κ a. leaves (payloadRight (now (a .0))) [])
+  counter-in : Settles check_words.counter_in.Reads.Post (λ κ z e. leaves z []) (λ κ a. leaves (counterOf (now (a .0))) [])
   pec10-bitwise : Settles remainders.pec10_bitwise.Reads.Post (λ κ z e. leaves z []) (λ κ a. leaves (pec10 (now (a .0))) [])
   pec10-by-table : Settles remainders.pec10_by_table.Reads.Post (λ κ z e. leaves z []) (λ κ a. leaves (pec10 (now (a .0))) [])
   pec15-bitwise : Settles remainders.pec15_bitwise.Reads.Post (λ κ z e. leaves z []) (λ κ a. leaves (pec15 (now (a .0))) [])
@@ -249,9 +250,9 @@ pub record OneOutcome : Type 0 where
   handle-clocked : Settles clocked.handle.Reads.Post (λ κ z e. leaves z (now (e .0) ∷ now (e .1 .1 .0) ∷ []))
       (λ κ a. leaves (answer (now (a .0)) (now (a .1 .0)) (length (now (a .1 .1 .0)))) (tableAfter (now (a .0)) (now (a .1 .0)) (length (now (a .1 .1 .0))) ∷ replyAfter (now (a .0)) (now (a .1 .0)) (now (a .1 .1 .0)) ∷ []))
   -- the host
-  check : Settles ports.check.Reads.Post (λ κ z e. leaves z []) (λ κ a. leaves (checked (now (a .0))) [])
-  port-of : Settles ports.port_of.Reads.Post (λ κ z e. leaves z []) (λ κ a. leaves (portOf (now (a .0)) (now (a .1 .0)) (a .1 .1 .0) (a .1 .1 .1 .0)) [])
-  part-of : Settles ports.part_of.Reads.Post (λ κ z e. leaves (lying z) []) (λ κ a. leaves (partOf (a .0) (a .1 .0) (a .1 .1 .0) (a .1 .1 .1 .0)) [])
+  check : Settles ports.check.Reads.Post (λ κ z e. leaves z []) (λ κ a. leaves (checked (now (a .0)) (a .1 .0)) [])
+  port-of : Settles ports.port_of.Reads.Post (λ κ z e. leaves z []) (λ κ a. leaves (portOf (now (a .0)) (now (a .1 .0)) (a .1 .1 .0) (a .1 .1 .1 .0) (a .1 .1 .1 .1 .0)) [])
+  part-of : Settles ports.part_of.Reads.Post (λ κ z e. leaves (lying z) []) (λ κ a. leaves (partOf (a .0) (a .1 .0) (a .1 .1 .0) (a .1 .1 .1 .0) (a .1 .1 .1 .1 .0)) [])
   build : Settles host.build.Reads.Post (λ κ z e. leaves z (now (e .1 .1 .1 .0) ∷ []))
       (λ κ a. leaves (built (a .0) (a .1 .0) (now (a .1 .1 .0)) (length (now (a .1 .1 .1 .0)))) (bufferAfter (a .0) (a .1 .0) (now (a .1 .1 .0)) (now (a .1 .1 .1 .0)) ∷ []))
   -- heartbeats
@@ -283,6 +284,7 @@ one-outcomes =
       four-in = settles (λ κ a z e p i. leaves (p .0 i) []);
       four-right = settles (λ κ a z e p i. leaves (p i) []);
       payload-right = settles (λ κ a z e p i. leaves (p i) []);
+      counter-in = settles (λ κ a z e p i. leaves (p i) []);
       pec10-bitwise = settles (λ κ a z e p i. leaves (p i) []);
       pec10-by-table = settles (λ κ a z e p i. leaves (p i) []);
       pec15-bitwise = settles (λ κ a z e p i. leaves (p i) []);

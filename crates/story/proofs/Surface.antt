@@ -28,7 +28,6 @@ use Rattle.releasing.specs.Release.{releaseRefusals, released, tableReleased}
 use Rattle.releasing.specs.Look.{lookRefusals, looked, outAfter}
 use Rattle.clock_state.specs.State.{stateSize, idle}
 use Rattle.clocking.specs.Bytes.{clockOf, stateAfter}
-use Rattle.ports.specs.declared.checks.Checked.{Checked}
 use Rattle.host.specs.Frames.{buildRefusals, built, bufferAfter}
 use Rattle.ports.specs.Check.{checkRefusals, checked}
 use Rattle.messages.specs.Verdicts.{verdictRefusals, verdict}
@@ -100,10 +99,10 @@ pub record Outcomes : Type 0 where
       (λ κ a. leaves (packed (timedParts (timedOut (now (a .0)) (a .1 .0)))) (tableAfterTimeOut (now (a .0)) (a .1 .0) ∷ []))
   host-frame : Settles door.osk_host_frame.Reads.Post (λ κ z e. leaves z (now (e .1 .1 .1 .0) ∷ []))
       (λ κ a. leaves (packed (builtParts (built (a .0) (a .1 .0) (now (a .1 .1 .0)) (length (now (a .1 .1 .1 .0)))))) (bufferAfter (a .0) (a .1 .0) (now (a .1 .1 .0)) (now (a .1 .1 .1 .0)) ∷ []))
-  check : Settles door.osk_check.Reads.Post (λ κ z e. leaves z []) (λ κ a. leaves (packed (checkedParts (checked (now (a .0))))) [])
+  check : Settles door.osk_check.Reads.Post (λ κ z e. leaves z []) (λ κ a. leaves (packed (checkedParts (checked (now (a .0)) (a .1 .0)))) [])
   verdict-on : Settles door.osk_verdict.Reads.Post (λ κ z e. leaves z []) (λ κ a. leaves (packed (verdictParts (verdict (now (a .0)) (not (eqb (a .1 .0) 0))))) [])
   two-ports : Settles door.osk_two_ports.Reads.Post (λ κ z e. leaves z [])
-      (λ κ a. leaves (packed (portParts (a .1 .1 .0) (a .1 .1 .1 .0) (portOf (now (a .0)) (now (a .1 .0)) (a .1 .1 .0) (a .1 .1 .1 .0)))) [])
+      (λ κ a. leaves (packed (portParts (a .1 .1 .0) (a .1 .1 .1 .0) (portOf (now (a .0)) (now (a .1 .0)) (a .1 .1 .0) (a .1 .1 .1 .0) (a .1 .1 .1 .1 .0)))) [])
   clock-start : Settles oskorbine.osk_clock_start.Reads.Post (λ κ z e. leaves z (now (e .0) ∷ [])) (λ κ a. leaves tt (idle ∷ []))
   clock-byte : Settles oskorbine.osk_clock_byte.Reads.Post (λ κ z e. leaves z (now (e .0) ∷ []))
       (λ κ a. leaves (packed (accepted (answered (clockOf (now (a .0)))) 0)) (stateAfter (now (a .1 .0)) (a .1 .1 .0) (now (a .0)) ∷ []))
@@ -121,7 +120,7 @@ pub record Outcomes : Type 0 where
 pub record Surface : Type 2 where
   promises : Promises
   outcomes : Outcomes
-  -- an answer is taken apart again: nothing is lost in the packing. A byte clocked is one of a state of bytes
+  -- an answer is taken apart again: nothing is lost in the packing. A byte clocked is one of a state of bytes, and a payload and a heartbeat are bytes
   frame-apart : (table frame : List ℕ) (room : ℕ) → apart (packed (frameParts (answer table frame room))) ≡ frameParts (answer table frame room)
   load-apart : (l : Loaded) → apart (packed (loadParts l)) ≡ loadParts l
   discharge-apart : (table : List ℕ) (position : ℕ) (events : Events) (phase room : ℕ)
@@ -130,9 +129,10 @@ pub record Surface : Type 2 where
   relayed-apart : (m : Relayed) → apart (packed (relayedParts m)) ≡ relayedParts m
   timed-apart : (t : TimedOut) → apart (packed (timedParts t)) ≡ timedParts t
   host-frame-apart : (code n : ℕ) (values : List ℕ) (room : ℕ) → apart (packed (builtParts (built code n values room))) ≡ builtParts (built code n values room)
-  check-apart : (c : Checked) → apart (packed (checkedParts c)) ≡ checkedParts c
+  check-apart : (payload : List ℕ) (expected : ℕ) → ((k : ℕ) → getD payload k 0 < 256)
+      → apart (packed (checkedParts (checked payload expected))) ≡ checkedParts (checked payload expected)
   verdict-apart : (bytes : List ℕ) (late : Bool) → ((k : ℕ) → getD bytes k 0 < 256) → apart (packed (verdictParts (verdict bytes late))) ≡ verdictParts (verdict bytes late)
-  two-ports-apart : (a b : List ℕ) (n k : ℕ) → apart (packed (portParts n k (portOf a b n k))) ≡ portParts n k (portOf a b n k)
+  two-ports-apart : (a b : List ℕ) (n k expected : ℕ) → apart (packed (portParts n k (portOf a b n k expected))) ≡ portParts n k (portOf a b n k expected)
   byte-apart : (s : List ℕ) → ((k : ℕ) → getD s k 0 < 256) → apart (packed (accepted (answered (clockOf s)) 0)) ≡ accepted (answered (clockOf s)) 0
   window-apart : (s : List ℕ) (position room : ℕ) → apart (packed (lookedParts (looked (clockOf s) position room))) ≡ lookedParts (looked (clockOf s) position room)
   release-apart : (s table : List ℕ) → apart (packed (frameParts (released (clockOf s) table))) ≡ frameParts (released (clockOf s) table)
@@ -150,16 +150,16 @@ pub record Surface : Type 2 where
   heartbeat-number : (table : List ℕ) (position room : ℕ) → sentParts (beaten table position room) .number ≡ firstNumber (wakeRefusals table position room)
   time-out-number : (table : List ℕ) (position : ℕ) → timedParts (timedOut table position) .number ≡ firstNumber (timeOutRefusals table position)
   host-frame-number : (code n : ℕ) (values : List ℕ) (room : ℕ) → builtParts (built code n values room) .number ≡ firstNumber (buildRefusals code n values room)
-  check-number : (payload : List ℕ) → checkedParts (checked payload) .number ≡ firstNumber (checkRefusals payload)
+  check-number : (payload : List ℕ) (expected : ℕ) → checkedParts (checked payload expected) .number ≡ firstNumber (checkRefusals payload expected)
   verdict-number : (bytes : List ℕ) (late : Bool) → verdictParts (verdict bytes late) .number ≡ firstNumber (verdictRefusals bytes late)
-  two-ports-number : (a b : List ℕ) (n k : ℕ) → portParts n k (portOf a b n k) .number ≡ firstNumber (portRefusals a b n k)
+  two-ports-number : (a b : List ℕ) (n k expected : ℕ) → portParts n k (portOf a b n k expected) .number ≡ firstNumber (portRefusals a b n k expected)
   window-number : (c : Clock) (position room : ℕ) → lookedParts (looked c position room) .number ≡ firstNumber (lookRefusals c position room)
   release-number : (c : Clock) (table : List ℕ) → frameParts (released c table) .number ≡ firstNumber (releaseRefusals c table)
   summary-number : (codes : List ℤ) (room : ℕ) → summaryParts (summaryOf codes) room .number ≡ firstNumber (summaryRefusals codes ++ roomRow room ∷ [])
   -- the state's size is the header's OSK_CLOCK_STATE
   clock-state : stateSize ≡ 264
   -- the eight bytes that an answer of two ports points at are those that the host hands back
-  pointed-bytes : (a b : List ℕ) (n k : ℕ) → pointed (portParts n k (portOf a b n k)) a b ≡ bytesOf a b n k
+  pointed-bytes : (a b : List ℕ) (n k expected : ℕ) → pointed (portParts n k (portOf a b n k expected)) a b ≡ bytesOf a b n k expected
   -- a summary's buffer stays where it is refused, and where all cells are cleared. The other buffers are those of demand 1
   summary-stays : (codes : List ℤ) (out : List Float) (r : Refusal) → summaryParts (summaryOf codes) (length out) ≡ refused r → summaryOut (summaryOf codes) out ≡ out
   nothing-stays : (codes : List ℤ) (out : List Float) → summaryOf codes ≡ Nothing → summaryOut (summaryOf codes) out ≡ out
@@ -228,9 +228,9 @@ surface =
       relayed-apart = λ m. apart-packed _ (relayed-fits m);
       timed-apart = λ t. apart-packed _ (timed-fits t);
       host-frame-apart = λ code n values room. apart-packed _ (built-fits code n values room);
-      check-apart = λ c. apart-packed _ (checked-fits c);
+      check-apart = λ payload expected small. apart-packed _ (checked-fits payload expected small);
       verdict-apart = λ bytes late small. apart-packed _ (verdict-fits bytes late small);
-      two-ports-apart = λ a b n k. apart-packed _ (port-fits a b n k);
+      two-ports-apart = λ a b n k expected. apart-packed _ (port-fits a b n k expected);
       byte-apart = λ s bytes. apart-packed _ (byte-fits s bytes);
       window-apart = λ s position room. apart-packed _ (look-fits s position room);
       release-apart = λ s table. apart-packed _ (release-fits s table);

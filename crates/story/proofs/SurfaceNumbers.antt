@@ -15,7 +15,6 @@ use Rattle.refusals.specs.declared.Refusal.the-variants.{NoRoom}
 use Rattle.refusals.specs.Numbers.{numberOf}
 use Rattle.refusals.specs.Order.{decide}
 use Rattle.refusals.proofs.Deciding.{decide-map, decide-append}
-use Rattle.pec.specs.Words.{payloadRight}
 use Rattle.chain.specs.declared.frames.Answer.the-variants.{Refused}
 use Rattle.chain.specs.Frame.{frameRefusals, answer}
 use Rattle.priorities.specs.declared.outputs.Events.{Events}
@@ -26,14 +25,16 @@ use Rattle.clocking.specs.Clock.{Clock}
 use Rattle.releasing.specs.Release.{releaseRefusals, released}
 use Rattle.releasing.specs.Look.{lookRefusals, looked}
 use Rattle.host.specs.declared.frames.Built.the-variants.{Unbuilt}
-use Rattle.ports.specs.declared.checks.Checked.the-variants.{Unchecked, Right, Wrong}
+use Rattle.ports.specs.declared.checks.Checked.{Checked}
+use Rattle.ports.specs.declared.checks.Checked.the-variants.{Unchecked, Right, CounterDiffers, Damaged}
+use Rattle.ports.specs.declared.ports.Port.{Port}
 use Rattle.ports.specs.declared.ports.Port.the-variants.{Refused as Unported, A, B}
 use Rattle.host.specs.Frames.{buildRefusals, built}
 use Rattle.ports.specs.Check.{checkRefusals, checked}
-use Rattle.messages.specs.declared.verdicts.Verdict.the-variants.{Refused as Unjudged, Passed as Good, Failed, Damaged, TimedOut}
+use Rattle.messages.specs.declared.verdicts.Verdict.the-variants.{Refused as Unjudged, Passed as Good, Failed, Damaged as MessageDamaged, TimedOut}
 use Rattle.messages.specs.Messages.{countIn, flagsIn, messageRight, isPass}
 use Rattle.messages.specs.Verdicts.{verdictRefusals, verdictOf, verdict}
-use Rattle.ports.specs.Ports.{partA, portRefusals, portOf}
+use Rattle.ports.specs.Ports.{portRefusals, portOf}
 use Rattle.passing.specs.declared.operations.Sent.{Sent}
 use Rattle.passing.specs.declared.operations.Sent.the-variants.{Unsent, Nothing as None, TowardsA, TowardsB}
 use Rattle.passing.specs.declared.operations.Relayed.{Relayed}
@@ -44,8 +45,8 @@ use Rattle.passing.specs.Operations.{wakeRefusals, wokenAt, relayRefusals, rela
 use Rattle.readings.specs.declared.pack_summary.Pack.{Pack}
 use Rattle.readings.specs.declared.pack_summary.Pack.the-variants.{Refused as Unsummed, Nothing, Whole}
 use Rattle.readings.specs.Readings.{measured, wholeOf, summaryOf}
-use Rattle.story.specs.Numbers.{sentNumbers, relayedNumbers, timedNumbers, firstNumber, summaryRefusals}
-use Rattle.story.proofs.Numbers.{wake-number as told-wake, beat-number as told-beat, relay-number as told-relay, time-number as told-time}
+use Rattle.story.specs.Numbers.{checkedNumbers, portNumbers, sentNumbers, relayedNumbers, timedNumbers, firstNumber, summaryRefusals}
+use Rattle.story.proofs.Numbers.{checked-number as told-checked, port-number as told-port, wake-number as told-wake, beat-number as told-beat, relay-number as told-relay, time-number as told-time}
 use Rattle.packing.specs.Packed.{Parts, refused, accepted}
 use Rattle.door.specs.Answers.{builtParts, checkedParts, portParts, verdictParts}
 use Rattle.door.specs.Volts.{summarySize, roomRow, summaryParts, summaryOut}
@@ -72,16 +73,20 @@ pub built-number : (code n : ℕ) (values : List ℕ) (room : ℕ) → builtPart
 unfolding built
 built-number code n values room = decide-map (λ x. builtParts x .number) (buildRefusals code n values room) Unbuilt _
 
-pub checked-number : (payload : List ℕ) → checkedParts (checked payload) .number ≡ firstNumber (checkRefusals payload)
-unfolding checked
-checked-number payload =
-    decide-map (λ x. checkedParts x .number) (checkRefusals payload) Unchecked _ ∙ ap (decide (checkRefusals payload) numberOf) (none (payloadRight payload))
-  where
-    none : (right : Bool) → checkedParts (cond right Right Wrong) .number ≡ 0
-    none true = refl
-    none false = refl
+-- the parts of an answer of a check, of two ports and of a heartbeat have the number that demand 1 has
+same-checked : (c : Checked) → checkedParts c .number ≡ checkedNumbers c .number
+same-checked (Unchecked r) = refl
+same-checked Right = refl
+same-checked (CounterDiffers c) = refl
+same-checked Damaged = refl
 
--- the parts of an answer of a heartbeat have the number that demand 1 has
+same-port : (n k : ℕ) (p : Port) → portParts n k p .number ≡ portNumbers p .number
+same-port n k (Unported r) = refl
+same-port n k (A true) = refl
+same-port n k (A false) = refl
+same-port n k (B true) = refl
+same-port n k (B false) = refl
+
 same-sent : (s : Sent) → sentParts s .number ≡ sentNumbers s .number
 same-sent (Unsent r) = refl
 same-sent None = refl
@@ -97,6 +102,12 @@ same-timed : (t : Timed) → timedParts t .number ≡ timedNumbers t .number
 same-timed (Untimed r) = refl
 same-timed NoTimeoutMonitor = refl
 same-timed RanOut = refl
+
+pub checked-number : (payload : List ℕ) (expected : ℕ) → checkedParts (checked payload expected) .number ≡ firstNumber (checkRefusals payload expected)
+checked-number payload expected = same-checked (checked payload expected) ∙ told-checked payload expected
+
+pub port-number : (a b : List ℕ) (n k expected : ℕ) → portParts n k (portOf a b n k expected) .number ≡ firstNumber (portRefusals a b n k expected)
+port-number a b n k expected = same-port n k (portOf a b n k expected) ∙ told-port a b n k expected
 
 module _ (table : List ℕ) (position : ℕ) where
   pub wake-number : (room : ℕ) → sentParts (wokenAt table position room) .number ≡ firstNumber (wakeRefusals table position room)
@@ -117,21 +128,11 @@ verdict-number bytes late =
     decide-map (λ x. verdictParts x .number) (verdictRefusals bytes late) Unjudged _
     ∙ ap (decide (verdictRefusals bytes late) numberOf) (none late (messageRight bytes) (isPass (countIn bytes) (flagsIn bytes)))
   where
-    none : (l r p : Bool) → verdictParts (cond l TimedOut (cond (not r) Damaged (cond p Good (Failed (countIn bytes) (flagsIn bytes))))) .number ≡ 0
+    none : (l r p : Bool) → verdictParts (cond l TimedOut (cond (not r) MessageDamaged (cond p Good (Failed (countIn bytes) (flagsIn bytes))))) .number ≡ 0
     none true r p = refl
     none false false p = refl
     none false true true = refl
     none false true false = refl
-
-pub port-number : (a b : List ℕ) (n k : ℕ) → portParts n k (portOf a b n k) .number ≡ firstNumber (portRefusals a b n k)
-unfolding portOf
-port-number a b n k =
-    decide-map (λ x. portParts n k x .number) (portRefusals a b n k) Unported _
-    ∙ ap (decide (portRefusals a b n k) numberOf) (none (payloadRight (partA a n k)))
-  where
-    none : (right : Bool) → portParts n k (cond right A B) .number ≡ 0
-    none true = refl
-    none false = refl
 
 -- ---- a summary
 

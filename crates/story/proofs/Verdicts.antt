@@ -5,23 +5,20 @@ use mathlib.Core.Path.{_≡_, refl, sym, ap, _∙_}
 use mathlib.Core.Bool.{Bool, true, false, cond, not, _&&_}
 use mathlib.Core.List.{List, [], _∷_}
 use mathlib.Core.Logic.{_↔_}
-use Prim.Native.Nat.{ℕ, _*_, _≤_}
+use Prim.Native.Nat.{ℕ}
 use native.Mathlib.Omega.{arith}
 use lib.Dec.{eqb}
-use lib.ListN.{length}
-use borrow.Author.Tests.{eq-eqb, le-leb, le-ltb}
 use Rattle.laws.specs.Counts.{count}
 use Rattle.pec.specs.Words.{counterOf, payloadRight}
 use Rattle.refusals.specs.Order.{Passed}
 use Rattle.refusals.proofs.Deciding.{passes}
-use Rattle.records.specs.Record.{mostCount}
-use Rattle.records.specs.Commands.{mostMonitors, payloadSize}
 use Rattle.ports.specs.declared.checks.Checked.{Checked}
 use Rattle.ports.specs.declared.checks.Checked.the-variants.{Unchecked, Right, CounterDiffers, Damaged}
 use Rattle.ports.specs.declared.ports.Port.the-variants.{Refused, A, B}
-use Rattle.ports.specs.Verdicts.{isDamaged, isRight, counterDiffers, counterRow}
+use Rattle.ports.specs.Verdicts.{isDamaged, isRight, counterDiffers}
 use Rattle.ports.specs.Check.{checkRefusals, checked}
 use Rattle.ports.specs.Ports.{partA, partB, portRefusals, chosen, portOf}
+use Rattle.ports.proofs.Choosing.{either, either-a, either-b, either-a-but, either-b-but}
 
 -- ---- the three
 
@@ -83,49 +80,32 @@ module _ (payload : List ℕ) (expected : ℕ) (none : Passed (checkRefusals pay
   unfolding counterDiffers
   checked-differs c = by-told (told-differs (counterOf payload) right same c)
 
--- ---- which of two parts is chosen
+-- ---- which of two parts answers
 
 module _ (inA inB : List ℕ) (expected : ℕ) where
   -- A's, where its check is right, and B's is not right or A's is
-  pub chosen-a : payloadRight inA ≡ true → (isRight inB expected ≡ true → isRight inA expected ≡ true) → chosen inA inB expected ≡ A (not (isRight inA expected))
-  unfolding chosen isRight counterDiffers
-  chosen-a whole no-better = by (payloadRight inA) (eqb (counterOf inA) expected) (isRight inB expected) whole no-better
+  pub either-from-a : payloadRight inA ≡ true → (isRight inB expected ≡ true → isRight inA expected ≡ true) → either inA inB expected ≡ A (not (isRight inA expected))
+  either-from-a whole no-better = by (isRight inA expected) (isRight inB expected) refl refl
     where
-      by : (r s t : Bool) → r ≡ true → (t ≡ true → r && s ≡ true) → cond (r && s) (A false) (cond t (B false) (cond (r && not s) (A true) (B true))) ≡ A (not (r && s))
-      by true true t d h = refl
-      by true false true d h = let e = h refl in let z : _≡_ {A = ℕ} 0 1 = cc in absurd (omega arith)
-      by true false false d h = refl
-      by false s t d h = let z : _≡_ {A = ℕ} 0 1 = cc in absurd (omega arith)
+      by : (r s : Bool) → isRight inA expected ≡ r → isRight inB expected ≡ s → either inA inB expected ≡ A (not r)
+      by true s e f = either-a inA inB expected e
+      by false true e f = let g = no-better f in let z : _≡_ {A = ℕ} 0 1 = cc in absurd (omega arith)
+      by false false e f = either-a-but inA inB expected e f whole
 
-  -- B's where A's is damaged
-  pub chosen-b : isDamaged inA ≡ true → chosen inA inB expected ≡ B (not (isRight inB expected))
-  unfolding chosen isDamaged isRight counterDiffers
-  chosen-b damaged = by (payloadRight inA) (eqb (counterOf inA) expected) (isRight inB expected) damaged
+  -- B's, where its check is right and A's is wrong
+  pub either-from-b : payloadRight inA ≡ false → payloadRight inB ≡ true → either inA inB expected ≡ B (not (isRight inB expected))
+  either-from-b damaged whole = by (isRight inB expected) refl
     where
-      by : (r s t : Bool) → not r ≡ true → cond (r && s) (A false) (cond t (B false) (cond (r && not s) (A true) (B true))) ≡ B (not t)
-      by true s t d = let z : _≡_ {A = ℕ} 0 1 = cc in absurd (omega arith)
-      by false s true d = refl
-      by false s false d = refl
+      not-right : isRight inA expected ≡ false
+      not-right = unfold isRight in ap (λ (b : Bool). b && eqb (counterOf inA) expected) damaged
 
-  -- and where it is right and A's is not
-  pub chosen-right : isRight inA expected ≡ false → isRight inB expected ≡ true → chosen inA inB expected ≡ B false
-  unfolding chosen
-  chosen-right wrong right = simp (wrong, right)
+      by : (s : Bool) → isRight inB expected ≡ s → either inA inB expected ≡ B (not s)
+      by true f = either-b inA inB expected not-right f
+      by false f = either-b-but inA inB expected damaged f whole
 
 -- ---- the two ports
 
 module _ (a b : List ℕ) (n k expected : ℕ) where
-  pub port-passes : expected ≤ mostCount → n ≤ mostMonitors → 1 ≤ k → k ≤ n → length a ≡ payloadSize * n → length b ≡ payloadSize * n
-      → isDamaged (partA a n k) && isDamaged (partB b n k) ≡ false → Passed (portRefusals a b n k expected)
-  unfolding portRefusals counterRow
-  port-passes small few first last size-a size-b whole = (
-    le-ltb mostCount expected small,
-    (
-      simp (le-leb 1 n (omega arith), le-leb n mostMonitors few, le-leb 1 k first, le-leb k n last),
-      (simp (eq-eqb (length a) (payloadSize * n) size-a, eq-eqb (length b) (payloadSize * n) size-b), (whole, tt)),
-    ),
-  )
-
   pub port-chosen : Passed (portRefusals a b n k expected) → portOf a b n k expected ≡ chosen (partA a n k) (partB b n k) expected
   unfolding portOf
   port-chosen none = passes (portRefusals a b n k expected) Refused (chosen (partA a n k) (partB b n k) expected) none

@@ -21,11 +21,11 @@ use Rattle.releasing.specs.declared.looks.Looked.the-variants.{Refused as Unsee
 use Rattle.host.specs.declared.frames.Built.{Built}
 use Rattle.host.specs.declared.frames.Built.the-variants.{Unbuilt, Length}
 use Rattle.ports.specs.declared.checks.Checked.{Checked}
-use Rattle.ports.specs.declared.checks.Checked.the-variants.{Unchecked, Right, CounterDiffers, Damaged as Broken}
+use Rattle.ports.specs.declared.checks.Checked.the-variants.{Unchecked, Right, CounterDiffers, Damaged}
 use Rattle.ports.specs.declared.ports.Port.{Port}
 use Rattle.ports.specs.declared.ports.Port.the-variants.{Refused, A, B}
 use Rattle.messages.specs.declared.verdicts.Verdict.{Verdict}
-use Rattle.messages.specs.declared.verdicts.Verdict.the-variants.{Refused as Unjudged, Passed, Failed, Damaged, TimedOut}
+use Rattle.messages.specs.declared.verdicts.Verdict.the-variants.{Refused as Unjudged, Passed, Failed, Damaged as MessageDamaged, TimedOut}
 use Rattle.passing.specs.declared.operations.Sent.{Sent}
 use Rattle.passing.specs.declared.operations.Sent.the-variants.{Unsent, Nothing as None, TowardsA, TowardsB}
 use Rattle.passing.specs.declared.operations.Relayed.{Relayed}
@@ -75,7 +75,7 @@ builtNumbers (Length n) = record { number = 0; values = n ∷ [] }
 abbrev pub checkedNumbers : Checked → Numbered ℕ
 checkedNumbers (Unchecked r) = record { number = numberOf r; values = [] }
 checkedNumbers Right = record { number = 0; values = 1 ∷ [] }
-checkedNumbers Broken = record { number = 0; values = 2 ∷ [] }
+checkedNumbers Damaged = record { number = 0; values = 2 ∷ [] }
 checkedNumbers (CounterDiffers c) = record { number = 0; values = 3 ∷ c ∷ [] }
 
 -- the two ports: which of them, and whether its counter differs. The bytes come from the function beside it
@@ -91,7 +91,7 @@ abbrev pub verdictNumbers : Verdict → Numbered ℕ
 verdictNumbers (Unjudged r) = record { number = numberOf r; values = [] }
 verdictNumbers Passed = record { number = 0; values = 1 ∷ [] }
 verdictNumbers (Failed count flags) = record { number = 0; values = 2 ∷ count ∷ flags ∷ [] }
-verdictNumbers Damaged = record { number = 0; values = 3 ∷ [] }
+verdictNumbers MessageDamaged = record { number = 0; values = 3 ∷ [] }
 verdictNumbers TimedOut = record { number = 0; values = 4 ∷ [] }
 
 -- a look at a window: how many bytes it holds
