@@ -2,7 +2,7 @@
 -- what monitor k replies; so from both ends it is right against its own counter, and against any other its counter differs, and is named.
 -- Assumes nothing.
 use mathlib.Core.Path.{_≡_, refl, sym, ap, ap₂, _∙_}
-use mathlib.Core.Bool.{Bool, true, false, cond, not, _&&_}
+use mathlib.Core.Bool.{Bool, true, false, cond, not, _&&_, false≢true}
 use mathlib.Core.List.{List, [], _++_, map, reverse, append-nil}
 use Prim.Native.Nat.{ℕ, _-_, _*_, _≤_}
 use native.Mathlib.Nat.{mul-comm, mod-eq-of-lt}
@@ -154,7 +154,7 @@ module _ (part : Part) (n : ℕ) (table : List ℕ) (k : ℕ) (first : 1 ≤ k) 
         → (portOf (fromA part n table) b n k expected ≡ A (not (isRight (reply part its-record) expected)))
         × (bytesOf (fromA part n table) b n k expected ≡ reply part its-record)
     any-from-a b l not-right =
-        let e = from-a b l (λ right. let z : _≡_ {A = ℕ} 0 1 = cc in absurd (omega arith)) in (e, bytes-a b e)
+        let e = from-a b l (λ right. absurd (false≢true (sym not-right ∙ right))) in (e, bytes-a b e)
 
     -- and from port B, where its reply came whole and port A's part is damaged
     pub any-from-b : (a : List ℕ) → length a ≡ payloadSize * n → isDamaged (partA a n k) ≡ true
@@ -197,8 +197,8 @@ module _ (part : Part) (n : ℕ) (table : List ℕ) (k : ℕ) (first : 1 ≤ k) 
         not-both eight = unfold isDamaged isRight in by (payloadRight eight)
           where
             by : (b : Bool) → not b ≡ true → b && eqb (counterOf eight) expected ≡ true → ⊥
-            by true e f = let z : _≡_ {A = ℕ} 0 1 = cc in omega arith
-            by false e f = let z : _≡_ {A = ℕ} 0 1 = cc in omega arith
+            by true e f = false≢true e
+            by false e f = false≢true f
 
 -- what port A's reply is: what the chain leaves in a buffer of that length for a read that our host built
 pub the-replies : (table buffer : List ℕ) (code : ℕ) (part : Part) → commandOf code commands ≡ Reads part → sound table ≡ true

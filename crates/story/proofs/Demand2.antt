@@ -492,7 +492,8 @@ pub record Demand2 : Type 0 where
   -- `ports::check`: one payload against the counter that the host expects. The exact refusals, in their order
   check-refusals : (payload : List ℕ) (expected : ℕ) → checkRefusals payload expected
       ≡ (ltb 63 expected gives PositionWrong) ∷ (not (eqb (length payload) 8) gives LengthWrong) ∷ []
-  -- the three verdicts: eight bytes whose check is wrong are damaged, whatever their counter; else they are right, or their counter differs. One of the three holds, and no other
+  -- the three verdicts: eight bytes whose check is wrong are damaged, whatever their counter; else they are right, or their counter differs. One of the three
+  -- holds, and no other
   verdicts : (eight : List ℕ) (expected : ℕ)
       → (isDamaged eight ≡ not (payloadRight eight))
       × (counterDiffers eight expected ≡ payloadRight eight && not (eqb (counterOf eight) expected))
@@ -517,8 +518,9 @@ pub record Demand2 : Type 0 where
       → isRight (partA a n k) expected ≡ false → isRight (partB b n k) expected ≡ false → counterDiffers (partA a n k) expected ≡ false → counterDiffers (partB b n k) expected ≡ true
   -- what is handed over is that port's part, and nothing where it is refused
   port-hands : (a b : List ℕ) (n k expected : ℕ) → bytesOf a b n k expected ≡ byPort [] (partA a n k) (partB b n k) (portOf a b n k expected)
-  -- what the chain replies at port A, and from its other end at port B (`fromA`, `fromB`), hands over monitor k's own reply. Its own counter expected: from A whatever came to
-  -- B, and from B where A's part is not right. Any counter expected, and told whether that is right: from A where B's part is not right, and from B where A's is damaged
+  -- what the chain replies at port A, and from its other end at port B (`fromA`, `fromB`), hands over monitor k's own reply. Its own counter expected: from A
+  -- whatever came to B, and from B where A's part is not right. Any counter expected, and told whether it differs: from A where B's part is not right, and from B
+  -- where A's is damaged
   port-a : (table buffer : List ℕ) (code : ℕ) (part : Part) → commandOf code commands ≡ Reads part → sound table ≡ true
       → length buffer ≡ payloadSize * monitors table
       → replyAfter table (frameFor code (monitors table) []) buffer ≡ replyData (map (reply part) (rows recordSize (monitors table) table))
@@ -588,8 +590,8 @@ pub record Demand2 : Type 0 where
   sharp : Sharp
   -- ---- a missed command: what a read that our host builds shows of a command that came before it (`readAfter`)
 
-  -- a reply of a monitor with a counter of at most 63, as a sound record has, is right against that counter, and against any other its counter differs and is the one told; and so
-  -- is each monitor's part of the chain's reply
+  -- a reply of a monitor with a counter of at most 63, as a sound record has, is right against that counter, and against any other its counter differs and is the
+  -- one told; and so is each monitor's part of the chain's reply
   own-counter : (part : Part) (r : List ℕ) → byteOf counter r ≤ 63 → checked (reply part r) (byteOf counter r) ≡ Right
   other-counter : (part : Part) (r : List ℕ) (expected : ℕ) → expected ≤ 63 → byteOf counter r ≤ 63 → (expected ≡ byteOf counter r → ⊥)
       → checked (reply part r) expected ≡ CounterDiffers (byteOf counter r)
@@ -603,8 +605,8 @@ pub record Demand2 : Type 0 where
   -- a counter and the next after it, which is never the same
   next-count : (n : ℕ) → nextCount n ≡ cond (ltb n 63) (n + 1) 1
   next-apart : (n : ℕ) → nextCount n ≡ n → ⊥
-  -- a write that came with its length and its first four bytes, and at each monitor with its own bytes or with a wrong check (`Spoilt`): one that a spike struck at each of
-  -- some monitors (`StruckEach`) is such a write, and one that a single spike struck is one of those
+  -- a write that came with its length and its first four bytes, and at each monitor with its own bytes as they were sent or with a wrong check (`Spoilt`): one that
+  -- a spike struck at each of some monitors (`StruckEach`) is such a write, and one that a single spike struck is one of those
   struck-each : (c : Write) (n : ℕ) (sent came : List ℕ) → StruckData (Writes c) n sent came → StruckEach c n sent came
   each-spoilt : (c : Write) (n : ℕ) (sent came : List ℕ) → StruckEach c n sent came → Spoilt c n sent came
   -- after it the counter of a monitor that was not hit and is not in LPCM is the next one, and that of any other as it was; WRRR is excepted
@@ -613,8 +615,8 @@ pub record Demand2 : Type 0 where
       → let r = rowAt recordSize k table in
       byteOf counter (rowAt recordSize k (tableAfter table came room))
       ≡ cond (not (inLpcm r) && unhit (Writes c) (monitors table) sent came k) (nextCount (byteOf counter r)) (byteOf counter r)
-  -- so in any chain, each monitor read and judged against its next counter: those whose counter differs are exactly those that were hit and those in LPCM, each with its
-  -- old counter, and all others are right. In the chain's reply, and from both ports (`Seen`), k there from 1
+  -- so in any chain, each monitor read and judged against its next counter: those whose counter differs are exactly those that were hit and those in LPCM, each with
+  -- its old counter, and all others are right. In the chain's reply, and from both ports (`Seen`), k there from 1
   missed-read : (table sent came : List ℕ) (room : ℕ) → sound table ≡ true → (c : Write) → (c ≡ Wrrr → ⊥) → Spoilt c (monitors table) sent came
       → (code : ℕ) (part : Part) (buffer : List ℕ) → commandOf code commands ≡ Reads part → payloadSize * monitors table ≤ length buffer → (k : ℕ) → k < monitors table
       → let r = rowAt recordSize k table in
@@ -624,8 +626,8 @@ pub record Demand2 : Type 0 where
       → (part : Part) (k : ℕ) → 1 ≤ k → k ≤ monitors table
       → let r = rowAt recordSize (k - 1) table in
       Seen part (monitors table) (tableAfter table came room) k (nextCount (byteOf counter r)) (not (inLpcm r) && unhit (Writes c) (monitors table) sent came (k - 1)) (byteOf counter r)
-  -- a missed write is seen: all N monitors have one counter and none is in LPCM. Against the next counter exactly the monitors that were hit are seen with another, which is
-  -- the old one, and all others right, from port A and from port B; and some monitor is where a spike struck
+  -- a missed write is seen: all N monitors have one counter and none is in LPCM. Against the next counter exactly the monitors that were hit are seen with another,
+  -- which is the old one, and all others right, from port A and from port B; and some monitor is seen so where a spike struck
   missed-seen : (table sent came : List ℕ) (room : ℕ) → sound table ≡ true → (c : Write) → (c ≡ Wrrr → ⊥) → Spoilt c (monitors table) sent came
       → (old : ℕ) → OneCounter (monitors table) table old → Awake (monitors table) table → (part : Part) (k : ℕ) → 1 ≤ k → k ≤ monitors table
       → Seen part (monitors table) (tableAfter table came room) k (nextCount old) (unhit (Writes c) (monitors table) sent came (k - 1)) old
@@ -636,7 +638,8 @@ pub record Demand2 : Type 0 where
   read-from-a : (table frame buffer : List ℕ) (room code : ℕ) (part : Part) → commandOf code commands ≡ Reads part → sound table ≡ true
       → length buffer ≡ payloadSize * monitors table
       → readAfter table frame room code buffer ≡ fromA part (monitors table) (tableAfter table frame room)
-  -- a frame that the chain refuses is missed by all: against its next counter every monitor's reply differs, and tells the old one. So is any frame with a spike in its command
+  -- a frame that the chain refuses is missed by all: against its next counter every monitor's reply differs, and tells the old one. So is any frame with a spike in
+  -- its command
   refused-read : (table frame : List ℕ) (room : ℕ) → sound table ≡ true → (refusal : Refusal) → answer table frame room ≡ Refused refusal
       → (code : ℕ) (part : Part) (buffer : List ℕ) → commandOf code commands ≡ Reads part → payloadSize * monitors table ≤ length buffer → (k : ℕ) → k < monitors table
       → let r = rowAt recordSize k table in
@@ -654,8 +657,8 @@ pub record Demand2 : Type 0 where
       → inLpcm (rowAt recordSize k table) ≡ false
       → (code : ℕ) (part : Part) (buffer : List ℕ) → commandOf code commands ≡ Reads part → payloadSize * monitors table ≤ length buffer
       → checked (rowAt payloadSize k (readAfter table came room code buffer)) (nextCount (byteOf counter (rowAt recordSize k table))) ≡ Right
-  -- a monitor that receives a write takes either right: data with the check over them and any counter are accepted by every monitor that is not in LPCM, and it keeps the same of
-  -- all of them; and of a write of six bytes, own bytes that are right against a counter, and own bytes whose counter differs
+  -- a monitor that receives a write takes either right: data with the check over them and any counter are accepted by every monitor that is not in LPCM, and it keeps
+  -- the same of all of them; and so are, of a write of six bytes, own bytes that are right against a counter, and own bytes whose counter differs
   any-accepted : (c : Write) (own r : List ℕ) → length own ≡ dataSize c → (i : ℕ) → accepts c (own ++ seal own i) r ≡ not (inLpcm r)
   any-kept : (c : Write) (own r : List ℕ) → length own ≡ dataSize c → (i j : ℕ) → keeps (Writes c) (own ++ seal own i) r ≡ keeps (Writes c) (own ++ seal own j) r
   right-accepted : (c : Write) (own r : List ℕ) (expected : ℕ) → (c ≡ Clrcmflag → ⊥) → isRight own expected ≡ true → accepts c own r ≡ not (inLpcm r)

@@ -3,7 +3,7 @@
 -- in LPCM; of one of WRRR all that are not in LPCM; of a frame that the chain refuses none.
 -- Assumes nothing.
 use mathlib.Core.Path.{_≡_, refl, sym, ap, ap₂, _∙_, subst, subst⁻¹}
-use mathlib.Core.Bool.{Bool, true, false, cond, not, _&&_}
+use mathlib.Core.Bool.{Bool, true, false, cond, not, _&&_, false≢true}
 use mathlib.Core.List.{List, []}
 use mathlib.Core.Logic.{_⊎_, inl, inr}
 use Prim.Native.Nat.{ℕ, zero, suc, _-_, _*_, _≤_, _<_}
@@ -62,8 +62,7 @@ counter-fine table s k h = leb-true _ _ (both-first (leb (byteOf counter its) mo
     by false e =
         let there : k < length (rows recordSize (monitors table) table) = omega (arith, length-rows recordSize (monitors table) table) in
         let none = all-fails recordSound (rows recordSize (monitors table) table) k [] there (ap recordSound (row-at recordSize (monitors table) table k [] h) ∙ e) in
-        let all = is-sound table s .each in
-        let z : _≡_ {A = ℕ} 0 1 = cc in absurd (omega arith)
+        absurd (false≢true (sym none ∙ is-sound table s .each))
 
 -- ---- what is read of a monitor that took a command, or missed it
 

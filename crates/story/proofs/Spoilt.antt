@@ -3,7 +3,7 @@
 -- sent, and nowhere else; so those that were hit do not take it, and each other does as it does with what was sent.
 -- Assumes nothing.
 use mathlib.Core.Path.{_≡_, refl, sym, ap, ap₂, _∙_, subst⁻¹}
-use mathlib.Core.Bool.{Bool, true, false, cond, not, _&&_}
+use mathlib.Core.Bool.{Bool, true, false, cond, not, _&&_, false≢true}
 use mathlib.Core.List.{List, [], _∷_, _++_}
 use mathlib.Core.Logic.{_⊎_, inl, inr}
 use Prim.Native.Nat.{ℕ, suc, _+_, _-_, _*_, _≤_, _<_}
@@ -161,7 +161,7 @@ module _ (table : List ℕ) (sound-table : sound table ≡ true) (w : Write) {se
       by : (unhit (Writes w) n sent came k ≡ true) ⊎ (sealedRight (dataSize w) (ownIn (Writes w) n came k) ≡ false)
           → (b : Bool) → unhit (Writes w) n sent came k ≡ b → sealedRight (dataSize w) (ownIn (Writes w) n came k) ≡ b
       by told true e = ap (sealedRight (dataSize w)) (same-are (ownIn (Writes w) n came k) (ownIn (Writes w) n sent k) e) ∙ own-right ours k h
-      by (inl as-sent) false e = let z : _≡_ {A = ℕ} 0 1 = cc in absurd (omega arith)
+      by (inl as-sent) false e = absurd (false≢true (sym e ∙ as-sent))
       by (inr wrong) false e = wrong
 
   -- so as many take it as were not hit and are not in LPCM

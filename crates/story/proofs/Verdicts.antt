@@ -2,7 +2,7 @@
 -- and is the counter the one expected.
 -- Assumes nothing.
 use mathlib.Core.Path.{_≡_, refl, sym, ap, _∙_}
-use mathlib.Core.Bool.{Bool, true, false, cond, not, _&&_}
+use mathlib.Core.Bool.{Bool, true, false, cond, not, _&&_, false≢true}
 use mathlib.Core.List.{List, [], _∷_}
 use mathlib.Core.Logic.{_↔_}
 use Prim.Native.Nat.{ℕ}
@@ -39,18 +39,18 @@ module _ (c : ℕ) where
 
   told-right : (right same : Bool) → (told right same ≡ Right) ↔ (right && same ≡ true)
   told-right true true = (λ e. refl, λ e. refl)
-  told-right true false = (λ e. let z : _≡_ {A = ℕ} 0 1 = cc in absurd (omega arith), λ e. let z : _≡_ {A = ℕ} 0 1 = cc in absurd (omega arith))
-  told-right false same = (λ e. let z : _≡_ {A = ℕ} 0 1 = cc in absurd (omega arith), λ e. let z : _≡_ {A = ℕ} 0 1 = cc in absurd (omega arith))
+  told-right true false = (λ e. let z : _≡_ {A = ℕ} 0 1 = cc in absurd (omega arith), λ e. absurd (false≢true e))
+  told-right false same = (λ e. let z : _≡_ {A = ℕ} 0 1 = cc in absurd (omega arith), λ e. absurd (false≢true e))
 
   told-damaged : (right same : Bool) → (told right same ≡ Damaged) ↔ (not right ≡ true)
-  told-damaged true true = (λ e. let z : _≡_ {A = ℕ} 0 1 = cc in absurd (omega arith), λ e. let z : _≡_ {A = ℕ} 0 1 = cc in absurd (omega arith))
-  told-damaged true false = (λ e. let z : _≡_ {A = ℕ} 0 1 = cc in absurd (omega arith), λ e. let z : _≡_ {A = ℕ} 0 1 = cc in absurd (omega arith))
+  told-damaged true true = (λ e. let z : _≡_ {A = ℕ} 0 1 = cc in absurd (omega arith), λ e. absurd (false≢true e))
+  told-damaged true false = (λ e. let z : _≡_ {A = ℕ} 0 1 = cc in absurd (omega arith), λ e. absurd (false≢true e))
   told-damaged false same = (λ e. refl, λ e. refl)
 
   told-differs : (right same : Bool) (x : ℕ) → (told right same ≡ CounterDiffers x) ↔ ((right && not same ≡ true) × (x ≡ c))
-  told-differs true true x = (λ e. let z : _≡_ {A = ℕ} 0 1 = cc in absurd (omega arith), λ e. let z : _≡_ {A = ℕ} 0 1 = cc (e .0) in absurd (omega arith))
+  told-differs true true x = (λ e. let z : _≡_ {A = ℕ} 0 1 = cc in absurd (omega arith), λ e. absurd (false≢true (e .0)))
   told-differs true false x = (λ e. (refl, cc), λ e. ap CounterDiffers (sym (e .1)))
-  told-differs false same x = (λ e. let z : _≡_ {A = ℕ} 0 1 = cc in absurd (omega arith), λ e. let z : _≡_ {A = ℕ} 0 1 = cc (e .0) in absurd (omega arith))
+  told-differs false same x = (λ e. let z : _≡_ {A = ℕ} 0 1 = cc in absurd (omega arith), λ e. absurd (false≢true (e .0)))
 
 -- ---- the check of one payload
 
@@ -89,7 +89,7 @@ module _ (inA inB : List ℕ) (expected : ℕ) where
     where
       by : (r s : Bool) → isRight inA expected ≡ r → isRight inB expected ≡ s → either inA inB expected ≡ A (not r)
       by true s e f = either-a inA inB expected e
-      by false true e f = let g = no-better f in let z : _≡_ {A = ℕ} 0 1 = cc in absurd (omega arith)
+      by false true e f = absurd (false≢true (sym e ∙ no-better f))
       by false false e f = either-a-but inA inB expected e f whole
 
   -- B's, where its check is right and A's is wrong
@@ -118,8 +118,8 @@ module _ (a b : List ℕ) (n k expected : ℕ) where
       by (payloadRight (partA a n k)) (eqb (counterOf (partA a n k)) expected) (payloadRight (partB b n k)) (eqb (counterOf (partB b n k)) expected) (none .1 .1 .1 .0)
     where
       by : (r s t u : Bool) → not r && not t ≡ false → r && s ≡ false → t && u ≡ false → r && not s ≡ false → t && not u ≡ true
-      by true true t u d e f g = let z : _≡_ {A = ℕ} 0 1 = cc in absurd (omega arith)
-      by true false t u d e f g = let z : _≡_ {A = ℕ} 0 1 = cc in absurd (omega arith)
-      by false s true true d e f g = let z : _≡_ {A = ℕ} 0 1 = cc in absurd (omega arith)
+      by true true t u d e f g = absurd (false≢true (sym e))
+      by true false t u d e f g = absurd (false≢true (sym g))
+      by false s true true d e f g = absurd (false≢true (sym f))
       by false s true false d e f g = refl
-      by false s false u d e f g = let z : _≡_ {A = ℕ} 0 1 = cc in absurd (omega arith)
+      by false s false u d e f g = absurd (false≢true (sym d))
