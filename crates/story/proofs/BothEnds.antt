@@ -36,7 +36,7 @@ use Rattle.ports.specs.Parts.{bytesOf}
 use Rattle.ports.proofs.BothEnds.{part-at-a, part-at-b}
 use Rattle.ports.proofs.Choosing.{either, either-b}
 use Rattle.ports.proofs.TwoPorts.{Asked, answered}
-use Rattle.story.specs.Missed.{fromA, fromB, Seen}
+use Rattle.story.specs.Missed.{fromA, fromB, SeenAs}
 use Rattle.story.proofs.OurHost.{reply-after, length-register, reply-right}
 use Rattle.story.proofs.Runs.{length-replies}
 use Rattle.story.proofs.Verdicts.{told, checked-told, either-from-a, either-from-b}
@@ -181,7 +181,7 @@ module _ (part : Part) (n : ℕ) (table : List ℕ) (k : ℕ) (first : 1 ≤ k) 
 
     -- so both ports show it as it is
     pub seen : {right : Bool} {received : ℕ} → checked (reply part its-record) expected ≡ cond right Right (CounterDiffers received) → isRight (reply part its-record) expected ≡ right
-        → Seen part n table k expected right received
+        → SeenAs part n table k expected right received
     seen verdict e =
         record {
           at-a = ap (λ (eight : List ℕ). checked eight expected) own-from-a ∙ verdict;

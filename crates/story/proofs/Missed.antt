@@ -42,7 +42,7 @@ use Rattle.ports.specs.declared.checks.Checked.the-variants.{Right, CounterDiff
 use Rattle.ports.specs.Verdicts.{isRight}
 use Rattle.ports.specs.Check.{checked}
 use Rattle.story.specs.Spikes.{ownIn, unhit, Spoilt}
-use Rattle.story.specs.Missed.{OneCounter, readAfter, fromA, Seen, SomeDiffer}
+use Rattle.story.specs.Missed.{OneCounter, readAfter, fromA, SeenAs, SomeDiffer}
 use Rattle.story.proofs.Accepted.{own-long}
 use Rattle.story.proofs.OurHost.{each-reply-its-own}
 use Rattle.story.proofs.BothEnds.{reply-is-right, reply-verdict, reply-same, reply-differs, seen, the-replies}
@@ -115,7 +115,7 @@ module _ {table after : List ℕ} (kept : Keeps table after) (k : ℕ) (h : k < 
 pub ports-show : {table after : List ℕ} → Keeps table after → sound table ≡ true → (part : Part) (k : ℕ) → 1 ≤ k → k ≤ monitors table → {took : Bool}
     → byteOf counter (rowAt recordSize (k - 1) after)
     ≡ cond took (nextCount (byteOf counter (rowAt recordSize (k - 1) table))) (byteOf counter (rowAt recordSize (k - 1) table))
-    → Seen part (monitors table) after k (nextCount (byteOf counter (rowAt recordSize (k - 1) table))) took (byteOf counter (rowAt recordSize (k - 1) table))
+    → SeenAs part (monitors table) after k (nextCount (byteOf counter (rowAt recordSize (k - 1) table))) took (byteOf counter (rowAt recordSize (k - 1) table))
 ports-show {table} {after} kept s part k first last {took} counts =
     let there : k - 1 < monitors table = omega arith in
     seen part (monitors table) after k first last (is-sound table s .few) (nextCount (byteOf counter (rowAt recordSize (k - 1) table)))
@@ -183,16 +183,16 @@ module _ (table : List ℕ) (s : sound table ≡ true) (w : Write) {sent came : 
     missed-in-reply part code buffer its enough k h = read-shows kept-after k h (takes k) (counter-after k h) part code buffer its enough
 
     pub missed-at-ports : (part : Part) (k : ℕ) → 1 ≤ k → k ≤ n
-        → Seen part n after k (nextCount (byteOf counter (row (k - 1)))) (takes (k - 1)) (byteOf counter (row (k - 1)))
+        → SeenAs part n after k (nextCount (byteOf counter (row (k - 1)))) (takes (k - 1)) (byteOf counter (row (k - 1)))
     missed-at-ports part k first last = ports-show kept-after s part k first last (counter-after (k - 1) (omega arith))
 
     -- none in LPCM, and all with one counter
     module _ (common : ℕ) (one : OneCounter n table common) (awake : Awake n table) where
-      pub missed-seen : (part : Part) (k : ℕ) → 1 ≤ k → k ≤ n → Seen part n after k (nextCount common) (unhit (Writes w) n sent came (k - 1)) common
+      pub missed-seen : (part : Part) (k : ℕ) → 1 ≤ k → k ≤ n → SeenAs part n after k (nextCount common) (unhit (Writes w) n sent came (k - 1)) common
       missed-seen part k first last =
           let there : k - 1 < n = omega arith in
-          subst (λ (b : Bool). Seen part n after k (nextCount common) (not b && unhit (Writes w) n sent came (k - 1)) common) (awake (k - 1) there)
-          (subst (λ (c : ℕ). Seen part n after k (nextCount c) (takes (k - 1)) c) (one (k - 1) there) (missed-at-ports part k first last))
+          subst (λ (b : Bool). SeenAs part n after k (nextCount common) (not b && unhit (Writes w) n sent came (k - 1)) common) (awake (k - 1) there)
+          (subst (λ (c : ℕ). SeenAs part n after k (nextCount c) (takes (k - 1)) c) (one (k - 1) there) (missed-at-ports part k first last))
 
       -- someone is seen where something was turned over
       pub some-seen : (part : Part) → (came ≡ sent → ⊥) → SomeDiffer part n after (nextCount common) common
@@ -207,7 +207,7 @@ module _ (table : List ℕ) (s : sound table ≡ true) (w : Write) {sent came : 
                 k = suc (f .at);
                 first = omega arith;
                 last = omega arith;
-                seen = subst (λ (b : Bool). Seen part n after (suc (f .at)) (nextCount common) b common) (ap (unhit (Writes w) n sent came) same ∙ f .fails) (missed-seen part (suc (f .at)) (omega arith) (omega arith));
+                seen = subst (λ (b : Bool). SeenAs part n after (suc (f .at)) (nextCount common) b common) (ap (unhit (Writes w) n sent came) same ∙ f .fails) (missed-seen part (suc (f .at)) (omega arith) (omega arith));
               }
 
 -- WRRR is taken whatever its check: it shows at no monitor that is not in LPCM
@@ -238,7 +238,7 @@ module _ (table frame : List ℕ) (room : ℕ) (s : sound table ≡ true) (r : R
   refused-in-reply part code buffer its enough k h = read-shows (frame-keeps table frame room s) k h false (same-counter k) part code buffer its enough
 
   pub refused-seen : (part : Part) (k : ℕ) → 1 ≤ k → k ≤ monitors table
-      → Seen part (monitors table) (tableAfter table frame room) k (nextCount (byteOf counter (rowAt recordSize (k - 1) table))) false (byteOf counter (rowAt recordSize (k - 1) table))
+      → SeenAs part (monitors table) (tableAfter table frame room) k (nextCount (byteOf counter (rowAt recordSize (k - 1) table))) false (byteOf counter (rowAt recordSize (k - 1) table))
   refused-seen part k first last = ports-show (frame-keeps table frame room s) s part k first last (same-counter (k - 1))
 
 -- what comes to port A is what the chain leaves in a buffer of that length

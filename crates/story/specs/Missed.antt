@@ -38,7 +38,7 @@ fromB part n table = replyData (reverse (map (reply part) (rows recordSize n tab
 
 -- monitor k's reply, k counted from 1, as our host sees it from both ports: right against the counter that it expects, or with another, the one received. Asked
 -- by two ports the host answers from A, where A's bytes came damaged from B, and where B's did from A
-pub record Seen (part : Part) (n : ℕ) (table : List ℕ) (k expected : ℕ) (right : Bool) (received : ℕ) : Type 0 where
+pub record SeenAs (part : Part) (n : ℕ) (table : List ℕ) (k expected : ℕ) (right : Bool) (received : ℕ) : Type 0 where
   pub at-a : checked (partA (fromA part n table) n k) expected ≡ cond right Right (CounterDiffers received)
   pub at-b : checked (partB (fromB part n table) n k) expected ≡ cond right Right (CounterDiffers received)
   pub from-both : portOf (fromA part n table) (fromB part n table) n k expected ≡ A (not right)
@@ -50,4 +50,4 @@ pub record SomeDiffer (part : Part) (n : ℕ) (table : List ℕ) (expected recei
   pub k : ℕ
   pub first : 1 ≤ k
   pub last : k ≤ n
-  pub seen : Seen part n table k expected false received
+  pub seen : SeenAs part n table k expected false received
