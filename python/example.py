@@ -1,9 +1,10 @@
 #!/usr/bin/env python3
 """Works a chain of two monitors: thresholds written, the same write clocked, readings loaded, flags and cells read back, the cells of one
-moment read by a snapshot, and the highest cell balanced.
+moment read by a snapshot, the highest cell balanced, and a write found out that one monitor missed.
 
 Both monitors get the same readings but not the same thresholds, so what differs in their flags comes from configuration B alone.
-It ends non-zero where the library refuses, where a reply is damaged, and where the clocked write leaves another table.
+It ends non-zero where the library refuses, where a reply that is read is damaged or has another counter than the host expects, and where
+the clocked write leaves another table.
 """
 
 import array
@@ -17,6 +18,8 @@ WRPWMA = 0x0020
 MUTE = 0x0028
 SNAP = 0x002D
 UNSNAP = 0x002F
+RSTCC = 0x002E
+RDCFGB = 0x0026
 RDSTATD = 0x0033
 RDCV = {"RDCVA": 0x0004, "RDCVB": 0x0006, "RDCVC": 0x0008, "RDCVD": 0x000A, "RDCVE": 0x0009, "RDCVF": 0x000B}
 
@@ -35,6 +38,9 @@ LATER = [13000] * 16
 # How many of the fifteen phases of the PWM cell 7, the highest, is to be discharged for at each monitor.
 DUTIES = [6, 9]
 PHASES = 15
+
+# Thresholds for both monitors, of which the far one misses the first.
+NARROWER = [(650, 1100)] * 2
 
 
 def accepted(name, answer):
@@ -57,28 +63,55 @@ def host_frame(command, values=b""):
     return bytes(out[:answer.second])
 
 
-def read(name, command, table):
-    """The six register bytes of each monitor, nearest first, each reply checked."""
-    reply = bytearray(8 * MONITORS)
-    answer = accepted(name, osk.osk_frame(table, host_frame(command), reply))
-    registers = []
-    for start in range(0, answer.second, 8):
-        payload = reply[start:start + 8]
-        if accepted("a check", osk.osk_check(payload)).first != osk.OSK_RIGHT:
-            sys.exit(f"example: {name}: the reply of monitor {start // 8 + 1} is damaged")
-        registers.append(bytes(payload[:6]))
-    return registers
+class Host:
+    """It counts what it sends, as each monitor counts what it takes. So it knows which counter a reply carries where nothing was missed."""
 
+    def __init__(self, table):
+        self.table, self.expected = table, 0
 
-def read_cells(table):
-    """The sixteen codes of each monitor, nearest first, by six reads."""
-    cells = [array.array("h") for _ in range(MONITORS)]
-    for name, command in RDCV.items():
-        for codes, register in zip(cells, read(name, command, table)):
-            codes.extend(int.from_bytes(register[at:at + 2], "little", signed=True) for at in (0, 2, 4))
-    for codes in cells:
-        del codes[16:]  # RDCVF shows cell 16 and then four bytes FF, which are no cells
-    return cells
+    def send(self, name, frame):
+        """A write or a bare command. After 63 comes 1, and RSTCC makes it 0."""
+        answer = accepted(name, osk.osk_frame(self.table, frame, bytearray()))
+        self.expected = 0 if frame == host_frame(RSTCC) else self.expected % 63 + 1
+        return answer
+
+    def reply(self, name, command):
+        """The eight bytes of each monitor, nearest first."""
+        reply = bytearray(8 * MONITORS)
+        answer = accepted(name, osk.osk_frame(self.table, host_frame(command), reply))
+        return [bytes(reply[start:start + 8]) for start in range(0, answer.second, 8)]
+
+    def read(self, name, command):
+        """The six register bytes of each monitor, nearest first, each reply checked."""
+        payloads = self.reply(name, command)
+        for number, payload in enumerate(payloads, 1):
+            check = accepted("a check", osk.osk_check(payload, self.expected))
+            if check.first == osk.OSK_DAMAGED:
+                sys.exit(f"example: {name}: the reply of monitor {number} is damaged")
+            if check.first == osk.OSK_COUNTER_DIFFERS:
+                sys.exit(f"example: {name}: monitor {number} has counter {check.second}, and {self.expected} was expected")
+        return [payload[:6] for payload in payloads]
+
+    def read_cells(self):
+        """The sixteen codes of each monitor, nearest first, by six reads."""
+        cells = [array.array("h") for _ in range(MONITORS)]
+        for name, command in RDCV.items():
+            for codes, register in zip(cells, self.read(name, command)):
+                codes.extend(int.from_bytes(register[at:at + 2], "little", signed=True) for at in (0, 2, 4))
+        for codes in cells:
+            del codes[16:]  # RDCVF shows cell 16 and then four bytes FF, which are no cells
+        return cells
+
+    def two_ports_line(self, a, b, number):
+        """What the replies at both ends of the chain tell of a monitor."""
+        answer = accepted("the question to two ports", osk.osk_two_ports(a, b, MONITORS, number, self.expected))
+        port, reply = ("A", a) if answer.first in (osk.OSK_PORT_A, osk.OSK_PORT_A_DIFFERS) else ("B", b)
+        eight = reply[answer.second:answer.second + 8]
+        if answer.first in (osk.OSK_PORT_A_DIFFERS, osk.OSK_PORT_B_DIFFERS):
+            told = f"with counter {eight[6] >> 2} where {self.expected} is expected: it missed a command"
+        else:
+            told = f"with counter {self.expected}, as is expected"
+        return f"monitor {number} by port {port}: {hexadecimal(eight[:6])}, {told}"
 
 
 def flagged(status_d, above):
@@ -90,6 +123,11 @@ def flagged(status_d, above):
 def hexadecimal(some_bytes):
     """Bytes as the paper writes them."""
     return some_bytes.hex(" ").upper()
+
+
+def struck(some_bytes, at):
+    """The same with two bits of a byte turned over."""
+    return some_bytes[:at] + bytes([some_bytes[at] ^ 0x18]) + some_bytes[at + 1:]
 
 
 def summary_line(codes):
@@ -125,9 +163,10 @@ def main():
     table = bytearray(MONITORS * osk.OSK_RECORD_SIZE)
     clocked_table = bytearray(table)
 
+    host = Host(table)
     frame = host_frame(WRCFGB, b"".join(configuration_b(lower, upper) for lower, upper in THRESHOLDS))
     print(f"WRCFGB for {MONITORS} monitors, the far one first: {hexadecimal(frame)}")
-    answer = accepted("WRCFGB", osk.osk_frame(table, frame, bytearray()))
+    answer = host.send("WRCFGB", frame)
     print(f"WRCFGB was taken by {answer.first} monitors")
     for number, (lower, upper) in enumerate(THRESHOLDS, 1):
         print(f"monitor {number} flags a cell below {osk.osk_volts(16 * lower)} V or above {osk.osk_volts(16 * upper)} V")
@@ -139,30 +178,46 @@ def main():
 
     for number in range(1, MONITORS + 1):
         accepted(f"the load of monitor {number}", osk.osk_load(table, number, READINGS))
-    for number, status_d in enumerate(read("RDSTATD", RDSTATD, table), 1):
+    for number, status_d in enumerate(host.read("RDSTATD", RDSTATD), 1):
         print(f"monitor {number} has status D {hexadecimal(status_d)}; UV: {flagged(status_d, 0)}; OV: {flagged(status_d, 1)}")
 
-    near, far = read_cells(table)
+    near, far = host.read_cells()
     for number, codes in enumerate((near, far), 1):
         print(f"monitor {number} reads {summary_line(codes)}")
     print(f"the pack reads {summary_line(near + far)}")
 
     # Six reads take their time, and the monitors go on measuring. From SNAP to UNSNAP the reads show the cells of one moment.
-    accepted("SNAP", osk.osk_frame(table, host_frame(SNAP), bytearray()))
+    host.send("SNAP", host_frame(SNAP))
     for number in range(1, MONITORS + 1):
         accepted(f"the store of monitor {number}", osk.osk_store(table, number, LATER))
-    near, far = read_cells(table)
+    near, far = host.read_cells()
     print(f"after SNAP and other readings, the pack reads {summary_line(near + far)}")
-    accepted("UNSNAP", osk.osk_frame(table, host_frame(UNSNAP), bytearray()))
-    near, far = read_cells(table)
+    host.send("UNSNAP", host_frame(UNSNAP))
+    near, far = host.read_cells()
     print(f"after UNSNAP, the pack reads {summary_line(near + far)}")
 
     # Cells 7 and 8 share byte 3 of PWM group A, cell 7 in its low half.
     duties = host_frame(WRPWMA, b"".join(bytes([0, 0, 0, duty, 0, 0]) for duty in DUTIES))
     for name, frame in ("WRPWMA", duties), ("MUTE", host_frame(MUTE)):
-        accepted(name, osk.osk_frame(table, frame, bytearray()))
+        host.send(name, frame)
         for number in range(1, MONITORS + 1):
             print(f"after {name}, monitor {number}: {balancing_line(table, number, 7)}")
+
+    # The far monitor's bytes come first, and a spike strikes them: it does not take the write, nor count it. Another strikes what port A
+    # replies of the near one.
+    frame = host_frame(WRCFGB, b"".join(configuration_b(lower, upper) for lower, upper in NARROWER))
+    answer = host.send("a WRCFGB that was struck", struck(frame, 4))
+    print(f"WRCFGB, struck on its way to monitor 2, was taken by {answer.first} of {MONITORS} monitors")
+    payloads = host.reply("RDCFGB", RDCFGB)
+    a, b = struck(b"".join(payloads), 0), b"".join(reversed(payloads))
+    for number in range(1, MONITORS + 1):
+        print(host.two_ports_line(a, b, number))
+
+    # RSTCC brings all counters and the host's together again.
+    host.send("RSTCC", host_frame(RSTCC))
+    host.send("WRCFGB", frame)
+    near, far = host.read("RDCFGB", RDCFGB)
+    print(f"after RSTCC and WRCFGB again, both have counter {host.expected} and read {hexadecimal(near)} and {hexadecimal(far)}")
 
 
 if __name__ == "__main__":

@@ -26,9 +26,10 @@ __all__ = [
     "osk_wake", "osk_relay", "osk_heartbeat", "osk_time_out", "osk_host_frame", "osk_check", "osk_two_ports", "osk_verdict",
     "osk_clock_start", "osk_clock_byte", "osk_clock_window", "osk_clock_release", "osk_microvolts", "osk_volts", "osk_summary",
     "OSK_ACCEPTED", "OSK_TABLE_NOT_SOUND", "OSK_FRAME_SHORT", "OSK_COMMAND_WRONG", "OSK_CODE_NOT_LISTED", "OSK_LENGTH_WRONG",
-    "OSK_NO_ROOM", "OSK_POSITION_WRONG", "OSK_COUNT_WRONG", "OSK_CODE_CLEARED", "OSK_NEITHER_RIGHT", "OSK_RECORD_SIZE",
+    "OSK_NO_ROOM", "OSK_POSITION_WRONG", "OSK_COUNT_WRONG", "OSK_CODE_CLEARED", "OSK_BOTH_DAMAGED", "OSK_RECORD_SIZE",
     "OSK_EVENT_SHUTDOWN", "OSK_EVENT_MEASUREMENT", "OSK_EVENT_WRCFGB", "OSK_EVENT_WRPWM", "OSK_OUTPUT_ON", "OSK_PORT_A", "OSK_PORT_B",
-    "OSK_RIGHT", "OSK_DAMAGED", "OSK_PASSED", "OSK_FAILED", "OSK_MESSAGE_DAMAGED", "OSK_TIMED_OUT", "OSK_CLOCK_STATE",
+    "OSK_PORT_A_DIFFERS", "OSK_PORT_B_DIFFERS", "OSK_RIGHT", "OSK_DAMAGED", "OSK_COUNTER_DIFFERS", "OSK_PASSED", "OSK_FAILED",
+    "OSK_MESSAGE_DAMAGED", "OSK_TIMED_OUT", "OSK_CLOCK_STATE",
 ]
 
 Writable = Union[bytearray, memoryview, "array.array[Any]", "ctypes.Array[Any]"]
@@ -44,10 +45,10 @@ OSK_COMMAND_WRONG = 3  # command PEC wrong
 OSK_CODE_NOT_LISTED = 4  # code not listed
 OSK_LENGTH_WRONG = 5  # length not the one for this command and N; a reply, payload or message of the wrong length
 OSK_NO_ROOM = 6  # the buffer to be written is too small
-OSK_POSITION_WRONG = 7  # N not 1 to 32, position not 1 to N, or phase not 0 to 14
+OSK_POSITION_WRONG = 7  # N not 1 to 32, position not 1 to N, phase not 0 to 14, or an expected counter above 63
 OSK_COUNT_WRONG = 8  # wrong number of codes or value bytes
 OSK_CODE_CLEARED = 9  # a code to store or load is -32768
-OSK_NEITHER_RIGHT = 10  # neither port's bytes are right
+OSK_BOTH_DAMAGED = 10  # both ports' bytes are damaged
 
 OSK_RECORD_SIZE = 170  # the bytes of one monitor's record
 
@@ -65,8 +66,14 @@ OSK_OUTPUT_ON = 0x80  # added to an output's row where the output is on
 OSK_PORT_A = 1  # monitor 1's
 OSK_PORT_B = 2  # that of monitor N
 
+# ---- the check of one payload, and what two ports answer beside OSK_PORT_A and OSK_PORT_B
+
 OSK_RIGHT = 1
 OSK_DAMAGED = 2
+OSK_COUNTER_DIFFERS = 3
+
+OSK_PORT_A_DIFFERS = 3  # port A's, and its counter differs
+OSK_PORT_B_DIFFERS = 4  # port B's, likewise
 
 # ---- the host's verdict on a heartbeat in LPCM
 
@@ -145,8 +152,8 @@ _PROTOTYPES = {
     "osk_heartbeat": (ctypes.c_uint32, _BUFFER + _POSITION + _BUFFER),
     "osk_time_out": (ctypes.c_uint32, _BUFFER + _POSITION),
     "osk_host_frame": (ctypes.c_uint32, (ctypes.c_uint16,) + _POSITION + _BUFFER + _BUFFER),
-    "osk_check": (ctypes.c_uint32, _BUFFER),
-    "osk_two_ports": (ctypes.c_uint32, _BUFFER + _BUFFER + _POSITION + _POSITION),
+    "osk_check": (ctypes.c_uint32, _BUFFER + _BYTE),
+    "osk_two_ports": (ctypes.c_uint32, _BUFFER + _BUFFER + _POSITION + _POSITION + _BYTE),
     "osk_verdict": (ctypes.c_uint32, _BUFFER + _BYTE),
     "osk_clock_start": (None, _STATE),
     "osk_clock_byte": (ctypes.c_uint32, _STATE + _BUFFER + _BYTE),
@@ -476,22 +483,31 @@ def osk_host_frame(command: int, monitors: int, values: Readable, out: Writable)
     return Answer(_call(_library.osk_host_frame, number, _size("monitors", monitors), _read("values", values), _written("out", out)))
 
 
-def osk_check(payload: Readable) -> Answer:
-    """Checks the data PEC of one monitor's reply of eight bytes.
+def osk_check(payload: Readable, expected: int) -> Answer:
+    """Checks one monitor's reply of eight bytes against the counter that the host expects, 0 to 63. One whose data PEC is wrong is damaged,
+    whatever counter it carries; else it is right, or right but for its counter.
 
-    First: OSK_RIGHT or OSK_DAMAGED. Refusals: 5.
+    A monitor counts the writes and bare commands that it takes: after 63 comes 1, RSTCC (002E) makes it 0, reads leave it. Each reply
+    carries the counter as it stands, the six high bits of byte 7 of the eight. A host that keeps the same count knows what to expect of a
+    reply, and a monitor that missed a command shows by another counter. A WRRR is counted whatever its check, so a damaged one does not
+    show; in LPCM no write is taken.
+
+    First: OSK_RIGHT, OSK_DAMAGED or OSK_COUNTER_DIFFERS. Second: the counter received where it differs, else 0.
+    Refusals: 7 (an expected counter above 63), 5.
     """
-    return Answer(_call(_library.osk_check, _read("payload", payload)))
+    return Answer(_call(_library.osk_check, _read("payload", payload), _byte("expected", expected)))
 
 
-def osk_two_ports(a: Readable, b: Readable, monitors: int, position: int) -> Answer:
+def osk_two_ports(a: Readable, b: Readable, monitors: int, position: int, expected: int) -> Answer:
     """The chain was read from both ends: port A's reply `a` has monitor 1 first, port B's `b` has monitor N first. Asked for the monitor
-    at a position: its eight bytes as they lie in one of the two, A's if their data PEC is right, otherwise B's if right.
+    at a position: its eight bytes as they lie in one of the two, A's if right, else B's if right, else A's if only its counter differs from
+    the one that the host expects (see osk_check), else B's likewise.
 
-    First: OSK_PORT_A or OSK_PORT_B. Second: the byte of that reply that the eight start at. Refusals: 7, 5 (either reply not 8N
-    bytes), 10.
+    First: OSK_PORT_A, OSK_PORT_B, OSK_PORT_A_DIFFERS or OSK_PORT_B_DIFFERS. Second: the byte of that reply that the eight start at.
+    Refusals: 7 (an expected counter above 63), 7 (N or position), 5 (either reply not 8N bytes), 10.
     """
-    return Answer(_call(_library.osk_two_ports, _read("a", a), _read("b", b), _size("monitors", monitors), _size("position", position)))
+    asked = _size("monitors", monitors), _size("position", position), _byte("expected", expected)
+    return Answer(_call(_library.osk_two_ports, _read("a", a), _read("b", b), *asked))
 
 
 def osk_verdict(message: Readable, time_ran_out: int) -> Answer:

@@ -6,6 +6,7 @@ import unittest
 from unittest import mock
 
 import oskorbine as osk
+import test_missed
 import test_oskorbine
 import test_verdict
 
@@ -38,6 +39,10 @@ class Contents(ByDoor, unittest.TestCase):
 
 
 class Host(ByDoor, test_oskorbine.Host):
+    pass
+
+
+class Seen(ByDoor, test_missed.Seen):
     pass
 
 

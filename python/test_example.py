@@ -33,12 +33,17 @@ class Example(unittest.TestCase):
         self.assertEqual(done.stdout, expected)
 
     def test_refusal(self):
-        for name in "frame", "load", "store", "host_frame", "check", "clock_byte", "clock_release", "summary", "discharge":
+        for name in ("frame", "load", "store", "host_frame", "check", "two_ports", "clock_byte", "clock_release", "summary",
+                     "discharge"):
             with self.subTest(function=name):
                 self.fails("^example: .* was refused with number 6$", f"osk_{name}", lambda *_: osk.Answer(osk.OSK_NO_ROOM))
 
     def test_damaged_reply(self):
-        self.fails("^example: RDSTATD: the reply of monitor 1 is damaged$", "osk_check", lambda _: osk.Answer(osk.OSK_DAMAGED << 8))
+        self.fails("^example: RDSTATD: the reply of monitor 1 is damaged$", "osk_check", lambda *_: osk.Answer(osk.OSK_DAMAGED << 8))
+
+    def test_other_counter(self):
+        self.fails("^example: RDSTATD: monitor 1 has counter 9, and 1 was expected$", "osk_check",
+                   lambda *_: osk.Answer(osk.OSK_COUNTER_DIFFERS << 8 | 9 << 16))
 
     def test_other_table(self):
         self.fails("^example: the clocked write left another table$", "osk_clock_release", lambda *_: osk.Answer(2 << 8))

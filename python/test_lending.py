@@ -58,7 +58,7 @@ class Kinds(unittest.TestCase):
                         memoryview(PAYLOAD), memoryview(around)[1:9], memoryview(bytearray(around))[1:9],
                         memoryview(bytearray(around)).toreadonly()[1:9]):
             with self.subTest(payload=type(payload).__name__):
-                self.assertEqual(osk.osk_check(payload).first, osk.OSK_RIGHT)
+                self.assertEqual(osk.osk_check(payload, 0).first, osk.OSK_RIGHT)
         for table in bytes(RECORD), memoryview(bytes(RECORD + 1))[1:], memoryview(bytearray(RECORD)).toreadonly():
             self.assertEqual(osk.osk_discharge(table, 1, 0, 0, bytearray(16)), osk.OSK_ACCEPTED)
         for message in MESSAGE, bytearray(MESSAGE), memoryview(b"\xa5" + MESSAGE)[1:], memoryview(bytearray(MESSAGE)).toreadonly():
@@ -103,6 +103,9 @@ class Kinds(unittest.TestCase):
         self.assertEqual(osk.osk_discharge(bytearray(4 * RECORD), Four(), Four(), Four(), out), osk.OSK_ACCEPTED)
         self.assertEqual(out, b"\x05" * 16)
         self.assertEqual(osk.osk_verdict(b"", Four()).first, osk.OSK_TIMED_OUT)
+        fourth = wire.payload(SIX, 4)
+        self.assertEqual(osk.osk_check(fourth, Four()).first, osk.OSK_RIGHT)
+        self.assertEqual(osk.osk_two_ports(PAYLOAD * 4, fourth * 4, Four(), Four(), Four()).first, osk.OSK_PORT_B)
         for function, more in (osk.osk_wake, ()), (osk.osk_relay, (MESSAGE,)), (osk.osk_heartbeat, ()):
             self.assertEqual(function(bytearray(3 * RECORD), Four(), *more, bytearray(8)), osk.OSK_POSITION_WRONG)
             self.assertEqual(function(bytearray(4 * RECORD), Four(), *more, bytearray(8)), osk.OSK_ACCEPTED)
@@ -183,8 +186,8 @@ class Lending(unittest.TestCase):
                 osk.osk_heartbeat(bytearray(), 1, bytearray())
                 osk.osk_time_out(bytearray(), 1)
                 osk.osk_host_frame(wire.MUTE, 1, empty, bytearray())
-                osk.osk_check(empty)
-                osk.osk_two_ports(empty, empty, 1, 1)
+                osk.osk_check(empty, 0)
+                osk.osk_two_ports(empty, empty, 1, 1, 0)
                 osk.osk_verdict(empty, 1)
                 osk.osk_clock_byte(state, empty, 1)
                 osk.osk_clock_window(state, 1, bytearray())
@@ -225,15 +228,14 @@ class Lending(unittest.TestCase):
 
         def function(*words):
             noise = [array.array("h", [0x5555] * size) for size in range(64)] + [bytes([0x55]) * size for size in range(64)]
-            pointer, length = words[-2:]
-            size = 2 if len(words) == 5 else 1
+            pointer, length, size = (*words[3:], 2) if len(words) == 5 else (*words[:2], 1)  # of a load, and of a check
             seen.append(ctypes.string_at(address(pointer), length * size))
             return len(noise) * 0
 
         seen = []
         with library_of(osk_load=function, osk_check=function):
             osk.osk_load(bytearray(RECORD), 1, list(range(1, 17)))
-            osk.osk_check(part)
+            osk.osk_check(part, 0)
         self.assertEqual(seen, [array.array("h", range(1, 17)).tobytes(), PAYLOAD])
 
     def test_neighbours_do_not_overlap(self):
@@ -244,7 +246,7 @@ class Lending(unittest.TestCase):
         self.assertEqual(osk.osk_frame(table, frame, memory[40:40]), osk.OSK_NO_ROOM)
         self.assertEqual(osk.osk_discharge(table, 1, 0, 0, memory[RECORD:RECORD + 16]), osk.OSK_ACCEPTED)
         reply = bytearray(PAYLOAD)
-        self.assertEqual(osk.osk_two_ports(reply, reply, 1, 1).first, osk.OSK_PORT_A)
+        self.assertEqual(osk.osk_two_ports(reply, reply, 1, 1, 0).first, osk.OSK_PORT_A)
 
     def test_read_only_view_of_written_memory_is_read_first(self):
         memory = bytearray(SIX * 2)
@@ -297,9 +299,9 @@ class Mistakes(unittest.TestCase):
             yield "table", osk.osk_discharge, lambda wrong: (wrong, 1, 0, 0, reply)
             yield "message", osk.osk_relay, lambda wrong: (table, 1, wrong, reply)
             yield "values", osk.osk_host_frame, lambda wrong: (wire.MUTE, 1, wrong, reply)
-            yield "payload", osk.osk_check, lambda wrong: (wrong,)
-            yield "a", osk.osk_two_ports, lambda wrong: (wrong, PAYLOAD, 1, 1)
-            yield "b", osk.osk_two_ports, lambda wrong: (PAYLOAD, wrong, 1, 1)
+            yield "payload", osk.osk_check, lambda wrong: (wrong, 0)
+            yield "a", osk.osk_two_ports, lambda wrong: (wrong, PAYLOAD, 1, 1, 0)
+            yield "b", osk.osk_two_ports, lambda wrong: (PAYLOAD, wrong, 1, 1, 0)
             yield "message", osk.osk_verdict, lambda wrong: (wrong, 0)
             yield "table", osk.osk_clock_byte, lambda wrong: (state, wrong, 0)
             yield "state", osk.osk_clock_window, lambda wrong: (wrong, 1, reply)
@@ -365,8 +367,8 @@ class Mistakes(unittest.TestCase):
             ("position", osk.osk_heartbeat, lambda wrong: (self.table, wrong, self.reply)),
             ("position", osk.osk_time_out, lambda wrong: (self.table, wrong)),
             ("monitors", osk.osk_host_frame, lambda wrong: (wire.MUTE, wrong, b"", self.reply)),
-            ("monitors", osk.osk_two_ports, lambda wrong: (PAYLOAD, PAYLOAD, wrong, 1)),
-            ("position", osk.osk_two_ports, lambda wrong: (PAYLOAD, PAYLOAD, 1, wrong)),
+            ("monitors", osk.osk_two_ports, lambda wrong: (PAYLOAD, PAYLOAD, wrong, 1, 0)),
+            ("position", osk.osk_two_ports, lambda wrong: (PAYLOAD, PAYLOAD, 1, wrong, 0)),
             ("position", osk.osk_clock_window, lambda wrong: (self.state, wrong, self.reply)),
         )
         for name, function, arguments in calls:
@@ -380,6 +382,8 @@ class Mistakes(unittest.TestCase):
             ("byte", -1, 256, osk.osk_clock_byte, lambda wrong: (self.state, self.table, wrong)),
             ("events", -1, 256, osk.osk_discharge, lambda wrong: (self.table, 1, wrong, 0, self.reply)),
             ("phase", -1, 256, osk.osk_discharge, lambda wrong: (self.table, 1, 0, wrong, self.reply)),
+            ("expected", -1, 256, osk.osk_check, lambda wrong: (PAYLOAD, wrong)),
+            ("expected", -1, 256, osk.osk_two_ports, lambda wrong: (PAYLOAD, PAYLOAD, 1, 1, wrong)),
             ("time_ran_out", -1, 256, osk.osk_verdict, lambda wrong: (PAYLOAD, wrong)),
             ("command", -1, 65536, osk.osk_host_frame, lambda wrong: (wrong, 1, b"", self.reply)),
             ("code", -32769, 32768, osk.osk_microvolts, lambda wrong: (wrong,)),

@@ -7,12 +7,12 @@ import unittest
 
 import paper_wire as wire
 from oskorbine import (
-    OSK_ACCEPTED, OSK_CLOCK_STATE, OSK_CODE_CLEARED, OSK_CODE_NOT_LISTED, OSK_COMMAND_WRONG, OSK_COUNT_WRONG, OSK_DAMAGED,
-    OSK_EVENT_MEASUREMENT, OSK_EVENT_SHUTDOWN, OSK_EVENT_WRCFGB, OSK_EVENT_WRPWM, OSK_FRAME_SHORT, OSK_LENGTH_WRONG, OSK_NEITHER_RIGHT,
-    OSK_NO_ROOM, OSK_OUTPUT_ON, OSK_PORT_A, OSK_PORT_B, OSK_POSITION_WRONG, OSK_RECORD_SIZE, OSK_RIGHT, OSK_TABLE_NOT_SOUND, Answer,
-    osk_check, osk_clock_byte, osk_clock_release, osk_clock_start, osk_clock_window, osk_compare, osk_discharge, osk_first, osk_frame,
-    osk_heartbeat, osk_host_frame, osk_load, osk_microvolts, osk_number, osk_relay, osk_second, osk_store, osk_summary, osk_time_out,
-    osk_two_ports, osk_volts, osk_wake,
+    OSK_ACCEPTED, OSK_BOTH_DAMAGED, OSK_CLOCK_STATE, OSK_CODE_CLEARED, OSK_CODE_NOT_LISTED, OSK_COMMAND_WRONG, OSK_COUNT_WRONG,
+    OSK_COUNTER_DIFFERS, OSK_DAMAGED, OSK_EVENT_MEASUREMENT, OSK_EVENT_SHUTDOWN, OSK_EVENT_WRCFGB, OSK_EVENT_WRPWM, OSK_FRAME_SHORT,
+    OSK_LENGTH_WRONG, OSK_NO_ROOM, OSK_OUTPUT_ON, OSK_PORT_A, OSK_PORT_A_DIFFERS, OSK_PORT_B, OSK_PORT_B_DIFFERS, OSK_POSITION_WRONG,
+    OSK_RECORD_SIZE, OSK_RIGHT, OSK_TABLE_NOT_SOUND, Answer, osk_check, osk_clock_byte, osk_clock_release, osk_clock_start,
+    osk_clock_window, osk_compare, osk_discharge, osk_first, osk_frame, osk_heartbeat, osk_host_frame, osk_load, osk_microvolts,
+    osk_number, osk_relay, osk_second, osk_store, osk_summary, osk_time_out, osk_two_ports, osk_volts, osk_wake,
 )
 
 CANARY = 0xA5
@@ -25,6 +25,10 @@ LPCM_CONFIGURATION, CELL_THRESHOLDS, GPIO_THRESHOLDS, CMF0, CMF1, LAST = 114, 12
 CMC_EN = 0x80  # in CMF1
 SNAP_ST = 0x20  # in byte 5
 CELL_READS = wire.RDCVA, wire.RDCVB, wire.RDCVC, wire.RDCVD, wire.RDCVE, wire.RDCVF
+OTHER_READS = {  # where a record has the six bytes that each shows
+    wire.RDCFGA: 0, wire.RDCFGB: 6, wire.RDSTATC: 44, wire.RDSTATD: 50, wire.RDRR: 56, wire.RDSID: 62, wire.RDPWMA: 70, wire.RDPWMB: 76,
+    wire.RDCMCFG: 114, wire.RDCMCELLT: 120, wire.RDCMGPIOT: 126, wire.RDCMFLAG: 132,
+}
 PAST_32_BITS = (1 << 32) + 1  # a size_t that would pass for 1 if it went through a C int
 WRONG_COMMAND = bytes.fromhex("00022B0B")
 UNLISTED = wire.command_bytes(0x0003)
@@ -163,7 +167,7 @@ class Answers(unittest.TestCase):
         self.assertEqual(f"{answer}", repr(answer))
 
     def test_a_refusal_is_its_constant(self):
-        self.assertEqual(osk_check(b""), OSK_LENGTH_WRONG)
+        self.assertEqual(osk_check(b"", 0), OSK_LENGTH_WRONG)
 
 
 class Frames(Case):
@@ -183,13 +187,11 @@ class Frames(Case):
 
     def test_every_read(self):
         """The cell reads show the cells, and where a monitor's own SNAP_ST is set the copy. Every other read has one place."""
-        at = {wire.RDCFGA: 0, wire.RDCFGB: 6, wire.RDSTATC: 44, wire.RDSTATD: 50, wire.RDRR: 56, wire.RDSID: 62, wire.RDPWMA: 70,
-              wire.RDPWMB: 76, wire.RDCMCFG: 114, wire.RDCMCELLT: 120, wire.RDCMGPIOT: 126, wire.RDCMFLAG: 132}
         for near_cells, far_cells in itertools.product((CELLS, COPY), repeat=2):
             changes = {5: b"\xbe" if near_cells == COPY else b"\x9e", RECORD + 5: b"\x20" if far_cells == COPY else b"\xdf"}
             table = edited(filled(2), {COUNTER: b"\x3f", RECORD + COUNTER: b"\x01", **changes})
             near_one, far_one = table[:RECORD], table[RECORD:]
-            registers = {command: (near_one[start:start + 6], far_one[start:start + 6]) for command, start in at.items()}
+            registers = {command: (near_one[start:start + 6], far_one[start:start + 6]) for command, start in OTHER_READS.items()}
             for command in CELL_READS:
                 registers[command] = group(near_one[near_cells:][:32], command), group(far_one[far_cells:][:32], command)
             self.assertEqual(len(registers), len(wire.READS))
@@ -796,34 +798,102 @@ class Host(Case):
             self.keeps(command, 1, values, 0, OSK_COUNT_WRONG)
 
     def test_check(self):
-        right = wire.payload(bytes.fromhex("A1A2A3A4A5A6"), 17)
-        self.assert_answer(osk_check(right), OSK_RIGHT, 0)
-        self.assert_answer(osk_check(bytes.fromhex("00000000000003E3")), OSK_RIGHT, 0)
-        for bit in range(64):
-            self.assert_answer(osk_check((int.from_bytes(right, "big") ^ 1 << bit).to_bytes(8, "big")), OSK_DAMAGED, 0)
-        for length in 0, 7, 9, 16:
-            self.assert_refused(osk_check((right * 2)[:length]), OSK_LENGTH_WRONG)
-        self.assert_refused(osk_check(wire.payload(b"\xff\xff")), OSK_LENGTH_WRONG)
+        """In hex by hand: 3E3, the check of six zero bytes and counter 0, with 08F (x^10) added for counter 1 and 168 (x^10 to x^15) for
+        63. With the counter of one and the check of another they are damaged."""
+        zeros = {0: "00000000000003E3", 1: "000000000000076C", 63: "000000000000FE8B"}
+        for counter, eight in zeros.items():
+            self.assert_answer(osk_check(bytes.fromhex(eight), counter), OSK_RIGHT, 0)
+            for expected in set(zeros) - {counter}:
+                self.assert_answer(osk_check(bytes.fromhex(eight), expected), OSK_COUNTER_DIFFERS, counter)
+                swapped = int(eight, 16) ^ (counter ^ expected) << 10
+                self.assert_answer(osk_check(swapped.to_bytes(8, "big"), expected), OSK_DAMAGED, 0)
+
+    def test_every_counter_against_every_expected(self):
+        for counter, expected in itertools.product(range(64), repeat=2):
+            verdict = (OSK_RIGHT, 0) if counter == expected else (OSK_COUNTER_DIFFERS, counter)
+            for six in bytes(6), bytes.fromhex("A1A2A3A4A5A6"), b"\xff" * 6:
+                self.assert_answer(osk_check(wire.payload(six, counter), expected), *verdict)
+
+    def test_a_wrong_check_is_damaged_whatever_the_counter(self):
+        """Every other check, with the counter that is expected and with another one; and every bit, against all that may be expected."""
+        right = int.from_bytes(wire.payload(bytes.fromhex("A1A2A3A4A5A6"), 17), "big")
+        for wrong, expected in itertools.product(range(1, 1 << 10), (17, 18)):
+            self.assert_answer(osk_check((right ^ wrong).to_bytes(8, "big"), expected), OSK_DAMAGED, 0)
+        for bit, expected in itertools.product(range(64), repeat=2):
+            self.assert_answer(osk_check((right ^ 1 << bit).to_bytes(8, "big"), expected), OSK_DAMAGED, 0)
+
+    def test_check_refusals_in_their_order(self):
+        """What is above 63 is no counter, nor the one that its low six bits are."""
+        for expected in range(64, 256):
+            right = wire.payload(bytes.fromhex("A1A2A3A4A5A6"), expected % 64)
+            for came in right, wire.damaged(right), wire.payload(bytes(6), 0), b"", right[:7], right + b"x":
+                self.assert_refused(osk_check(came, expected), OSK_POSITION_WRONG)
+        for expected in range(64):
+            right = wire.payload(bytes.fromhex("A1A2A3A4A5A6"), expected)
+            for came in b"", right[:7], right + b"x", right * 2, wire.payload(b"\xff\xff", expected):
+                self.assert_refused(osk_check(came, expected), OSK_LENGTH_WRONG)
+
+    @staticmethod
+    def in_three_ways(monitors, expected, other):
+        """Each monitor's payload, nearest first: right, with another counter, and with its check wrong and the counter that is expected."""
+        right = [wire.payload(bytes([position] * 6), expected) for position in range(1, monitors + 1)]
+        differs = [wire.payload(bytes([position] * 6), other) for position in range(1, monitors + 1)]
+        return {"right": right, "differs": differs, "damaged": [wire.damaged(each) for each in right]}
 
     def test_two_ports(self):
-        right = [wire.payload(bytes([number] * 6), number) for number in (1, 2, 3)]
-        wrong = [wire.damaged(each) for each in right]
-        for position in 1, 2, 3:
-            mixed_a = right[:position - 1] + wrong[position - 1:position] + right[position:]
-            mixed_b = right[2:position - 1:-1] + wrong[position - 1:position] + right[:position - 1][::-1]
-            a, b, good_b = b"".join(mixed_a), b"".join(mixed_b), b"".join(reversed(right))
-            self.assert_answer(osk_two_ports(b"".join(right), b, 3, position), OSK_PORT_A, 8 * (position - 1))
-            self.assert_answer(osk_two_ports(b"".join(right), good_b, 3, position), OSK_PORT_A, 8 * (position - 1))
-            self.assert_answer(osk_two_ports(a, good_b, 3, position), OSK_PORT_B, 8 * (3 - position))
-            self.assert_refused(osk_two_ports(a, b, 3, position), OSK_NEITHER_RIGHT)
+        """What A has and what B has, in all nine ways, at each position. What the other monitors have says nothing."""
+        ways = {
+            ("right", "right"): OSK_PORT_A, ("right", "differs"): OSK_PORT_A, ("right", "damaged"): OSK_PORT_A,
+            ("differs", "right"): OSK_PORT_B, ("damaged", "right"): OSK_PORT_B,
+            ("differs", "differs"): OSK_PORT_A_DIFFERS, ("differs", "damaged"): OSK_PORT_A_DIFFERS,
+            ("damaged", "differs"): OSK_PORT_B_DIFFERS, ("damaged", "damaged"): None,
+        }
+        for monitors, (expected, other) in itertools.product((1, 2, 5, 32), ((0, 63), (5, 4), (63, 0))):
+            made = self.in_three_ways(monitors, expected, other)
+            for position, ((way_a, way_b), first), others in itertools.product(range(1, monitors + 1), ways.items(), made):
+                near, far = position - 1, monitors - position
+                a, b = list(made[others]), made[others][::-1]
+                a[near], b[far] = made[way_a][near], made[way_b][near]
+                answer = osk_two_ports(b"".join(a), b"".join(b), monitors, position, expected)
+                if first is None:
+                    self.assert_refused(answer, OSK_BOTH_DAMAGED)
+                else:
+                    self.assert_answer(answer, first, 8 * (near if first in (OSK_PORT_A, OSK_PORT_A_DIFFERS) else far))
+
+    def test_two_ports_of_every_counter(self):
+        """By the check of each port's eight bytes."""
+        for in_a, in_b, expected in itertools.product((0, 1, 31, 32, 62, 63), (0, 1, 32, 63), range(64)):
+            first = OSK_PORT_A if in_a == expected else OSK_PORT_B if in_b == expected else OSK_PORT_A_DIFFERS
+            a, b = wire.payload(b"\x01" * 6, in_a), wire.payload(b"\x01" * 6, in_b)
+            self.assert_answer(osk_two_ports(a, b, 1, 1, expected), first, 0)
+            first = OSK_PORT_B if in_b == expected else OSK_PORT_B_DIFFERS
+            self.assert_answer(osk_two_ports(wire.damaged(a), b, 1, 1, expected), first, 0)
 
     def test_two_ports_refusals_in_their_order(self):
+        """The counter first, then N and the position, then both lengths."""
         wrong = wire.damaged(wire.payload(bytes(6))) * 2
-        for monitors, position in (0, 1), (33, 1), (2, 0), (2, 3), (PAST_32_BITS, 1), (2, PAST_32_BITS), (2, (1 << 64) - 1):
-            self.assert_refused(osk_two_ports(b"", b"", monitors, position), OSK_POSITION_WRONG)
-        for a, b in (wrong[:15], wrong), (wrong, wrong[:15]), (b"", wrong), (wrong, wrong + b"x"):
-            self.assert_refused(osk_two_ports(a, b, 2, 1), OSK_LENGTH_WRONG)
-        self.assert_refused(osk_two_ports(wrong, wrong, 2, 2), OSK_NEITHER_RIGHT)
+        places = (0, 1), (33, 1), (2, 0), (2, 3), (PAST_32_BITS, 1), (2, PAST_32_BITS), (2, (1 << 64) - 1)
+        for expected in range(64, 256):
+            right = wire.payload(bytes(6), expected % 64) * 2
+            for a, b in (right, right), (wrong, right), (wrong, wrong), (b"", right), (right, b""):
+                self.assert_refused(osk_two_ports(a, b, 2, 1, expected), OSK_POSITION_WRONG)
+            for monitors, position in places:
+                self.assert_refused(osk_two_ports(b"", b"", monitors, position, expected), OSK_POSITION_WRONG)
+        for expected in 0, 5, 63:
+            for monitors, position in places:
+                self.assert_refused(osk_two_ports(b"", b"", monitors, position, expected), OSK_POSITION_WRONG)
+            for a, b in (wrong[:15], wrong), (wrong, wrong[:15]), (b"", wrong), (wrong, wrong + b"x"):
+                self.assert_refused(osk_two_ports(a, b, 2, 1, expected), OSK_LENGTH_WRONG)
+            self.assert_refused(osk_two_ports(wrong, wrong, 2, 2, expected), OSK_BOTH_DAMAGED)
+
+    def test_replies_are_only_read(self):
+        right = wire.payload(bytes.fromhex("A1A2A3A4A5A6"), 17)
+        for (a, b), expected in itertools.product(itertools.product((right, wire.damaged(right), right[:7]), repeat=2), (17, 18, 64)):
+            lent = bytearray(b"\xa5" + a + b"\xa5" + b + b"\xa5")
+            view = memoryview(lent)
+            osk_check(view[1:1 + len(a)], expected)
+            osk_two_ports(view[1:1 + len(a)], view[2 + len(a):-1], 1, 1, expected)
+            self.assertEqual(lent, b"\xa5" + a + b"\xa5" + b + b"\xa5")
 
 
 class Clock(Case):
