@@ -39,7 +39,7 @@ LATER = [13000] * 16
 DUTIES = [6, 9]
 PHASES = 15
 
-# Thresholds for both monitors, of which the far one misses the first.
+# Other thresholds, the same for both monitors. The far one misses the first write of them.
 NARROWER = [(650, 1100)] * 2
 
 

@@ -23,6 +23,7 @@ STATUS_C = 44
 MUTE_ST = 0x10  # in byte 5
 COUNTERS = 0, 5, 63  # before what is missed: the next ones are 1, 6 and 1
 CHECKED_WRITES = [command for command in wire.WRITES if command != wire.WRRR]
+OF_THREE = [set(some) for count in range(4) for some in itertools.combinations((1, 2, 3), count)]  # every set of three monitors
 
 # Of each write, where it stores and which bits of what was sent; the others become 0.
 STORED = {
@@ -161,8 +162,8 @@ class Seen(Case):
         return b"".join(each), b"".join(reversed(each))
 
     def read(self, table, command, expected, differing):
-        """Against the counter that is expected exactly these positions' replies differ, each with its own counter, and all others are right:
-        by the check of each, from both ports, and from each port where the other one's bytes are damaged."""
+        """Against the counter that is expected exactly these positions' replies differ, each with its own counter, and all others are
+        right: by the check of each, from both ports, and from each port where the other one's bytes are damaged."""
         a, b = self.replies(table, command)
         monitors = len(table) // RECORD
         for position in range(1, monitors + 1):
@@ -224,16 +225,14 @@ class Seen(Case):
 
     def test_hit_or_in_lpcm(self):
         """Those that differ are the monitors hit and those in LPCM."""
-        every = [set(some) for count in range(4) for some in itertools.combinations((1, 2, 3), count)]
-        for (hits, lpcm), command in zip(itertools.product(every, repeat=2), itertools.cycle(CHECKED_WRITES)):
+        for (hits, lpcm), command in zip(itertools.product(OF_THREE, repeat=2), itertools.cycle(CHECKED_WRITES)):
             with self.subTest(command=f"{command:04X}", hit=hits, lpcm=lpcm):
                 frame = self.struck(self.built(command, 3), hits)
                 self.missed(self.chain(3, 63, lpcm), frame, wire.RDCMFLAG, hits | lpcm)
 
     def test_wrrr_is_not_seen(self):
         """It is counted whatever its check: of the monitors hit none differs, and those in LPCM do."""
-        every = [set(some) for count in range(4) for some in itertools.combinations((1, 2, 3), count)]
-        for hits, lpcm in itertools.product(every, repeat=2):
+        for hits, lpcm in itertools.product(OF_THREE, repeat=2):
             self.missed(self.chain(3, 5, lpcm), self.struck(self.built(wire.WRRR, 3), hits), wire.RDRR, lpcm)
 
     def test_struck_command(self):
