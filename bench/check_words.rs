@@ -10,6 +10,13 @@ fn reversed(set: &[Vec<u8>]) -> Vec<Vec<u8>> {
     set.iter().map(|bytes| inputs::turned(bytes)).collect()
 }
 
+/// The counter that our host seals a payload with.
+pub const COUNTER_SENT: u8 = 0;
+/// Another one.
+const NEXT: u8 = 1;
+/// The chain that two ports are timed at.
+const N: usize = 32;
+
 /// As our host seals them, all right.
 pub fn payloads(side: &Side, random: &mut Random) -> Vec<Vec<u8>> {
     (0..INPUTS).map(|_| inputs::host_frame(side, WRCFGB, 1, random)[4..].to_vec()).collect()
@@ -20,17 +27,31 @@ pub fn through_the_surface(sides: &[Side], random: &mut Random) {
     let lent = random.sound_table(1);
     let payloads = payloads(&sides[0], random);
     let turned = reversed(&payloads);
-    let mut contestants: Vec<(&str, Work)> = sides.iter().map(|&s| (s.name, work::check(s.door.check, &payloads))).collect();
-    contestants.push(("C by shifts", work::check(words::plain_check_by_shifts, &payloads)));
+    let checks = |expected| {
+        let mut checks: Vec<(&str, Work)> = sides.iter().map(|&s| (s.name, work::check(s.door.check, &payloads, expected))).collect();
+        checks.push(("C by shifts", work::check(words::plain_check_by_shifts, &payloads, expected)));
+        checks
+    };
+    let mut contestants = checks(COUNTER_SENT);
     if let Some(crcutil) = words::crcutil() {
-        contestants.push(("crcutil", work::check(crcutil.check, &turned)));
+        contestants.push(("crcutil", work::check(crcutil.check, &turned, COUNTER_SENT.reverse_bits())));
     }
     let names: Vec<&str> = contestants.iter().map(|c| c.0).collect();
     let check = figures(&measure("check", &lent, vec![contestants])[0]);
+    let differs = figures(&measure("check, another counter", &lent, vec![checks(NEXT)])[0]);
     let mut rows = vec![
         row("check of a payload", check.clone(), plain + 1, Goal::Ratio),
         row("- of it, each of the 6 data bytes", each(&check, 6), plain + 1, Goal::None),
+        row("check, the counter differs", differs, plain + 1, Goal::Ratio),
     ];
+    for (what, counters) in [("A right", [NEXT; 2]), ("A differs, B right", [COUNTER_SENT, NEXT]), ("both differ", [COUNTER_SENT; 2])] {
+        // Its own inputs, so that those of the rows below are the same as without it.
+        let mut random = Random(5);
+        let replies: Vec<(Vec<u8>, Vec<u8>)> =
+            (0..INPUTS).map(|_| (inputs::reply(N, counters[0], &mut random), inputs::reply(N, counters[1], &mut random))).collect();
+        let found = timed(what, &lent, sides, |s| work::two_ports(s.door, &replies, N, NEXT));
+        rows.push(row(format!("two ports, N = {N}: {what}"), found, plain, Goal::Ratio));
+    }
     let none = vec![Vec::new(); INPUTS];
     let bare = timed("host frame, MUTE", &lent, sides, |s| work::host_frame(s, MUTE, 32, &none));
     rows.push(row("host frame, MUTE", bare, plain, Goal::Ratio));
@@ -40,8 +61,9 @@ pub fn through_the_surface(sides: &[Side], random: &mut Random) {
     rows.push(row("- of it, each of the 32 payloads", each(&write, 32), plain, Goal::None));
     rows.push(row("- of it, each of the 192 data bytes", each(&write, 192), plain, Goal::None));
     table("1. Check words through the surface", &names, &rows);
-    println!("The surface has no bare remainder. A check is one data PEC, over 6 bytes and 6 bits; MUTE's frame is one");
-    println!("command PEC, over 2 bytes; WRCFGB's is 32 data PECs and one command PEC.");
+    println!("The surface has no bare remainder. A check is one data PEC, over 6 bytes and 6 bits; two ports are one of A's");
+    println!("eight bytes, and where A's are not right with the counter expected one of B's; MUTE's frame is one command PEC,");
+    println!("over 2 bytes; WRCFGB's is 32 data PECs and one command PEC.");
     println!("C by shifts is the library's own way to the check, in plain C; the other plain programs go through a table.");
     match check.get(plain + 1) {
         Some(crcutil) => println!("Check of a payload, osk / crcutil: {:.2}.", check[0].median / crcutil.median),
@@ -76,10 +98,10 @@ pub fn bare(random: &mut Random) {
 
 fn empty_call() -> f64 {
     #[inline(never)]
-    unsafe extern "C" fn nothing(_: *const u8, _: usize) -> u32 {
+    unsafe extern "C" fn nothing(_: *const u8, _: usize, _: u8) -> u32 {
         0
     }
     let set = vec![vec![0; 8]; INPUTS];
-    let work = work::check(std::hint::black_box(nothing), &set);
+    let work = work::check(std::hint::black_box(nothing), &set, 0);
     figures(&measure("nothing", &[], vec![vec![("nothing", work)]])[0])[0].median
 }

@@ -62,12 +62,17 @@ uint16_t crcutil_command_pec(const uint8_t *bytes, size_t length)
 // The counter's bits are reversed too: its highest is bit 0.
 uint16_t crcutil_data_pec10(const uint8_t *bytes, size_t length, uint8_t counter) { return data_pec(bytes, length, counter); }
 
-// As plain_check, of a payload whose eight bytes are bit-reversed.
-uint32_t crcutil_check(const uint8_t *payload, size_t payload_length)
+// As plain_check, of a payload whose eight bytes are bit-reversed; and so is the counter that is expected, as a byte of eight bits. The one
+// received is turned round where it is told, and no clock runs then.
+uint32_t crcutil_check(const uint8_t *payload, size_t payload_length, uint8_t expected)
 {
+    if (expected & 3)
+        return 7;
     if (payload_length != 8)
         return 5;
-    unsigned sent = payload[6] >> 6 | static_cast<unsigned>(payload[7]) << 2;
-    return data_pec(payload, 6, payload[6] & 63u) == sent ? 1u << 8 : 2u << 8;
+    unsigned counter = payload[6] & 63u, sent = payload[6] >> 6 | static_cast<unsigned>(payload[7]) << 2;
+    if (data_pec(payload, 6, counter) != sent)
+        return 2u << 8;
+    return counter == expected >> 2 ? 1u << 8 : 3u << 8 | static_cast<uint32_t>(reversed(counter, 6)) << 16;
 }
 }

@@ -1,12 +1,14 @@
 //! The host's seven functions from each implementation, which is all that a door controller links. They are reached as the functions of
 //! a side are. The two that bench/run gave other names are the copy in libdoor.a and plain C without tables.
 
+pub type Check = unsafe extern "C" fn(*const u8, usize, u8) -> u32;
+
 #[derive(Clone, Copy)]
 pub struct Door {
     pub name: &'static str,
     pub host_frame: unsafe extern "C" fn(u16, usize, *const u8, usize, *mut u8, usize) -> u32,
-    pub check: unsafe extern "C" fn(*const u8, usize) -> u32,
-    pub two_ports: unsafe extern "C" fn(*const u8, usize, *const u8, usize, usize, usize) -> u32,
+    pub check: Check,
+    pub two_ports: unsafe extern "C" fn(*const u8, usize, *const u8, usize, usize, usize, u8) -> u32,
     pub verdict: unsafe extern "C" fn(*const u8, usize, u8) -> u32,
     pub microvolts: unsafe extern "C" fn(i16) -> i32,
     pub volts: unsafe extern "C" fn(i16) -> f64,
@@ -19,8 +21,8 @@ macro_rules! linked {
         pub mod $module {
             unsafe extern "C" {
                 fn $host_frame(command: u16, monitors: usize, values: *const u8, vl: usize, out: *mut u8, ol: usize) -> u32;
-                fn $check(payload: *const u8, pl: usize) -> u32;
-                fn $two_ports(a: *const u8, al: usize, b: *const u8, bl: usize, monitors: usize, position: usize) -> u32;
+                fn $check(payload: *const u8, pl: usize, expected: u8) -> u32;
+                fn $two_ports(a: *const u8, al: usize, b: *const u8, bl: usize, monitors: usize, position: usize, expected: u8) -> u32;
                 fn $verdict(message: *const u8, ml: usize, time_ran_out: u8) -> u32;
                 fn $microvolts(code: i16) -> i32;
                 fn $volts(code: i16) -> f64;
@@ -59,13 +61,21 @@ pub mod plain_rust {
     }
 
     #[inline(never)]
-    unsafe extern "C" fn check(payload: *const u8, pl: usize) -> u32 {
-        unsafe { model::check(from_raw_parts(payload, pl)) }
+    unsafe extern "C" fn check(payload: *const u8, pl: usize, expected: u8) -> u32 {
+        unsafe { model::check(from_raw_parts(payload, pl), expected) }
     }
 
     #[inline(never)]
-    unsafe extern "C" fn two_ports(a: *const u8, al: usize, b: *const u8, bl: usize, monitors: usize, position: usize) -> u32 {
-        unsafe { model::two_ports(from_raw_parts(a, al), from_raw_parts(b, bl), monitors, position) }
+    unsafe extern "C" fn two_ports(
+        a: *const u8,
+        al: usize,
+        b: *const u8,
+        bl: usize,
+        monitors: usize,
+        position: usize,
+        expected: u8,
+    ) -> u32 {
+        unsafe { model::two_ports(from_raw_parts(a, al), from_raw_parts(b, bl), monitors, position, expected) }
     }
 
     #[inline(never)]

@@ -11,12 +11,17 @@ use std::fmt::Debug;
 const EACH: usize = 3000;
 const AT_LEAST: usize = 20;
 const CMHB: u16 = 0x43;
+const MOST_COUNT: u8 = 63;
+const NO_CHECK: &str = "check, no counter expected";
+const NO_PORTS: &str = "two ports, no counter expected";
 
-/// What each function can answer: the number of a refusal, or 100 hex times the first value.
-const ANSWERS: [(&str, &[u32]); 5] = [
+/// What each function can answer: the number of a refusal, or 100 hex times the first value. What may not be expected is a row of its own.
+const ANSWERS: [(&str, &[u32]); 7] = [
     ("host frame", &[4, 7, 8, 6, 0]),
-    ("check", &[5, 0x100, 0x200]),
-    ("two ports", &[7, 5, 10, 0x100, 0x200]),
+    ("check", &[5, 0x100, 0x200, 0x300]),
+    (NO_CHECK, &[7]),
+    ("two ports", &[7, 5, 10, 0x100, 0x200, 0x300, 0x400]),
+    (NO_PORTS, &[7]),
     ("verdict", &[5, 0x100, 0x200, 0x300, 0x400]),
     ("summary", &[8, 6, 0, 0x100]),
 ];
@@ -83,6 +88,16 @@ impl<'a> Doors<'a> {
         payload
     }
 
+    /// One of the counters that came, or another one; and what only looks like one where its upper bits are lost.
+    fn any_expected(&mut self, came: &[u8]) -> u8 {
+        let counter = if came.is_empty() || self.one_in(3) { self.random.below(64) as u8 } else { came[self.random.below(came.len())] };
+        if self.one_in(8) {
+            counter | [0x40, 0x80, 0xc0][self.random.below(3)]
+        } else {
+            counter
+        }
+    }
+
     fn host_frame(&mut self) {
         let random = &mut self.random;
         let command = [any_command(random), any_command(random), random.below(0x800) as u16, random.next() as u16][random.below(4)];
@@ -104,11 +119,17 @@ impl<'a> Doors<'a> {
         let mut payload = self.any_payload();
         let length = self.any_length(8);
         payload.resize(length, 0);
-        let answer = self.same("check", &payload, |door| unsafe { (door.check)(payload.as_ptr(), length) });
-        self.count("check", answer);
+        let came: Vec<u8> = payload.get(6).map(|&byte| byte >> 2).into_iter().collect();
+        let expected = self.any_expected(&came);
+        let answer = self.same("check", &(&payload, expected), |door| unsafe { (door.check)(payload.as_ptr(), length, expected) });
+        self.count(if expected > MOST_COUNT { NO_CHECK } else { "check" }, answer);
+        let by_shifts = unsafe { words::plain_check_by_shifts(payload.as_ptr(), length, expected) };
+        if by_shifts != answer {
+            fail("check", self.doors[0].name, "C by shifts", format!("{payload:02x?}, {expected}"));
+        }
         if let Some(crcutil) = words::crcutil() {
-            if unsafe { (crcutil.check)(turned(&payload).as_ptr(), length) } != answer {
-                fail("check", self.doors[0].name, "crcutil", format!("{payload:02x?}"));
+            if unsafe { (crcutil.check)(turned(&payload).as_ptr(), length, expected.reverse_bits()) } != answer {
+                fail("check", self.doors[0].name, "crcutil", format!("{payload:02x?}, {expected}"));
             }
         }
     }
@@ -123,10 +144,13 @@ impl<'a> Doors<'a> {
             reply
         };
         let (a, b) = (reply(), reply());
-        let answer = self.same("two ports", &(&a, &b, n, position), |door| unsafe {
-            (door.two_ports)(a.as_ptr(), a.len(), b.as_ptr(), b.len(), n, position)
+        let at_port = |reply: &[u8], place: usize| reply.get(place.wrapping_mul(8).wrapping_add(6)).map(|&byte| byte >> 2);
+        let came = [at_port(&a, position.wrapping_sub(1)), at_port(&b, near.wrapping_sub(position))];
+        let expected = self.any_expected(&came.into_iter().flatten().collect::<Vec<u8>>());
+        let answer = self.same("two ports", &(&a, &b, n, position, expected), |door| unsafe {
+            (door.two_ports)(a.as_ptr(), a.len(), b.as_ptr(), b.len(), n, position, expected)
         });
-        self.count("two ports", answer);
+        self.count(if expected > MOST_COUNT { NO_PORTS } else { "two ports" }, answer);
     }
 
     /// Near what passes: a right message of another count, of flags, of another command, with counter bits, and one with a bit turned over.
@@ -201,5 +225,5 @@ pub fn agree(doors: &[Door]) -> usize {
             }
         }
     }
-    ANSWERS.len() * EACH
+    all.came.values().sum()
 }

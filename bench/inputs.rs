@@ -103,6 +103,16 @@ pub fn seal(payload: &mut [u8]) {
     payload[size + 1] = pec as u8;
 }
 
+/// What N monitors reply of any registers, all with one counter.
+pub fn reply(n: usize, counter: u8, random: &mut Random) -> Vec<u8> {
+    let mut reply = random.bytes(8 * n);
+    for payload in reply.chunks_mut(8) {
+        payload[6] = counter << 2;
+        seal(payload);
+    }
+    reply
+}
+
 /// Bytes with their bits reversed, as crcutil takes them.
 pub fn turned(bytes: &[u8]) -> Vec<u8> {
     bytes.iter().map(|b| b.reverse_bits()).collect()

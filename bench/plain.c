@@ -45,12 +45,15 @@ static inline size_t monitors_of(const uint8_t *table, size_t length)
     if (n * RECORD != length || n < 1 || n > MONITORS)
         return 0;
     for (size_t i = 0; i < n; i++)
-        if (table[i * RECORD + COUNTER] > 63 || table[i * RECORD + UNLOCKED] > 1)
+        if (table[i * RECORD + COUNTER] > MOST_COUNT || table[i * RECORD + UNLOCKED] > 1)
             return 0;
     return n;
 }
 
-static inline void raise_counter(uint8_t *record) { record[COUNTER] = record[COUNTER] == 63 ? 1 : (uint8_t)(record[COUNTER] + 1); }
+static inline void raise_counter(uint8_t *record)
+{
+    record[COUNTER] = record[COUNTER] == MOST_COUNT ? 1 : (uint8_t)(record[COUNTER] + 1);
+}
 
 /* ---- what a chain does with an accepted frame */
 
@@ -303,8 +306,10 @@ uint32_t plain_discharge(const uint8_t *table, size_t table_length, size_t posit
 
 /* The library's own way, in C: the payload as one number is divided by the polynomial, by shifts alone, and 0x4c is what the start
  * value leaves of 64 zero bits. */
-uint32_t plain_check_by_shifts(const uint8_t *payload, size_t payload_length)
+uint32_t plain_check_by_shifts(const uint8_t *payload, size_t payload_length, uint8_t expected)
 {
+    if (expected > MOST_COUNT)
+        return 7;
     if (payload_length != 8)
         return 5;
     uint64_t m = 0;
@@ -317,7 +322,7 @@ uint32_t plain_check_by_shifts(const uint8_t *payload, size_t payload_length)
     m ^= m >> 48;
     m &= 0x3ff;
     m ^= m << 1 ^ m << 2 ^ m << 3 ^ m << 7;
-    return answer((m & 0x3ff) == 0x4c ? 1 : 2, 0);
+    return verdict((m & 0x3ff) == 0x4c, payload, expected);
 }
 
 /* ---- the clocked engine */

@@ -1,6 +1,6 @@
-/* Document 01 with requests L2, L3 and L6 of document 02, and of L8 the settings, the enabling and the host's verdict, in plain C99, written
- * from the papers alone: what the proved libraries are timed against. Answers are packed as in oskorbine.h, a pointer and the length behind it
- * are one buffer, and a refusal leaves every lent buffer as it was.
+/* Document 01 with requests L2, L3, L5 and L6 of document 02, and of L8 the settings, the enabling and the host's verdict, in plain C99,
+ * written from the papers alone: what the proved libraries are timed against. Answers are packed as in oskorbine.h, a pointer and the
+ * length behind it are one buffer, and a refusal leaves every lent buffer as it was.
  */
 #ifndef PLAIN_H
 #define PLAIN_H
@@ -14,7 +14,7 @@ uint16_t plain_command_pec(const uint8_t *bytes, size_t length);
 uint16_t plain_command_pec_bits(const uint8_t *bytes, size_t length);
 uint16_t plain_data_pec10(const uint8_t *bytes, size_t length, uint8_t counter);
 uint16_t plain_data_pec10_bits(const uint8_t *bytes, size_t length, uint8_t counter);
-uint32_t plain_check_by_shifts(const uint8_t *payload, size_t payload_length);
+uint32_t plain_check_by_shifts(const uint8_t *payload, size_t payload_length, uint8_t expected);
 
 /* ---- the chain */
 
@@ -26,8 +26,9 @@ uint32_t plain_discharge(const uint8_t *table, size_t table_length, size_t posit
 /* ---- the host: plain_door.c, all that a door controller links */
 
 uint32_t plain_host_frame(uint16_t command, size_t monitors, const uint8_t *values, size_t values_length, uint8_t *out, size_t out_length);
-uint32_t plain_check(const uint8_t *payload, size_t payload_length);
-uint32_t plain_two_ports(const uint8_t *a, size_t a_length, const uint8_t *b, size_t b_length, size_t monitors, size_t position);
+uint32_t plain_check(const uint8_t *payload, size_t payload_length, uint8_t expected);
+uint32_t plain_two_ports(const uint8_t *a, size_t a_length, const uint8_t *b, size_t b_length, size_t monitors, size_t position,
+                         uint8_t expected);
 uint32_t plain_verdict(const uint8_t *message, size_t message_length, uint8_t time_ran_out);
 int32_t plain_microvolts(int16_t code);
 double plain_volts(int16_t code);

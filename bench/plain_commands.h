@@ -1,4 +1,6 @@
-/* The commands of document 01, L2, L6 and L8, and where a record has their bytes, in plain C99, for plain.c and plain_door.c. */
+/* The commands of document 01, L2, L6 and L8, where a record has their bytes, and L5's verdict, in plain C99, for plain.c and
+ * plain_door.c.
+ */
 #ifndef PLAIN_COMMANDS_H
 #define PLAIN_COMMANDS_H
 
@@ -6,7 +8,7 @@
 
 enum { CONFIG_A = 0, CONFIG_B = 6, CELLS = 12, STATUS_C = 44, STATUS_D = 50, RETENTION = 56, SERIAL = 62, COUNTER = 68, UNLOCKED = 69,
        PWM_A = 70, PWM_B = 76, COPY = 82, CM_CONFIG = 114, CM_CELLT = 120, CM_GPIOT = 126, CMF0 = 132, CMF1 = 133, LAST = 138,
-       CELL_BYTES = 32, RECORD = LAST + CELL_BYTES, MONITORS = 32 };
+       CELL_BYTES = 32, RECORD = LAST + CELL_BYTES, MONITORS = 32, MOST_COUNT = 63 };
 
 enum { MUTE_ST = 0x10, SNAP_ST = 0x20 }; /* in byte 5 */
 enum { CMC_EN = 0x80 };                  /* in CMF1 */
@@ -47,5 +49,15 @@ static inline size_t data_size(uint16_t code) { return code == CLRCMFLAG ? TWO :
 static inline size_t frame_size(uint8_t kind, uint16_t code, size_t n) { return kind == BARE ? 4 : 4 + (data_size(code) + SEAL) * n; }
 
 static inline uint32_t answer(size_t first, size_t second) { return (uint32_t)(first << 8 | second << 16); }
+
+static inline uint8_t counter_in(const uint8_t *eight) { return eight[SIX] >> 2; }
+
+/* On eight bytes whose check is right, or is not: a wrong one tells nothing of the counter. */
+static inline uint32_t verdict(bool is_right, const uint8_t *eight, uint8_t expected)
+{
+    if (!is_right)
+        return answer(2, 0);
+    return counter_in(eight) == expected ? answer(1, 0) : answer(3, counter_in(eight));
+}
 
 #endif

@@ -117,7 +117,7 @@ pub fn all() -> Vec<Side> {
 pub mod words {
     unsafe extern "C" {
         pub fn plain_clock_size() -> usize;
-        pub fn plain_check_by_shifts(payload: *const u8, length: usize) -> u32;
+        pub fn plain_check_by_shifts(payload: *const u8, length: usize, expected: u8) -> u32;
         pub fn plain_command_pec(bytes: *const u8, length: usize) -> u16;
         pub fn plain_data_pec10(bytes: *const u8, length: usize, counter: u8) -> u16;
         fn plain_command_pec_bits(bytes: *const u8, length: usize) -> u16;
@@ -154,8 +154,8 @@ pub mod words {
 
     /// The functions of libcrcutil, where it was found.
     pub struct Crcutil {
-        /// Of a payload whose bits are reversed.
-        pub check: unsafe extern "C" fn(*const u8, usize) -> u32,
+        /// Of a payload whose bits are reversed, and so are those of the counter that is expected.
+        pub check: crate::doors::Check,
     }
 
     pub fn crcutil() -> Option<Crcutil> {
@@ -170,7 +170,7 @@ pub mod words {
         unsafe extern "C" {
             fn crcutil_command_pec(bytes: *const u8, length: usize) -> u16;
             fn crcutil_data_pec10(bytes: *const u8, length: usize, counter: u8) -> u16;
-            pub fn crcutil_check(payload: *const u8, length: usize) -> u32;
+            pub fn crcutil_check(payload: *const u8, length: usize, expected: u8) -> u32;
         }
 
         /// Turning a result round is two instructions, and it lets the results be compared.

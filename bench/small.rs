@@ -1,6 +1,6 @@
 //! Section 1c: what a small controller links, in bytes and in the time of a check. The bytes are counted by tools/door-contents.
 
-use crate::check_words::payloads;
+use crate::check_words::{payloads, COUNTER_SENT};
 use crate::doors::TIMED;
 use crate::inputs::Random;
 use crate::measure::measure;
@@ -37,7 +37,7 @@ fn missing(file: &str) -> ! {
 
 pub fn controller(counted: &Counted, sides: &[Side]) {
     let payloads = payloads(&sides[0], &mut Random(4));
-    let contestants = TIMED.iter().map(|door| (door.name, work::check(door.check, &payloads)));
+    let contestants = TIMED.iter().map(|door| (door.name, work::check(door.check, &payloads, COUNTER_SENT)));
     let check = figures(&measure("check by a door", &[], vec![contestants.collect()])[0]);
     println!("\n## 1c. The small controller\n");
     println!("| | code | constants | both by gcc -Os | check of a payload, ns | to plain C with its tables |");

@@ -1,5 +1,6 @@
 //! The loops that are timed, one for each function of the surface. Each call is through a pointer that the compiler cannot see behind.
 
+use crate::doors::{Check, Door};
 use crate::inputs::RECORD;
 use crate::measure::{Bout, State, Work};
 use crate::rounds::Figure;
@@ -28,11 +29,21 @@ pub fn host_frame<'a>(side: Side, command: u16, n: usize, values: &'a [Vec<u8>])
     })
 }
 
-pub fn check<'a>(check: unsafe extern "C" fn(*const u8, usize) -> u32, payloads: &'a [Vec<u8>]) -> Work<'a> {
+pub fn check<'a>(check: Check, payloads: &'a [Vec<u8>], expected: u8) -> Work<'a> {
     Box::new(move |b: &mut Bout, turns| {
         for _ in 0..turns {
             let payload = &payloads[b.turn()];
-            b.sum += u64::from(unsafe { check(payload.as_ptr(), payload.len()) });
+            b.sum += u64::from(unsafe { check(payload.as_ptr(), payload.len(), expected) });
+        }
+    })
+}
+
+/// At position N, of replies at port A and at port B.
+pub fn two_ports<'a>(door: Door, replies: &'a [(Vec<u8>, Vec<u8>)], n: usize, expected: u8) -> Work<'a> {
+    Box::new(move |bout: &mut Bout, turns| {
+        for _ in 0..turns {
+            let (a, b) = &replies[bout.turn()];
+            bout.sum += u64::from(unsafe { (door.two_ports)(a.as_ptr(), a.len(), b.as_ptr(), b.len(), n, n, expected) });
         }
     })
 }
