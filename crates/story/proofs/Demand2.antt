@@ -131,11 +131,12 @@ use Rattle.story.proofs.Muting.{mute-answers, unmute-answers}
 use Rattle.story.proofs.Verdicts.{three-verdicts, checked-right, checked-damaged, checked-differs, port-chosen, last-differs}
 use Rattle.story.proofs.BothEnds.{reply-same, reply-differs, the-replies, handed-from-a, handed-from-b, any-from-a, any-from-b}
 use Rattle.story.proofs.Cleared.{clrcell-clears}
-use Rattle.story.proofs.Spoilt.{struck-answer, struck-answer-awake, awake-unhit, struck-no-reply, struck-some, struck-fewer, struck-hit, struck-lpcm, struck-unhit}
+use Rattle.story.proofs.Spoilt.{right-unhit, struck-answer, struck-answer-awake, awake-unhit, struck-no-reply, struck-some, struck-fewer, struck-hit, struck-lpcm, struck-unhit}
 use Rattle.story.proofs.Spikes.{hit-by-bit, unhit-by-bits, struck-each, each-spoilt, struck-spoilt, struck-wrrr-answer, struck-wrrr-stores, struck-wrrr-locked, struck-refused, struck-refused-any}
 use Rattle.story.proofs.Counted.{right-accepted, differs-accepted, any-accepted, any-kept, next-apart}
 use Rattle.story.proofs.Missed.{own-counter-right, other-counter-differs, counter-after, missed-in-reply, missed-at-ports, missed-seen, some-seen, read-from-a, refused-in-reply, refused-seen, wrrr-unseen}
 use Rattle.story.proofs.Sharp.{Sharp, sharp}
+use Rattle.story.proofs.OneMissed.{OneMissed, one-missed}
 use Rattle.story.proofs.EitherSide.{EitherSide, either-side}
 
 pub record Demand2 : Type 0 where
@@ -523,7 +524,7 @@ pub record Demand2 : Type 0 where
   -- where A's is damaged
   port-a : (table buffer : List ℕ) (code : ℕ) (part : Part) → commandOf code commands ≡ Reads part → sound table ≡ true
       → length buffer ≡ payloadSize * monitors table
-      → replyAfter table (frameFor code (monitors table) []) buffer ≡ replyData (map (reply part) (rows recordSize (monitors table) table))
+      → replyAfter table (frameFor code (monitors table) []) buffer ≡ fromA part (monitors table) table
   handed-from-a : (part : Part) (n : ℕ) (table : List ℕ) (k : ℕ) → 1 ≤ k → k ≤ n → n ≤ mostMonitors
       → (expected : ℕ) → expected ≤ 63 → expected ≡ byteOf counter (rowAt recordSize (k - 1) table) → (b : List ℕ) → length b ≡ payloadSize * n
       → (portOf (fromA part n table) b n k expected ≡ A false) × (bytesOf (fromA part n table) b n k expected ≡ reply part (rowAt recordSize (k - 1) table))
@@ -609,6 +610,9 @@ pub record Demand2 : Type 0 where
   -- a spike struck at each of some monitors (`StruckEach`) is such a write, and one that a single spike struck is one of those
   struck-each : (c : Write) (n : ℕ) (sent came : List ℕ) → StruckData (Writes c) n sent came → StruckEach c n sent came
   each-spoilt : (c : Write) (n : ℕ) (sent came : List ℕ) → StruckEach c n sent came → Spoilt c n sent came
+  -- the monitors that were hit are then exactly those whose check is wrong
+  right-unhit : (table sent came : List ℕ) → sound table ≡ true → (c : Write) → Spoilt c (monitors table) sent came → (k : ℕ) → k < monitors table
+      → sealedRight (dataSize c) (ownIn (Writes c) (monitors table) came k) ≡ unhit (Writes c) (monitors table) sent came k
   -- after it the counter of a monitor that was not hit and is not in LPCM is the next one, and that of any other as it was; WRRR is excepted
   counter-after : (table sent came : List ℕ) (room : ℕ) → sound table ≡ true → (c : Write) → (c ≡ Wrrr → ⊥) → Spoilt c (monitors table) sent came
       → (k : ℕ) → k < monitors table
@@ -627,19 +631,21 @@ pub record Demand2 : Type 0 where
       → let r = rowAt recordSize (k - 1) table in
       SeenAs part (monitors table) (tableAfter table came room) k (nextCount (byteOf counter r)) (not (inLpcm r) && unhit (Writes c) (monitors table) sent came (k - 1)) (byteOf counter r)
   -- a missed write is seen: all N monitors have one counter and none is in LPCM. Against the next counter exactly the monitors that were hit are seen with another,
-  -- which is the old one, and all others right, from port A and from port B; and some monitor is seen so where a spike struck
+  -- which is the old one, and all others right, from port A and from port B; and some monitor is seen so where any bit was turned over
   missed-seen : (table sent came : List ℕ) (room : ℕ) → sound table ≡ true → (c : Write) → (c ≡ Wrrr → ⊥) → Spoilt c (monitors table) sent came
       → (old : ℕ) → OneCounter (monitors table) table old → Awake (monitors table) table → (part : Part) (k : ℕ) → 1 ≤ k → k ≤ monitors table
       → SeenAs part (monitors table) (tableAfter table came room) k (nextCount old) (unhit (Writes c) (monitors table) sent came (k - 1)) old
-  some-seen : (table sent came : List ℕ) (room : ℕ) → sound table ≡ true → (c : Write) → (c ≡ Wrrr → ⊥) → StruckData (Writes c) (monitors table) sent came
-      → (old : ℕ) → OneCounter (monitors table) table old → Awake (monitors table) table → (part : Part)
+  some-seen : (table sent came : List ℕ) (room : ℕ) → sound table ≡ true → (c : Write) → (c ≡ Wrrr → ⊥) → Spoilt c (monitors table) sent came
+      → (came ≡ sent → ⊥) → (old : ℕ) → OneCounter (monitors table) table old → Awake (monitors table) table → (part : Part)
       → SomeDiffer part (monitors table) (tableAfter table came room) (nextCount old) old
+  -- one of them by its bytes
+  one-missed : OneMissed
   -- what comes to port A there is what the chain leaves in a buffer of that length for a read that our host builds
   read-from-a : (table frame buffer : List ℕ) (room code : ℕ) (part : Part) → commandOf code commands ≡ Reads part → sound table ≡ true
       → length buffer ≡ payloadSize * monitors table
       → readAfter table frame room code buffer ≡ fromA part (monitors table) (tableAfter table frame room)
-  -- a frame that the chain refuses is missed by all: against its next counter every monitor's reply differs, and tells the old one. So is any frame with a spike in
-  -- its command
+  -- a frame that the chain refuses, among them any with a spike in its command, is missed by all: against the next counter, which a write or a bare command other
+  -- than RSTCC lets a host expect, every monitor's reply differs, and tells the old one
   refused-read : (table frame : List ℕ) (room : ℕ) → sound table ≡ true → (refusal : Refusal) → answer table frame room ≡ Refused refusal
       → (code : ℕ) (part : Part) (buffer : List ℕ) → commandOf code commands ≡ Reads part → payloadSize * monitors table ≤ length buffer → (k : ℕ) → k < monitors table
       → let r = rowAt recordSize k table in
@@ -1026,12 +1032,13 @@ demand-2 =
       next-apart = next-apart;
       struck-each = λ c n sent came. struck-each;
       each-spoilt = λ c n sent came. each-spoilt;
+      right-unhit = λ table sent came s c spoilt. right-unhit table s c spoilt;
       counter-after = λ table sent came room s c other spoilt. counter-after table s c spoilt room other;
       missed-read = λ table sent came room s c other spoilt code part buffer. missed-in-reply table s c spoilt room other part code buffer;
       missed-at-ports = λ table sent came room s c other spoilt. missed-at-ports table s c spoilt room other;
       missed-seen = λ table sent came room s c other spoilt. missed-seen table s c spoilt room other;
-      some-seen = λ table sent came room s c other struck old one awake part.
-          some-seen table s c (struck-spoilt struck) room other old one awake part (spike-some (struck .spike));
+      some-seen = λ table sent came room s c other spoilt turned old one awake part. some-seen table s c spoilt room other old one awake part turned;
+      one-missed = one-missed;
       read-from-a = read-from-a;
       refused-read = λ table frame room s r refused code part buffer. refused-in-reply table frame room s r refused part code buffer;
       refused-seen = refused-seen;

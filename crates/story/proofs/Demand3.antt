@@ -1,19 +1,21 @@
 -- Demand 3. For 1 to 32 monitors, a sound table and any list of frames with operations on the table between them, readings stored and compared and heartbeats
 -- in their parts and as a whole, the whole-frame engine and the clocked engine end in the same table and give the same answers, reply bytes and lent buffers,
 -- both judged by the rules of demand 2.
--- So by either engine what is said of whole runs: MUTE and UNMUTE, that a long read in a snapshot is of one moment, and what a spike can do.
+-- So by either engine what is said of whole runs: MUTE and UNMUTE, that a long read in a snapshot is of one moment, what a spike can do, and that a missed
+-- write is seen.
 -- What the three runs are stands in specs/Runs.antt. By going along the events: one event by either engine is one by the rules
 -- (Runs.antt), and the number of monitors stays, so that the reply buffer keeps its room.
 -- Assumes nothing.
 use mathlib.Core.Path.{_≡_, refl, sym, ap, ap₂, _∙_, subst, subst⁻¹}
-use mathlib.Core.Bool.{Bool, true, false, cond}
+use mathlib.Core.Bool.{Bool, true, false, cond, not, _&&_}
 use mathlib.Core.List.{List, [], _∷_, _++_, map}
 use mathlib.Core.Logic.{inl, inr}
 use Prim.Native.Nat.{ℕ, _-_, _*_, _≤_, _<_}
 use native.Mathlib.Omega.{arith}
 use lib.Dec.{lit≤}
 use lib.IntN.{ℤ}
-use lib.ListN.{length, take, drop, replicate}
+use lib.ListN.{length, take, drop, replicate, length-replicate}
+use lib.Seq.{take-all}
 use Rattle.laws.specs.Rows.{rows, rowAt}
 use Rattle.pec.proofs.Spikes.{spike-some}
 use Rattle.wire.specs.Order.{replyData}
@@ -27,11 +29,11 @@ use Rattle.records.specs.declared.commands.Command.the-variants.{Reads, Writes,
 use Rattle.records.specs.declared.commands.Write.{Write}
 use Rattle.records.specs.declared.commands.Write.the-variants.{Wrrr}
 use Rattle.records.specs.declared.record.Part.{Part}
-use Rattle.records.specs.Record.{cellCount, cells, snapshot, lastCells, recordSize, unlocked, snapped, inLpcm, bytesOf as partOf, onBytes}
-use Rattle.monitor.specs.Effects.{locked, keeps}
+use Rattle.records.specs.Record.{cellCount, cells, snapshot, lastCells, recordSize, counter, unlocked, snapped, inLpcm, bytesOf as partOf, byteOf, onBytes}
+use Rattle.monitor.specs.Effects.{locked, nextCount, keeps}
 use Rattle.monitor.specs.Spares.{Spares}
 use Rattle.monitor.proofs.Keeping.{keeps-none}
-use Rattle.records.specs.Commands.{mostMonitors, payloadSize}
+use Rattle.records.specs.Commands.{commands, commandOf, mostMonitors, payloadSize}
 use Rattle.reads.specs.Shown.{ofCells, shownCells}
 use Rattle.reads.specs.Reply.{sixBytes, sixIn, reply}
 use Rattle.chain.specs.declared.frames.Answer.{Answer}
@@ -43,7 +45,7 @@ use Rattle.chain.specs.Frame.{answer, tableAfter, replyAfter}
 use Rattle.chain.proofs.Refused.{refused-table}
 use Rattle.chain.proofs.Room.{stop-unsound}
 use Rattle.judging.proofs.Keeps.{Keeps}
-use Rattle.chain.proofs.FrameKeeps.{monitors-after-frame}
+use Rattle.chain.proofs.FrameKeeps.{sound-after-frame, monitors-after-frame}
 use Rattle.chain.proofs.Outcome.{the-table}
 use Rattle.judging.proofs.Soundness.{is-sound}
 use Rattle.loads.specs.declared.loads.Loaded.{Loaded}
@@ -62,8 +64,10 @@ use Rattle.clock_state.specs.State.{stateSize, idle}
 use Rattle.clocking.specs.Bytes.{clockOf, stateAfter}
 use Rattle.clocking.proofs.View.{view}
 use Rattle.clocked.proofs.Whole.{released-read}
-use Rattle.story.specs.Runs.{Store, Compare, Event, Frame, Beside, Answered, StoreAnswered, CompareAnswered, Left, saw, replyBytes, Step, ruleRefusals, byRules, promised, byFrames, stateAfterAll, cameBack, byBytes, Engine, WholeFrames, ClockedBytes, Ready, by}
-use Rattle.story.specs.Spikes.{StruckData, StruckCommand, ownIn, unhit, unhitAwake}
+use Rattle.host.specs.Frames.{frameFor}
+use Rattle.story.specs.Runs.{Store, Compare, Event, Frame, Beside, Seen, Answered, StoreAnswered, CompareAnswered, Left, saw, replyBytes, Step, ruleRefusals, byRules, promised, byFrames, stateAfterAll, cameBack, byBytes, Engine, WholeFrames, ClockedBytes, Ready, by}
+use Rattle.story.specs.Spikes.{StruckData, StruckCommand, ownIn, unhit, unhitAwake, Spoilt}
+use Rattle.story.specs.Missed.{fromA, SeenAs}
 use Rattle.story.specs.Snapshots.{Without, replyAt, shownAt, shownBehind, ReadIn, LongRead, longShown}
 use Rattle.story.proofs.Along.{rules-keep, bare-passes, write-passes, ruled-frame}
 use Rattle.story.proofs.Accepted.{record-at, kept-at}
@@ -72,9 +76,12 @@ use Rattle.story.proofs.OneMoment.{lent-read, frozen-read, one-moment, 
 use Rattle.story.proofs.ByteFour.{only-byte-four, at-byte-four, noted-stays, another-n}
 use Rattle.story.proofs.Muting.{mute-answers, unmute-answers}
 use Rattle.story.proofs.Spoilt.{struck-answer, struck-fewer, struck-hit, struck-unhit, struck-kept}
+use Rattle.story.proofs.OurHost.{read-taken-by-all}
+use Rattle.story.proofs.BothEnds.{the-replies}
+use Rattle.story.proofs.Missed.{missed-at-ports}
 use Rattle.story.proofs.Spikes.{struck-spoilt, struck-wrrr-answer, struck-refused}
 use Rattle.story.proofs.Operations.{operation-step, operation-monitors}
-use Rattle.story.proofs.Runs.{frame-step, length-after, full, has-room, clock-whole, back-whole, clocked-step}
+use Rattle.story.proofs.Runs.{frame-step, length-replies, length-after, full, has-room, clock-whole, back-whole, clocked-step}
 
 -- ---- the demand. It asks for a sound table; the engines agree on any: one that is not sound is refused by both
 
@@ -169,6 +176,18 @@ pub record Demand3 : Type 0 where
   -- any frame of our host, its first four bytes struck within fifteen places in a row: refused with 3, and the events after it find the table as it was
   spike-command : (engine : Engine) (table sent came : List ℕ) (events : List Event) → Ready engine table → sound table ≡ true → (c : Command) (n : ℕ)
       → StruckCommand c n sent came → by engine table (Frame came ∷ events) ≡ saw (Answered (Refused CommandWrong) []) (by engine table events)
+  -- a missed write, through either engine: one that came with some monitors' checks wrong, and then a read that our host builds. As many take it as were not hit and are
+  -- not in LPCM, and the read has what all monitors reply; against its next counter each monitor that took the write is seen right from both ports, k from 1, and any
+  -- other with its old counter
+  missed-write : (engine : Engine) (table sent came : List ℕ) → Ready engine table → sound table ≡ true → (c : Write) → (c ≡ Wrrr → ⊥)
+      → Spoilt c (monitors table) sent came → (code : ℕ) (part : Part) → commandOf code commands ≡ Reads part
+      → let n = monitors table in
+      let after = by engine table (Frame came ∷ []) .table in
+      (by engine table (Frame came ∷ Frame (frameFor code n []) ∷ []) .seen
+      ≡ Answered (Accepted (unhitAwake (Writes c) n table sent came) 0) [] ∷ Answered (Accepted n (payloadSize * n)) (fromA part n after) ∷ [])
+      × ((k : ℕ) → 1 ≤ k → k ≤ n
+      → let r = rowAt recordSize (k - 1) table in
+      SeenAs part n after k (nextCount (byteOf counter r)) (not (inLpcm r) && unhit (Writes c) n sent came (k - 1)) (byteOf counter r))
   -- at every byte, not only at a release, the bytes of the state stand for the windows as the rules move them
   every-byte : (table : List ℕ) (byte : ℕ) (state : List ℕ) → length state ≡ stateSize
       → clockOf (stateAfter table byte state) ≡ clocked table byte (clockOf state)
@@ -348,6 +367,18 @@ seen-none table frame e =
     ap (λ (step : Step). step .seen ∷ []) (sym (frame-step table frame (full table) (has-room table)))
     ∙ ap (λ (a : Answer). Answered a (take (replyBytes a) (replyAfter table frame (full table))) ∷ []) e
 
+-- a read that our host builds shows what all monitors reply
+seen-read : (table : List ℕ) (code : ℕ) (part : Part) → commandOf code commands ≡ Reads part → sound table ≡ true
+    → byRules table (Frame (frameFor code (monitors table) []) ∷ []) .seen ≡ Answered (Accepted (monitors table) (payloadSize * monitors table)) (fromA part (monitors table) table) ∷ []
+unfolding byRules
+seen-read table code part its s =
+    let n = monitors table in
+    let read = frameFor code n [] in
+    ap (λ (step : Step). step .seen ∷ []) (sym (frame-step table read (full table) (has-room table)))
+    ∙ ap₂ (λ (a : Answer) (reply : List ℕ). Answered a (take (replyBytes a) reply) ∷ []) (read-taken-by-all table (full table) code part its s (has-room table))
+    (the-replies table (full table) code part its s (length-replicate {A = ℕ} (payloadSize * n) 0))
+    ∙ ap (λ (reply : List ℕ). Answered (Accepted n (payloadSize * n)) reply ∷ []) (take-all (payloadSize * n) (fromA part n table) (omega (arith, length-replies part n table)))
+
 -- one that is refused shows that, and the events after it find the table as it was
 seen-refused : (table frame : List ℕ) (events : List Event) {r : Refusal} → answer table frame (length (full table)) ≡ Refused r
     → byRules table (Frame frame ∷ events) ≡ saw (Answered (Refused r) []) (byRules table events)
@@ -380,6 +411,47 @@ module _ (engine : Engine) (table : List ℕ) (ready : Ready engine table) (s : 
       each k h false e =
           struck-hit table s c (struck-spoilt struck) (length (full table)) k h other e
           ∙ ap (λ (b : Bool). cond b (rowAt recordSize k (by engine table (Frame sent ∷ []) .table)) (locked (rowAt recordSize k table))) (sym e)
+
+  missed-by : (c : Write) → (c ≡ Wrrr → ⊥) → Spoilt c (monitors table) sent came → (code : ℕ) (part : Part) → commandOf code commands ≡ Reads part
+      → let n = monitors table in
+      let after = by engine table (Frame came ∷ []) .table in
+      (by engine table (Frame came ∷ Frame (frameFor code n []) ∷ []) .seen
+      ≡ Answered (Accepted (unhitAwake (Writes c) n table sent came) 0) [] ∷ Answered (Accepted n (payloadSize * n)) (fromA part n after) ∷ [])
+      × ((k : ℕ) → 1 ≤ k → k ≤ n
+      → let r = rowAt recordSize (k - 1) table in
+      SeenAs part n after k (nextCount (byteOf counter r)) (not (inLpcm r) && unhit (Writes c) n sent came (k - 1)) (byteOf counter r))
+  unfolding byRules
+  missed-by c other spoilt code part its = (
+    ap (λ (left : Left). left .seen) (either-by-rules engine table (Frame came ∷ Frame read ∷ []) ready)
+        ∙ ap (λ (step : Step). step .seen ∷ byRules (step .table) (Frame read ∷ []) .seen) (sym (frame-step table came (full table) (has-room table)))
+        ∙ ap (λ (a : Answer). Answered a (take (replyBytes a) (replyAfter table came (full table))) ∷ byRules left (Frame read ∷ []) .seen) (struck-answer table s c spoilt other room)
+        ∙ ap (λ (rest : List Seen). Answered (Accepted (unhitAwake (Writes c) n table sent came) 0) [] ∷ rest) read-left,
+    λ k first last. subst⁻¹ (λ (t : List ℕ). SeenAs part n t k _ _ _) there (missed-at-ports table s c spoilt room other part k first last),
+  )
+    where
+      n : ℕ
+      n = monitors table
+
+      read : List ℕ
+      read = frameFor code n []
+
+      room : ℕ
+      room = length (full table)
+
+      left : List ℕ
+      left = tableAfter table came room
+
+      there : by engine table (Frame came ∷ []) .table ≡ left
+      there = one-frame engine table came ready
+
+      as-many : monitors left ≡ n
+      as-many = monitors-after-frame table came room s
+
+      read-left : byRules left (Frame read ∷ []) .seen ≡ Answered (Accepted n (payloadSize * n)) (fromA part n (by engine table (Frame came ∷ []) .table)) ∷ []
+      read-left =
+          ap (λ (m : ℕ). byRules left (Frame (frameFor code m []) ∷ []) .seen) (sym as-many)
+          ∙ seen-read left code part its (sound-after-frame table came room s)
+          ∙ ap₂ (λ (m : ℕ) (t : List ℕ). Answered (Accepted m (payloadSize * m)) (fromA part m t) ∷ []) as-many (sym there)
 
   refused-by : (c : Command) (n : ℕ) → StruckCommand c n sent came → (events : List Event)
       → by engine table (Frame came ∷ events) ≡ saw (Answered (Refused CommandWrong) []) (by engine table events)
@@ -417,6 +489,7 @@ demand-3 =
       snap-leaves = λ engine table snap ready. left-by engine table snap ready Snap (inr (lit≤ tt), (inr (lit≤ tt), (inl (lit≤ tt), (inr (lit≤ tt), tt))));
       unsnap-leaves = λ engine table unsnap ready. left-by engine table unsnap ready Unsnap (inr (lit≤ tt), (inr (lit≤ tt), (inl (lit≤ tt), tt)));
       spike-data = λ engine table sent came ready s. spike-by engine table ready s;
+      missed-write = λ engine table sent came ready s. missed-by engine table ready s;
       lpcm-no-write = λ engine table write ready passed c its k h. no-write-by engine table write ready passed k h c its;
       lpcm-enabled = λ engine table cmen ready passed its k h. enabled-by engine table cmen ready passed k h its;
       spike-wrrr = λ engine table sent came ready s struck. (

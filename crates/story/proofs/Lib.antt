@@ -28,6 +28,7 @@ pub mod Spikes
 pub mod Counted
 pub mod Missed
 pub mod Sharp
+pub mod OneMissed
 pub mod Snapshot
 pub mod Along
 pub mod OneMoment

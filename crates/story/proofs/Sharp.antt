@@ -112,7 +112,7 @@ pub record Sharp : Type 0 where
 
 -- ---- the write
 
-eleven-is-ours : Ours (Writes Wrcfgb) 2 writeSent
+pub eleven-is-ours : Ours (Writes Wrcfgb) 2 writeSent
 unfolding commandOf commands buildRefusals frameFor body sealed seal twoBytes commandCheck pec15 dataPec writeData farthestFirst joined rows once step remainder bitsOf bitsOfBytes _⊕_ xor odd
 eleven-is-ours =
     record {
@@ -137,7 +137,7 @@ unfolding unhitAwake unhit ownIn rowAt same count tabulate
 both-hit table =
     ap₂ (λ (near far : Bool). cond near 1 0 + (cond far 1 0 + 0)) (and-false (not (inLpcm (rowAt recordSize 0 table)))) (and-false (not (inLpcm (rowAt recordSize 1 table))))
 
-not-wrrr : Wrcfgb ≡ Wrrr → ⊥
+pub not-wrrr : Wrcfgb ≡ Wrrr → ⊥
 not-wrrr e = let z : _≡_ {A = ℕ} 0 1 = cc in omega arith
 
 eleven-spike : Spike 11 writeSent writeCame
