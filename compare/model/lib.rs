@@ -1,4 +1,4 @@
-//! Document 01, with requests L1, L2, L3, L6 and L8 of document 02, written once more from the papers alone: one file for each section.
+//! Document 01, with requests L1, L2, L3, L5, L6 and L8 of document 02, written once more from the papers alone: one file for each section.
 //!
 //! It shares nothing with the proved code, so that a difference between the two shows a mistake in one of them. Each public function
 //! stands beside a function of include/oskorbine.h and packs its answer the same way. Nothing here allocates.
@@ -30,6 +30,8 @@ mod worked_heartbeat;
 mod worked_lpcm;
 #[cfg(test)]
 mod worked_measurement;
+#[cfg(test)]
+mod worked_missed;
 #[cfg(test)]
 mod worked_retention;
 #[cfg(test)]

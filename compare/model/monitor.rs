@@ -8,6 +8,9 @@ use crate::commands::{at, Bare, Read, Write};
 pub const RECORD: usize = 170;
 pub type Record = [u8; RECORD];
 
+/// The counter has six bits.
+pub const MOST_COUNT: u8 = 63;
+
 /// The cells, their copy and the last measurement as well: sixteen of two bytes.
 const CELL_BYTES: usize = 32;
 pub const CLEARED: i16 = -32768;
@@ -27,7 +30,7 @@ pub const CMF_BTMWD: u8 = 1 << 1;
 pub const CMF_BTMCMP: u8 = 1 << 0;
 
 pub fn sound(record: &Record) -> bool {
-    record[at::COUNTER] <= 63 && record[at::UNLOCKED] <= 1
+    record[at::COUNTER] <= MOST_COUNT && record[at::UNLOCKED] <= 1
 }
 
 pub fn reply(record: &Record, read: Read) -> [u8; 8] {
@@ -143,9 +146,9 @@ pub fn keep_measurement(record: &mut Record) {
     record.copy_within(at::CELLS..at::CELLS + CELL_BYTES, at::LAST);
 }
 
-/// After 63 comes 1: 0 stands for a reset.
+/// After the most comes 1: 0 stands for a reset.
 fn count(record: &mut Record) {
-    record[at::COUNTER] = if record[at::COUNTER] == 63 { 1 } else { record[at::COUNTER] + 1 };
+    record[at::COUNTER] = if record[at::COUNTER] == MOST_COUNT { 1 } else { record[at::COUNTER] + 1 };
 }
 
 fn set_cell(record: &mut Record, cell: usize, code: i16) {

@@ -11,7 +11,7 @@ pub enum Refusal {
     PositionWrong = 7,
     CountWrong = 8,
     CodeCleared = 9,
-    NeitherRight = 10,
+    BothDamaged = 10,
 }
 
 /// What a call comes to: its first and second value, or the refusal that was the first to hold.

@@ -106,7 +106,7 @@ fn checks_of_two_bytes() {
     }
     assert!([ALL, OUTER, SECOND].iter().all(|four| payload_right(four)));
     // The host's check of one payload is of replies, and so of eight bytes only.
-    assert_eq!(check(&ALL), 5);
+    assert_eq!(check(&ALL, 0), 5);
 }
 
 /// CMEN makes CMF1 83h and takes the live cells where CMC_EN is clear, and where it is set changes neither. CMDIS clears that bit alone. CMF0

@@ -24,7 +24,7 @@ fn record(retention: [u8; 6], counter: u8, unlocked: u8) -> [u8; RECORD] {
 
 #[test]
 fn the_two_payloads() {
-    assert_eq!([check(&RIGHT), check(&DAMAGED)], [1 << 8, 2 << 8]);
+    assert_eq!([check(&RIGHT, 0), check(&DAMAGED, 0)], [1 << 8, 2 << 8]);
 }
 
 #[test]

@@ -75,17 +75,18 @@ fn a_spike_in_one_payload_or_over_a_border() {
 }
 
 /// Eleven places, 100_1000_1111: at the start of a payload, over its last data bit, and at its end, where only the counter bits come
-/// otherwise. With x^13 = 0F7h the check of six zero bytes and counter 8 is 314h.
+/// otherwise. With x^13 = 0F7h the check of six zero bytes and counter 8 is 314h. A monitor asks nothing of the counter that came with a
+/// right check (L5).
 #[test]
 fn eleven_places_can_get_through() {
-    for (first, flips, came, six) in [
-        (4, &[0x91, 0xE0][..], [0x91, 0xE0, 0, 0, 0, 1, 0x00, 0xD4], [0x91, 0xE0, 0, 0, 0, 1]),
-        (9, &[0x01, 0x23, 0xC0], [0, 0, 0, 0, 0, 0, 0x23, 0x14], [0; 6]),
-        (10, &[0x04, 0x8F], [0, 0, 0, 0, 0, 1, 0x04, 0x5B], [0, 0, 0, 0, 0, 1]),
+    for (first, flips, came, counter, six) in [
+        (4, &[0x91, 0xE0][..], [0x91, 0xE0, 0, 0, 0, 1, 0x00, 0xD4], 0, [0x91, 0xE0, 0, 0, 0, 1]),
+        (9, &[0x01, 0x23, 0xC0], [0, 0, 0, 0, 0, 0, 0x23, 0x14], 8, [0; 6]),
+        (10, &[0x04, 0x8F], [0, 0, 0, 0, 0, 1, 0x04, 0x5B], 1, [0, 0, 0, 0, 0, 1]),
     ] {
         let frame = struck(&wrcfgb(), first, flips);
         assert_eq!(frame[4..12], came);
-        assert_eq!(check(&came), 1 << 8);
+        assert_eq!(check(&came, counter), 1 << 8);
         let mut table = [set_to(STOOD, 63, 1), set_to(STOOD, 9, 1)];
         assert_eq!(sent(&mut table, &frame), (2 << 8, vec![]));
         assert_eq!(table, [set_to([0; 6], 1, 0), set_to(six, 10, 0)]);
