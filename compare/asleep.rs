@@ -2,6 +2,7 @@
 
 use crate::inputs::{self, at, in_lpcm, limits_from, set_lpcm, set_thresholds, CLEARED, CMF0, RECORD};
 use crate::random::Random;
+pub use crate::surface::{PORT_A, PORT_B};
 use std::ops::RangeInclusive;
 
 pub const CUV: u8 = 1 << 0;
@@ -21,8 +22,6 @@ const DIR: u8 = 0x20;
 /// Pending diagnostics in status C.
 pub const DIAGNOSTICS: [(usize, u8); 2] = [(at::STATUS_C + 4, 0xF0), (at::STATUS_C + 5, 0xD3)];
 
-pub const PORT_A: u32 = 1;
-pub const PORT_B: u32 = 2;
 pub const PORTS: [u32; 2] = [PORT_A, PORT_B];
 
 #[derive(Clone, Copy, Debug, PartialEq, Eq)]

@@ -1,7 +1,7 @@
 //! The host's functions and the readings, the same call to the library and to the model, and everything compared after it.
 
 use crate::difference::{listed, refused, Difference, Faults};
-use crate::inputs::{shape, values_owed, Shape, CMHB, MOST};
+use crate::inputs::{carried, shape, values_owed, Part, Shape, CMHB, MOST, MOST_COUNT};
 use crate::lent::{Both, Lent};
 use crate::messages::{Message, PASS_COUNT};
 use crate::run::{Answered, Done, Run, Written};
@@ -49,36 +49,149 @@ pub fn built(run: &mut Run, command: u16, monitors: usize, values: &[u8]) -> Res
     Ok(out)
 }
 
-pub fn check(run: &mut Run, payload: &[u8]) -> Answered {
+pub fn check(run: &mut Run, payload: &[u8], expected: u8) -> Answered {
     let lent = Lent::new(&mut run.random, payload);
     run.begin();
-    let library = surface::check(lent.part());
+    let library = surface::check(lent.part(), expected);
 
     let mut faults = Faults::new();
-    faults.answer(library, model::check(payload));
+    faults.answer(library, model::check(payload, expected));
     faults.kept("payload", &lent, payload);
-    run.settle(Function::Check, library, faults, || vec![("payload", listed(payload))])?;
-    run.tally.of_host_if(OfHost::PayloadRight, library >> 8 == 1);
-    run.tally.of_host_if(OfHost::PayloadDamaged, library >> 8 == 2);
+    run.settle(Function::Check, library, faults, || vec![("payload", listed(payload)), ("expected", expected.to_string())])?;
+    note_check(run, payload, expected, library);
     Ok(library)
 }
 
-pub fn two_ports(run: &mut Run, a: &[u8], b: &[u8], monitors: usize, position: usize) -> Answered {
+fn note_check(run: &mut Run, payload: &[u8], expected: u8, answer: u32) {
+    let mut did_if = |what, came_up| run.tally.of_host_if(what, came_up);
+    if payload.len() != 8 {
+        did_if(OfHost::CheckLength, answer == 5);
+        did_if(OfHost::CheckCounterAndLength, answer == 7);
+        return;
+    }
+    let (received, part) = (carried(payload), Part::of(payload, expected));
+    let damaged = part == Part::Damaged;
+    did_if(OfHost::CheckCounter, answer == 7 && !damaged);
+    did_if(OfHost::CheckCounterDamaged, answer == 7 && damaged);
+    did_if(OfHost::CheckCounterLowBits, answer == 7 && !damaged && received == expected & MOST_COUNT);
+    if answer == 7 {
+        return;
+    }
+    did_if(OfHost::PayloadRight, part == Part::Right);
+    did_if(OfHost::PayloadRightAt0, part == Part::Right && expected == 0);
+    did_if(OfHost::PayloadRightAt63, part == Part::Right && expected == MOST_COUNT);
+    let differs = part == Part::Differs;
+    did_if(OfHost::CounterDiffers, differs);
+    did_if(OfHost::Counter0Received, differs && received == 0);
+    did_if(OfHost::Counter0Expected, differs && expected == 0);
+    did_if(OfHost::CounterBitAway, differs && (received ^ expected).is_power_of_two());
+    did_if(OfHost::CounterOneBehind, differs && received + 1 == expected);
+    did_if(OfHost::Counter63Before1, differs && (received, expected) == (MOST_COUNT, 1));
+    did_if(OfHost::DamagedAtExpected, damaged && received == expected);
+    did_if(OfHost::DamagedAtOther, damaged && received != expected);
+}
+
+/// What two ports are asked.
+pub struct Ports<'a> {
+    pub a: &'a [u8],
+    pub b: &'a [u8],
+    pub monitors: usize,
+    pub position: usize,
+    pub expected: u8,
+}
+
+pub fn two_ports(run: &mut Run, asked: &Ports) -> Answered {
+    let &Ports { a, b, monitors, position, expected } = asked;
     let lent_a = Lent::new(&mut run.random, a);
     let lent_b = Lent::new(&mut run.random, b);
     run.begin();
-    let library = surface::two_ports(lent_a.part(), lent_b.part(), monitors, position);
+    let library = surface::two_ports(lent_a.part(), lent_b.part(), monitors, position, expected);
 
     let mut faults = Faults::new();
-    faults.answer(library, model::two_ports(a, b, monitors, position));
+    faults.answer(library, model::two_ports(a, b, monitors, position, expected));
     faults.kept("a", &lent_a, a);
     faults.kept("b", &lent_b, b);
     run.settle(Function::TwoPorts, library, faults, || {
-        vec![("a", listed(a)), ("b", listed(b)), ("monitors", monitors.to_string()), ("position", position.to_string())]
+        vec![
+            ("a", listed(a)),
+            ("b", listed(b)),
+            ("monitors", monitors.to_string()),
+            ("position", position.to_string()),
+            ("expected", expected.to_string()),
+        ]
     })?;
-    run.tally.of_host_if(OfHost::PortA, library >> 8 & 0xFF == 1);
-    run.tally.of_host_if(OfHost::PortB, library >> 8 & 0xFF == 2);
+    if refused(library) && library != 10 {
+        note_ports_refused(run, asked, library);
+    } else {
+        note_ports(run, asked);
+    }
     Ok(library)
+}
+
+/// Which reasons there were, of those that a refusal may have.
+fn note_ports_refused(run: &mut Run, asked: &Ports, number: u32) {
+    let &Ports { a, b, monitors, position, expected } = asked;
+    let whole = |reply: &[u8]| reply.len() % 8 == 0 && reply.len() / 8 == monitors;
+    let counter = expected > MOST_COUNT;
+    let wrong_n = !(1..=MOST).contains(&monitors);
+    let wrong_position = !wrong_n && !(1..=monitors).contains(&position);
+    let [long_a, long_b] = [!whole(a), !whole(b)];
+    let length = long_a || long_b;
+    // Where both replies have the place.
+    let parts = || {
+        Some([
+            Part::of(a.get(8 * (position - 1)..)?.get(..8)?, expected),
+            Part::of(b.get(8 * (monitors - position)..)?.get(..8)?, expected),
+        ])
+    };
+    let both_damaged = !wrong_n && !wrong_position && parts() == Some([Part::Damaged; 2]);
+    let mut did_if = |what, came_up| run.tally.of_host_if(what, came_up);
+    if number == 5 {
+        did_if(OfHost::PortsLengthA, long_a && !long_b);
+        did_if(OfHost::PortsLengthB, long_b && !long_a);
+        did_if(OfHost::PortsLengthBoth, long_a && long_b);
+        did_if(OfHost::PortsLengthDamaged, both_damaged);
+        return;
+    }
+    let beside = wrong_n || wrong_position;
+    did_if(OfHost::PortsCounter, counter && !beside && !length && !both_damaged);
+    did_if(OfHost::PortsCounterAndN, counter && wrong_n);
+    did_if(OfHost::PortsCounterAndPosition, counter && wrong_position);
+    did_if(OfHost::PortsCounterAndLength, counter && !beside && length);
+    did_if(OfHost::PortsCounterDamaged, counter && !beside && !length && both_damaged);
+    did_if(OfHost::PortsN, wrong_n && !counter);
+    did_if(OfHost::PortsPosition, wrong_position && !counter && !length);
+    did_if(OfHost::PortsPositionAndLength, wrong_position && !counter && length);
+}
+
+/// What lay at both ports; which of them was chosen is compared.
+fn note_ports(run: &mut Run, asked: &Ports) {
+    let &Ports { a, b, monitors, position, expected } = asked;
+    let [eight_a, eight_b] = [&a[8 * (position - 1)..][..8], &b[8 * (monitors - position)..][..8]];
+    let [counter_a, counter_b] = [eight_a, eight_b].map(carried);
+    let parts = [eight_a, eight_b].map(|eight| Part::of(eight, expected));
+    let mut did_if = |what, came_up| run.tally.of_host_if(what, came_up);
+    did_if(
+        match parts {
+            [Part::Right, Part::Right] => OfHost::ABesideRight,
+            [Part::Right, Part::Differs] => OfHost::ABesideDiffering,
+            [Part::Right, Part::Damaged] => OfHost::ABesideDamaged,
+            [Part::Differs, Part::Right] => OfHost::BForDiffering,
+            [Part::Damaged, Part::Right] => OfHost::BForDamaged,
+            [Part::Differs, Part::Differs] => OfHost::ADiffersBesideDiffering,
+            [Part::Differs, Part::Damaged] => OfHost::ADiffersBesideDamaged,
+            [Part::Damaged, Part::Differs] => OfHost::BDiffersForDamaged,
+            [Part::Damaged, Part::Damaged] => OfHost::BothDamaged,
+        },
+        true,
+    );
+    let both_differ = parts == [Part::Differs; 2];
+    did_if(OfHost::TwoOtherCounters, both_differ && counter_a != counter_b);
+    did_if(OfHost::OneOtherCounter, both_differ && counter_a == counter_b);
+    did_if(OfHost::BDiffersForExpected, parts == [Part::Damaged, Part::Differs] && counter_a == expected);
+    did_if(OfHost::ADiffersBesideExpected, parts == [Part::Differs, Part::Damaged] && counter_b == expected);
+    did_if(OfHost::BothDamagedAtExpected, parts == [Part::Damaged; 2] && counter_a == expected && counter_b == expected);
+    did_if(OfHost::BothDamagedAtOther, parts == [Part::Damaged; 2] && counter_a != expected && counter_b != expected);
 }
 
 /// What came of a heartbeat; the time ran out where the value is not 0.

@@ -215,6 +215,83 @@ pub fn damaged_payload(random: &mut Random, bytes: usize) -> Vec<u8> {
     }
 }
 
+/// The counter has six bits.
+pub const MOST_COUNT: u8 = 63;
+
+/// What eight bytes of a reply are to a host that expects a counter (L5).
+#[derive(Clone, Copy, Debug, PartialEq, Eq)]
+pub enum Part {
+    Right,
+    /// Right but for its counter.
+    Differs,
+    Damaged,
+}
+
+impl Part {
+    pub const ALL: [Part; 3] = [Part::Right, Part::Differs, Part::Damaged];
+
+    pub fn of(eight: &[u8], expected: u8) -> Part {
+        if is_damaged(eight) {
+            Part::Damaged
+        } else if carried(eight) == expected {
+            Part::Right
+        } else {
+            Part::Differs
+        }
+    }
+
+    /// Any such part, where the host expects a counter of 0 to 63. A damaged one carries that counter or another.
+    pub fn any(self, random: &mut Random, expected: u8) -> Vec<u8> {
+        let data = random.bytes(6);
+        match self {
+            Part::Right => with_check(&data, expected),
+            Part::Differs => with_check(&data, other_counter(random, expected)),
+            Part::Damaged => loop {
+                let sealed = if random.once_in(2) { expected } else { other_counter(random, expected) };
+                let mut eight = with_check(&data, sealed);
+                if random.once_in(3) {
+                    carry(&mut eight, expected);
+                }
+                damage(random, &mut eight);
+                if is_damaged(&eight) {
+                    return eight;
+                }
+            },
+        }
+    }
+}
+
+/// The counter bits of a payload of eight bytes, whatever its check.
+pub fn carried(eight: &[u8]) -> u8 {
+    eight[6] >> 2
+}
+
+/// Other counter bits, and the check as it was.
+pub fn carry(eight: &mut [u8], counter: u8) {
+    eight[6] = counter << 2 | eight[6] & 0x03;
+}
+
+/// A counter of 0 to 63 that is not this one: one bit away, one beside it, or any.
+pub fn other_counter(random: &mut Random, counter: u8) -> u8 {
+    loop {
+        let [bit, any] = [1 << random.below(6), random.below(64) as u8];
+        let other = random.pick(&[counter ^ bit, counter.wrapping_add(1), counter.wrapping_sub(1), 0, any]);
+        if other != counter && other <= MOST_COUNT {
+            return other;
+        }
+    }
+}
+
+/// An expected counter that is none, often with the six low bits of this one.
+pub fn no_counter(random: &mut Random, counter: u8) -> u8 {
+    let high = random.pick(&[0x40, 0x80, 0xC0]);
+    match random.below(3) {
+        0 => random.pick(&[64, 65, 127, 128, 255]),
+        1 => high | random.below(64) as u8,
+        _ => high | counter,
+    }
+}
+
 /// Right payloads of so many bytes, or some damaged, or all.
 pub fn payloads(random: &mut Random, bytes: usize, monitors: usize) -> Vec<u8> {
     let damaged_of_four = random.pick(&[0, 0, 1, 2, 4]);

@@ -3,7 +3,7 @@
 
 use crate::inputs::RECORD;
 use crate::run::{Kind, Run, CALLS};
-use crate::surface::{Function, CLOCK_STATE};
+use crate::surface::{Function, CLOCK_STATE, COUNTER_DIFFERS, DAMAGED, PORT_A, PORT_A_DIFFERS, PORT_B, PORT_B_DIFFERS, RIGHT};
 use std::process::ExitCode;
 use std::sync::atomic::Ordering;
 
@@ -102,6 +102,9 @@ fn header_is_as_declared() -> Result<(), String> {
         format!("#define OSK_RECORD_SIZE {RECORD}"),
         format!("#define OSK_OUTPUT_ON {:#x}", model::OUTPUT_ON),
         format!("#define OSK_CLOCK_STATE {CLOCK_STATE}"),
+        format!("enum {{ OSK_RIGHT = {RIGHT}, OSK_DAMAGED = {DAMAGED}, OSK_COUNTER_DIFFERS = {COUNTER_DIFFERS} }};"),
+        format!("enum {{ OSK_PORT_A = {PORT_A}, OSK_PORT_B = {PORT_B} }};"),
+        format!("enum {{ OSK_PORT_A_DIFFERS = {PORT_A_DIFFERS}, OSK_PORT_B_DIFFERS = {PORT_B_DIFFERS} }};"),
     ];
     match defined.iter().find(|&wanted| HEADER.lines().all(|line| line != wanted)) {
         Some(missing) => Err(format!("include/oskorbine.h has no line '{missing}'")),

@@ -4,6 +4,15 @@
 
 pub const CLOCK_STATE: usize = 264;
 
+/// First values: of a check, and of two ports, where a port's counter may differ.
+pub const RIGHT: u32 = 1;
+pub const DAMAGED: u32 = 2;
+pub const COUNTER_DIFFERS: u32 = 3;
+pub const PORT_A: u32 = 1;
+pub const PORT_B: u32 = 2;
+pub const PORT_A_DIFFERS: u32 = 3;
+pub const PORT_B_DIFFERS: u32 = 4;
+
 /// The functions by number: the order of the tallies.
 #[derive(Clone, Copy, Debug, PartialEq, Eq)]
 pub enum Function {
@@ -87,7 +96,8 @@ impl Function {
             Function::Discharge | Function::Wake | Function::Heartbeat => &[1, 6, 7],
             Function::Relay => &[1, 5, 6, 7],
             Function::HostFrame => &[4, 6, 7, 8],
-            Function::Check | Function::Verdict => &[5],
+            Function::Check => &[5, 7],
+            Function::Verdict => &[5],
             Function::TwoPorts => &[5, 7, 10],
             Function::ClockWindow => &[6, 7],
             Function::ClockRelease => &[1, 2, 3, 4, 5],
@@ -139,8 +149,16 @@ mod c {
             out: *mut u8,
             out_length: usize,
         ) -> u32;
-        pub fn osk_check(payload: *const u8, payload_length: usize) -> u32;
-        pub fn osk_two_ports(a: *const u8, a_length: usize, b: *const u8, b_length: usize, monitors: usize, position: usize) -> u32;
+        pub fn osk_check(payload: *const u8, payload_length: usize, expected: u8) -> u32;
+        pub fn osk_two_ports(
+            a: *const u8,
+            a_length: usize,
+            b: *const u8,
+            b_length: usize,
+            monitors: usize,
+            position: usize,
+            expected: u8,
+        ) -> u32;
         pub fn osk_verdict(message: *const u8, message_length: usize, time_ran_out: u8) -> u32;
         pub fn osk_clock_start(state: *mut u8);
         pub fn osk_clock_byte(state: *mut u8, table: *const u8, table_length: usize, byte: u8) -> u32;
@@ -192,12 +210,12 @@ pub fn host_frame(command: u16, monitors: usize, values: &[u8], out: &mut [u8]) 
     unsafe { c::osk_host_frame(command, monitors, values.as_ptr(), values.len(), out.as_mut_ptr(), out.len()) }
 }
 
-pub fn check(payload: &[u8]) -> u32 {
-    unsafe { c::osk_check(payload.as_ptr(), payload.len()) }
+pub fn check(payload: &[u8], expected: u8) -> u32 {
+    unsafe { c::osk_check(payload.as_ptr(), payload.len(), expected) }
 }
 
-pub fn two_ports(a: &[u8], b: &[u8], monitors: usize, position: usize) -> u32 {
-    unsafe { c::osk_two_ports(a.as_ptr(), a.len(), b.as_ptr(), b.len(), monitors, position) }
+pub fn two_ports(a: &[u8], b: &[u8], monitors: usize, position: usize, expected: u8) -> u32 {
+    unsafe { c::osk_two_ports(a.as_ptr(), a.len(), b.as_ptr(), b.len(), monitors, position, expected) }
 }
 
 pub fn verdict(message: &[u8], time_ran_out: u8) -> u32 {

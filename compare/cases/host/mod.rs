@@ -2,10 +2,16 @@
 
 mod frames;
 mod payloads;
+mod ports;
 mod readings;
 mod verdicts;
 
 use crate::run::Kind;
 
-pub const KINDS: [Kind; 4] =
-    [("host frames", frames::cases), ("payloads", payloads::cases), ("readings", readings::cases), ("verdicts", verdicts::cases)];
+pub const KINDS: [Kind; 5] = [
+    ("host frames", frames::cases),
+    ("payloads", payloads::cases),
+    ("two ports", ports::cases),
+    ("readings", readings::cases),
+    ("verdicts", verdicts::cases),
+];
