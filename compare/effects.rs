@@ -2,8 +2,8 @@
 //! effect counts once a frame.
 
 use crate::inputs::{
-    at, data_of, differ, first_code, frame_length, head, in_lpcm, is_damaged, own_bytes, set_lpcm, shape, snapped, with_check, Shape,
-    CLRCMFLAG, CMF0, CMF1, CMHB, RECORD, WRCMCELLT, WRCMGPIOT, WRRR,
+    at, data_of, differ, first_code, frame_length, head, in_lpcm, is_damaged, needs_check, own_bytes, set_lpcm, shape, snapped, with_check,
+    Shape, CLRCMFLAG, CMF0, CMF1, CMHB, RECORD, WRCMCELLT, WRCMGPIOT, WRRR,
 };
 use crate::lent::Both;
 use crate::run::Run;
@@ -28,6 +28,11 @@ struct Received<'a> {
 impl Received<'_> {
     fn taken(&self) -> bool {
         self.before[at::COUNTER] != self.after[at::COUNTER]
+    }
+
+    /// The counter bits of its payload.
+    fn carries(&self) -> u8 {
+        self.sent[data_of(self.sent).len()] >> 2
     }
 
     fn in_lpcm(&self) -> bool {
@@ -127,6 +132,10 @@ fn note_write(code: u16, all: &[Received], did_if: &mut dyn FnMut(Effect, bool))
     let took = all.iter().filter(|one| one.taken()).count();
     did_if(Effect::TakenBySome, 0 < took && took < all.len());
     did_if(Effect::TakenByNone, took == 0);
+    did_if(
+        Effect::TakenWithCounter,
+        needs_check(code) && any(&|one| one.taken() && ![0, one.before[at::COUNTER]].contains(&one.carries())),
+    );
     let in_lpcm = all.iter().filter(|one| one.in_lpcm()).count();
     did_if(Effect::LpcmNone, all.len() > 1 && in_lpcm == 0 && took == all.len());
     did_if(Effect::LpcmSome, took > 0 && any(&|one| one.in_lpcm() && !one.damaged && !one.taken() && one.would_show(code)));

@@ -50,7 +50,7 @@ pub const LISTED: [(u16, &str); 38] = [
     (CLRCMFLAG, "CLRCMFLAG"),
     (0x0028, "MUTE"),
     (0x0029, "UNMUTE"),
-    (0x002E, "RSTCC"),
+    (RSTCC, "RSTCC"),
     (0x0038, "ULRR"),
     (0x0711, "CLRCELL"),
     (SNAP, "SNAP"),
@@ -61,6 +61,7 @@ pub const LISTED: [(u16, &str); 38] = [
 const READS: Range<usize> = 0..18;
 const WRITES: Range<usize> = 18..29;
 pub const WRRR: u16 = 0x0039;
+pub const RSTCC: u16 = 0x002E;
 pub const SNAP: u16 = 0x002D;
 pub const UNSNAP: u16 = 0x002F;
 pub const CMDIS: u16 = 0x0040;
@@ -109,8 +110,16 @@ pub fn first_code(frame: &[u8]) -> u16 {
     u16::from_be_bytes([frame[0], frame[1]])
 }
 
+pub fn reads() -> impl Iterator<Item = u16> {
+    LISTED[READS].iter().map(|(code, _)| *code)
+}
+
 pub fn writes() -> impl Iterator<Item = u16> {
     LISTED[WRITES].iter().map(|(code, _)| *code)
+}
+
+pub fn bare_commands() -> impl Iterator<Item = u16> {
+    LISTED[WRITES.end..].iter().map(|(code, _)| *code)
 }
 
 /// One monitor's bytes of a reply: six of data and two of check.

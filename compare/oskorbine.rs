@@ -18,6 +18,7 @@ mod lent;
 mod lpcm;
 mod measured;
 mod messages;
+mod missed;
 mod outputs;
 mod program;
 mod random;

@@ -94,9 +94,7 @@ impl Sent {
 
     /// The places of the payload that comes after so many others: first the farthest monitor's.
     pub fn payload(&self, after: usize) -> Range<usize> {
-        let places = 8 * own_bytes(self.code());
-        let first = COMMAND.end + places * after;
-        first..first + places
+        payload_places(self.code(), after)
     }
 
     pub fn expect<T: PartialEq + Debug>(&self, run: &mut Run, found_and_expected: (T, T)) -> Done {
@@ -180,6 +178,13 @@ impl Sent {
         self.count(run, spike, &came, &found, |struck, run| struck.note_sixteen(run));
         Ok(())
     }
+}
+
+/// The places of the payload that comes after so many others in a write of this code.
+pub fn payload_places(code: u16, after: usize) -> Range<usize> {
+    let places = 8 * own_bytes(code);
+    let first = COMMAND.end + places * after;
+    first..first + places
 }
 
 /// What a whole frame answers, and leaves of a table of its own.

@@ -4,6 +4,10 @@
 use crate::random::Random;
 use std::ops::Range;
 
+/// Within so many places the check of a payload, and that of a command, tells every spike.
+pub const DATA_PLACES: usize = 10;
+pub const COMMAND_PLACES: usize = 15;
+
 /// The places of the longest spike that is tried.
 const LONGEST: usize = 16;
 
@@ -38,6 +42,12 @@ impl Spike {
     pub fn any(random: &mut Random, places: Range<usize>, most: usize) -> Spike {
         let width = random.within(1, most.min(places.len()));
         Spike::of_width(random, places, width)
+    }
+
+    /// Any of exactly so many places, some of them on either side of a border.
+    pub fn over(random: &mut Random, border: usize, width: usize) -> Spike {
+        let before = random.within(1, width - 1);
+        Spike::at(random, border - before, width)
     }
 
     /// Each one of up to `most` places that are all among these.

@@ -27,6 +27,7 @@ macro_rules! situations {
 situations! { Effect:
     TakenBySome: "a write taken by some monitors only",
     TakenByNone: "a write taken by none",
+    TakenWithCounter: "a write taken with counter bits that are neither 0 nor the monitor's own counter",
     CounterAfter63: "a counter of 63 becomes 1",
     WrcfgaWhileMuted: "WRCFGA taken while muted",
     WrrrStores: "WRRR stores a right payload",
@@ -367,6 +368,29 @@ situations! { Situation:
     BridgelessNightPassed: "RDCMFLAG shows a timeout monitor's flags after CMEN, a heartbeat that passes, the end of the time, and another",
     BridgelessNightFailed: "RDCMFLAG shows a timeout monitor's flags after CMEN, a heartbeat that fails, the end of the time, and another",
     NightCleared: "CMDIS, CLRCMFLAG, CMEN, a heartbeat, and the host's verdict is passed again",
+    MissedByNone: "a write to several monitors with one counter that is not hit, and the next read is right at all",
+    MissedByOnly: "a write hit at the only monitor, and the next read shows its old counter",
+    MissedByOne: "a write hit at one of several monitors with one counter, and the next read shows its old counter alone",
+    MissedByNearest: "a write hit at the nearest of several monitors with one counter, which alone shows it",
+    MissedByFarthest: "a write hit at the farthest of several monitors with one counter, which alone shows it",
+    MissedBySeveral: "a write hit at some of the monitors with one counter, two or more, and they alone show it",
+    MissedByAll: "a write hit at all of several monitors with one counter, and all show it",
+    MissedOverBorder: "a write hit over the border of two payloads, and both monitors alone show it",
+    MissedAt63: "a write hit at a monitor whose counter of 63 shows where 1 is expected",
+    MissedAt0: "a write hit at a monitor whose counter of 0 shows where 1 is expected",
+    MissedOtherCounters: "a write hit at some monitors of a chain with several counters, and they alone show it",
+    MissedInLpcm: "a write not hit, and a monitor in LPCM shows that it missed it where another took it",
+    MissedAllInLpcm: "a write to several monitors in LPCM, and all show that they missed it",
+    MissedHitAndInLpcm: "a write hit at one monitor, missed by another in LPCM and taken by a third, and the two alone show it",
+    WrrrNotSeen: "WRRR hit at a monitor that takes it all the same, and the next read is right there",
+    WrrrInLpcmSeen: "WRRR hit at a monitor where it does not show, and missed by one in LPCM where it does",
+    MissedRefused: "a write refused for its command, and all of several monitors show it",
+    MissedBare: "a bare command refused for its command, and all of several monitors show it",
+    MissedRstcc: "RSTCC refused for its command, and a monitor shows it by another counter than 0",
+    MissedRstccAt0: "RSTCC refused for its command, which does not show at a counter of 0",
+    EarlierAtA: "port A read before a write and port B after it, and B is chosen where it was taken",
+    EarlierMissed: "port A read before a write and port B after it, and A is chosen, with the old counter, where it was missed",
+    MissedAllRound: "63 writes missed in a row, each of which shows but the last",
 }
 
 // What must come up for each operation of the heartbeat that it can come up for.
@@ -423,6 +447,10 @@ situations! { OfCommand:
     HitOverBorder: "with two payloads hit by a spike not taken there",
     HitInLpcm: "hit by a spike at a monitor in LPCM that keeps its record",
     Slipped: "with eleven places that get through stored",
+    Missed: "hit by a spike, and the next read shows the old counter",
+    MissedInLpcm: "not hit, and the next read shows the old counter in LPCM",
+    MissedWhole: "refused for its command, and the next read shows the old counter",
+    ShowedMissed: "shows the old counter of a monitor that missed a frame",
 }
 
 impl OfCommand {
@@ -431,7 +459,10 @@ impl OfCommand {
         match self {
             OfCommand::Accepted | OfCommand::Struck => true,
             OfCommand::NotTaken | OfCommand::Hit | OfCommand::HitOverBorder => needs_check(code),
-            OfCommand::NotTakenInLpcm | OfCommand::HitInLpcm | OfCommand::Slipped => write,
+            OfCommand::Missed => needs_check(code),
+            OfCommand::MissedWhole => shape(code) != Some(Shape::Read),
+            OfCommand::ShowedMissed => shape(code) == Some(Shape::Read),
+            OfCommand::NotTakenInLpcm | OfCommand::HitInLpcm | OfCommand::Slipped | OfCommand::MissedInLpcm => write,
             OfCommand::TakenInLpcm => !write,
             OfCommand::ShowedCopy | OfCommand::ShowedLive => part_shown(code).is_some(),
         }

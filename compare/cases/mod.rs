@@ -9,6 +9,7 @@ mod loads;
 mod long_runs;
 mod lpcm;
 mod measurements;
+mod missed;
 mod never_started;
 mod nights;
 mod relays;
@@ -22,7 +23,7 @@ use crate::run::Kind;
 use crate::tally::NEVER_STARTED;
 
 /// All but the host's.
-pub const KINDS: [Kind; 16] = [
+pub const KINDS: [Kind; 17] = [
     ("frames", frames::cases),
     ("tables", tables::cases),
     ("stores", stores::cases),
@@ -37,6 +38,7 @@ pub const KINDS: [Kind; 16] = [
     ("heartbeats", heartbeats::cases),
     ("nights", nights::cases),
     ("spikes", spikes::cases),
+    ("missed commands", missed::cases),
     ("long runs", long_runs::cases),
     (NEVER_STARTED, never_started::cases),
 ];

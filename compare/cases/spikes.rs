@@ -3,14 +3,11 @@
 use crate::inputs::{self, own_bytes, writes, CLRCMFLAG, LISTED, MOST};
 use crate::run::{Done, Run};
 use crate::sent::{Sent, COMMAND};
-use crate::spike::Spike;
+use crate::spike::{Spike, COMMAND_PLACES, DATA_PLACES};
 
 const WRCFGB: u16 = 0x0024;
 
-/// Within so many places the check tells every spike.
-const DATA_PLACES: usize = 10;
-const COMMAND_PLACES: usize = 15;
-/// The spike of one place more that it does not tell.
+/// The spike of one place more that each check does not tell.
 const DATA_POLYNOMIAL: u16 = 0x48F;
 const COMMAND_POLYNOMIAL: u16 = 0xC599;
 
@@ -46,12 +43,6 @@ fn every_write_at_every_n(run: &mut Run) -> Done {
     Ok(())
 }
 
-/// A spike of so many places, some of them on either side of a border.
-fn over(run: &mut Run, border: usize, width: usize) -> Spike {
-    let before = run.random.within(1, width - 1);
-    Spike::at(&mut run.random, border - before, width)
-}
-
 /// Each border of each N with any write, and of a short chain with every write.
 fn each_border(run: &mut Run) -> Done {
     let all: Vec<u16> = writes().collect();
@@ -60,7 +51,7 @@ fn each_border(run: &mut Run) -> Done {
         for &code in if monitors <= 6 { &all[..] } else { &any } {
             let sent = Sent::new(run, code, monitors)?;
             let width = if run.random.once_in(2) { DATA_PLACES } else { run.random.within(2, DATA_PLACES) };
-            let spike = over(run, sent.payload(after).start, width);
+            let spike = Spike::over(&mut run.random, sent.payload(after).start, width);
             sent.strike(run, spike)?;
         }
     }
@@ -73,7 +64,7 @@ fn ten_of_every_write(run: &mut Run) -> Done {
         let monitors = run.random.within(2, 4);
         let sent = Sent::telling(run, code, monitors)?;
         let after = run.random.within(1, monitors - 1);
-        let over_border = over(run, sent.payload(after).start, DATA_PLACES);
+        let over_border = Spike::over(&mut run.random, sent.payload(after).start, DATA_PLACES);
         sent.strike(run, over_border)?;
         let in_one = Spike::of_width(&mut run.random, sent.payload(after), DATA_PLACES);
         sent.strike(run, in_one)?;
@@ -162,7 +153,7 @@ fn every_command(run: &mut Run) -> Done {
         ];
         if !sent.payloads().is_empty() {
             let width = run.random.within(2, COMMAND_PLACES);
-            spikes.push(over(run, COMMAND.end, width));
+            spikes.push(Spike::over(&mut run.random, COMMAND.end, width));
         }
         for spike in spikes {
             sent.strike(run, spike)?;

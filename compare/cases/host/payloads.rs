@@ -4,7 +4,7 @@ use crate::host::check;
 use crate::inputs::{self, carried, carry, damage, first_of, no_counter, other_counter, with_check, Part, MOST_COUNT, REPLY};
 use crate::random::Random;
 use crate::run::{Done, Run};
-use crate::spike::Spike;
+use crate::spike::{Spike, DATA_PLACES};
 use crate::surface::{COUNTER_DIFFERS, DAMAGED, RIGHT};
 
 const IS_RIGHT: u32 = RIGHT << 8;
@@ -128,10 +128,10 @@ fn one_bit_faults(run: &mut Run) -> Done {
     Ok(())
 }
 
-/// Within ten places none passes for a missed command, nor for the counter that it makes.
+/// Within ten places none passes for a missed command, nor as right by the counter that it makes.
 fn every_spike(run: &mut Run) -> Done {
     let sent = payload(&mut run.random);
-    for spike in Spike::every(0..8 * REPLY, 10) {
+    for spike in Spike::every(0..8 * REPLY, DATA_PLACES) {
         let came = spike.strike(&sent);
         let expected = run.random.pick(&[carried(&sent), carried(&came)]);
         assert_eq!(check(run, &came, expected)?, IS_DAMAGED, "{sent:02X?} came as {came:02X?}, against {expected}");
