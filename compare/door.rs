@@ -37,6 +37,6 @@ fn main() -> ExitCode {
             Function::Summary,
         ],
         kinds: &[&cases::host::KINDS],
-        least_calls: 900_000,
+        least_calls: 990_000,
     })
 }

@@ -1,10 +1,11 @@
 //! The choice between two ports' replies, by the counter that the host expects (L5).
 
-use crate::host::{two_ports, Ports};
+use crate::difference::refused;
+use crate::host::{check, two_ports, Ports};
 use crate::inputs::{self, first_of, no_counter, other_counter, with_check, Part, MOST, MOST_COUNT, REPLY};
 use crate::random::Random;
 use crate::run::{Done, Run};
-use crate::surface::{PORT_A, PORT_A_DIFFERS, PORT_B, PORT_B_DIFFERS};
+use crate::surface::{COUNTER_DIFFERS, PORT_A, PORT_A_DIFFERS, PORT_B, PORT_B_DIFFERS, RIGHT};
 
 const BOTH_DAMAGED: u32 = 10;
 
@@ -148,7 +149,8 @@ fn each_reason(run: &mut Run) -> Done {
     Ok(())
 }
 
-/// Any payloads, with lengths, positions and counts of monitors that do not belong together.
+/// Any payloads, with lengths, positions and counts of monitors that do not belong together. The part that is handed back, checked by itself,
+/// is what two ports say of it.
 fn mixed(run: &mut Run) -> Done {
     for _ in 0..8_000 {
         let monitors = run.random.within(1, MOST);
@@ -166,7 +168,17 @@ fn mixed(run: &mut Run) -> Done {
         // Half of the payloads carry 0.
         let any = run.random.byte();
         let expected = run.random.pick(&[0, 0, 1, MOST_COUNT, any & MOST_COUNT, any]);
-        two_ports(run, &Ports { a: &a, b: &b, monitors: asked, position, expected })?;
+        let answer = two_ports(run, &Ports { a: &a, b: &b, monitors: asked, position, expected })?;
+        if !refused(answer) {
+            let (reply, verdict) = match answer >> 8 & 0xFF {
+                PORT_A => (&a, RIGHT),
+                PORT_B => (&b, RIGHT),
+                PORT_A_DIFFERS => (&a, COUNTER_DIFFERS),
+                _ => (&b, COUNTER_DIFFERS),
+            };
+            let part = &reply[(answer >> 16) as usize..][..REPLY];
+            assert_eq!(check(run, part, expected)? >> 8 & 0xFF, verdict, "{part:02X?} against {expected}");
+        }
     }
     Ok(())
 }
