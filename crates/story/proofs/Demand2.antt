@@ -100,7 +100,7 @@ use Rattle.story.specs.Snapshots.{snappedAfter}
 use Rattle.story.specs.Growth.{size01, sizeL2, sizeL6, sizeL8}
 use Rattle.story.specs.Lpcm.{enabledAfter}
 use Rattle.story.specs.Spikes.{StruckData, StruckCommand, ownIn, unhit, unhitOf, unhitAwake, StruckEach, Spoilt}
-use Rattle.story.specs.Missed.{OneCounter, readAfter, fromA, fromB, SeenAs, SomeDiffer}
+use Rattle.story.specs.Missed.{OneCounter, readAfter, fromA, fromB, EachSeen, SeenAs, SomeDiffer}
 use Rattle.story.proofs.Accepted.{frame-refused, write-answer, write-answer-awake, wrrr-answer, read-answer, bare-answer, record-after, reply-own, reply-past, write-no-reply, bare-no-reply, store-done, store-own, store-others, compare-done, compare-own, compare-others, load-done, load-own, load-others, discharge-answer, host-writes}
 use Rattle.story.proofs.OurHost.{own-data, write-taken, write-taken-by-all, bare-taken-by-all, each-keeps-its-own, reply-right, read-taken-by-all, each-reply-its-own, each-reply-right}
 use Rattle.story.specs.ReadsBack.{ReadsBack, as-written, fixed-behind-two, three-thresholds}
@@ -620,16 +620,14 @@ pub record Demand2 : Type 0 where
       byteOf counter (rowAt recordSize k (tableAfter table came room))
       ≡ cond (not (inLpcm r) && unhit (Writes c) (monitors table) sent came k) (nextCount (byteOf counter r)) (byteOf counter r)
   -- so in any chain, each monitor read and judged against its next counter: those whose counter differs are exactly those that were hit and those in LPCM, each with
-  -- its old counter, and all others are right. In the chain's reply, and from both ports (`SeenAs`), k there from 1
+  -- its old counter, and all others are right. In the chain's reply, and from both ports (`EachSeen`)
   missed-read : (table sent came : List ℕ) (room : ℕ) → sound table ≡ true → (c : Write) → (c ≡ Wrrr → ⊥) → Spoilt c (monitors table) sent came
       → (code : ℕ) (part : Part) (buffer : List ℕ) → commandOf code commands ≡ Reads part → payloadSize * monitors table ≤ length buffer → (k : ℕ) → k < monitors table
       → let r = rowAt recordSize k table in
       checked (rowAt payloadSize k (readAfter table came room code buffer)) (nextCount (byteOf counter r))
       ≡ cond (not (inLpcm r) && unhit (Writes c) (monitors table) sent came k) Right (CounterDiffers (byteOf counter r))
   missed-at-ports : (table sent came : List ℕ) (room : ℕ) → sound table ≡ true → (c : Write) → (c ≡ Wrrr → ⊥) → Spoilt c (monitors table) sent came
-      → (part : Part) (k : ℕ) → 1 ≤ k → k ≤ monitors table
-      → let r = rowAt recordSize (k - 1) table in
-      SeenAs part (monitors table) (tableAfter table came room) k (nextCount (byteOf counter r)) (not (inLpcm r) && unhit (Writes c) (monitors table) sent came (k - 1)) (byteOf counter r)
+      → (part : Part) → EachSeen c part table sent came (tableAfter table came room)
   -- a missed write is seen: all N monitors have one counter and none is in LPCM. Against the next counter exactly the monitors that were hit are seen with another,
   -- which is the old one, and all others right, from port A and from port B; and some monitor is seen so where any bit was turned over
   missed-seen : (table sent came : List ℕ) (room : ℕ) → sound table ≡ true → (c : Write) → (c ≡ Wrrr → ⊥) → Spoilt c (monitors table) sent came

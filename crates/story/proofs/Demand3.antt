@@ -7,7 +7,7 @@
 -- (Runs.antt), and the number of monitors stays, so that the reply buffer keeps its room.
 -- Assumes nothing.
 use mathlib.Core.Path.{_≡_, refl, sym, ap, ap₂, _∙_, subst, subst⁻¹}
-use mathlib.Core.Bool.{Bool, true, false, cond, not, _&&_}
+use mathlib.Core.Bool.{Bool, true, false, cond}
 use mathlib.Core.List.{List, [], _∷_, _++_, map}
 use mathlib.Core.Logic.{inl, inr}
 use Prim.Native.Nat.{ℕ, _-_, _*_, _≤_, _<_}
@@ -29,8 +29,8 @@ use Rattle.records.specs.declared.commands.Command.the-variants.{Reads, Writes,
 use Rattle.records.specs.declared.commands.Write.{Write}
 use Rattle.records.specs.declared.commands.Write.the-variants.{Wrrr}
 use Rattle.records.specs.declared.record.Part.{Part}
-use Rattle.records.specs.Record.{cellCount, cells, snapshot, lastCells, recordSize, counter, unlocked, snapped, inLpcm, bytesOf as partOf, byteOf, onBytes}
-use Rattle.monitor.specs.Effects.{locked, nextCount, keeps}
+use Rattle.records.specs.Record.{cellCount, cells, snapshot, lastCells, recordSize, unlocked, snapped, inLpcm, bytesOf as partOf, onBytes}
+use Rattle.monitor.specs.Effects.{locked, keeps}
 use Rattle.monitor.specs.Spares.{Spares}
 use Rattle.monitor.proofs.Keeping.{keeps-none}
 use Rattle.records.specs.Commands.{commands, commandOf, mostMonitors, payloadSize}
@@ -67,7 +67,7 @@ use Rattle.clocked.proofs.Whole.{released-read}
 use Rattle.host.specs.Frames.{frameFor}
 use Rattle.story.specs.Runs.{Store, Compare, Event, Frame, Beside, Seen, Answered, StoreAnswered, CompareAnswered, Left, saw, replyBytes, Step, ruleRefusals, byRules, promised, byFrames, stateAfterAll, cameBack, byBytes, Engine, WholeFrames, ClockedBytes, Ready, by}
 use Rattle.story.specs.Spikes.{StruckData, StruckCommand, ownIn, unhit, unhitAwake, Spoilt}
-use Rattle.story.specs.Missed.{fromA, SeenAs}
+use Rattle.story.specs.Missed.{fromA, EachSeen}
 use Rattle.story.specs.Snapshots.{Without, replyAt, shownAt, shownBehind, ReadIn, LongRead, longShown}
 use Rattle.story.proofs.Along.{rules-keep, bare-passes, write-passes, ruled-frame}
 use Rattle.story.proofs.Accepted.{record-at, kept-at}
@@ -177,17 +177,15 @@ pub record Demand3 : Type 0 where
   spike-command : (engine : Engine) (table sent came : List ℕ) (events : List Event) → Ready engine table → sound table ≡ true → (c : Command) (n : ℕ)
       → StruckCommand c n sent came → by engine table (Frame came ∷ events) ≡ saw (Answered (Refused CommandWrong) []) (by engine table events)
   -- a missed write, through either engine: one that came with some monitors' checks wrong, and then a read that our host builds. As many take it as were not hit and are
-  -- not in LPCM, and the read has what all monitors reply; against its next counter each monitor that took the write is seen right from both ports, k from 1, and any
-  -- other with its old counter
+  -- not in LPCM, and the read has what all monitors reply; against its next counter each monitor that took the write is seen right from both ports, and any other
+  -- with its old counter
   missed-write : (engine : Engine) (table sent came : List ℕ) → Ready engine table → sound table ≡ true → (c : Write) → (c ≡ Wrrr → ⊥)
       → Spoilt c (monitors table) sent came → (code : ℕ) (part : Part) → commandOf code commands ≡ Reads part
       → let n = monitors table in
       let after = by engine table (Frame came ∷ []) .table in
       (by engine table (Frame came ∷ Frame (frameFor code n []) ∷ []) .seen
       ≡ Answered (Accepted (unhitAwake (Writes c) n table sent came) 0) [] ∷ Answered (Accepted n (payloadSize * n)) (fromA part n after) ∷ [])
-      × ((k : ℕ) → 1 ≤ k → k ≤ n
-      → let r = rowAt recordSize (k - 1) table in
-      SeenAs part n after k (nextCount (byteOf counter r)) (not (inLpcm r) && unhit (Writes c) n sent came (k - 1)) (byteOf counter r))
+      × EachSeen c part table sent came after
   -- at every byte, not only at a release, the bytes of the state stand for the windows as the rules move them
   every-byte : (table : List ℕ) (byte : ℕ) (state : List ℕ) → length state ≡ stateSize
       → clockOf (stateAfter table byte state) ≡ clocked table byte (clockOf state)
@@ -417,16 +415,14 @@ module _ (engine : Engine) (table : List ℕ) (ready : Ready engine table) (s : 
       let after = by engine table (Frame came ∷ []) .table in
       (by engine table (Frame came ∷ Frame (frameFor code n []) ∷ []) .seen
       ≡ Answered (Accepted (unhitAwake (Writes c) n table sent came) 0) [] ∷ Answered (Accepted n (payloadSize * n)) (fromA part n after) ∷ [])
-      × ((k : ℕ) → 1 ≤ k → k ≤ n
-      → let r = rowAt recordSize (k - 1) table in
-      SeenAs part n after k (nextCount (byteOf counter r)) (not (inLpcm r) && unhit (Writes c) n sent came (k - 1)) (byteOf counter r))
+      × EachSeen c part table sent came after
   unfolding byRules
   missed-by c other spoilt code part its = (
     ap (λ (left : Left). left .seen) (either-by-rules engine table (Frame came ∷ Frame read ∷ []) ready)
         ∙ ap (λ (step : Step). step .seen ∷ byRules (step .table) (Frame read ∷ []) .seen) (sym (frame-step table came (full table) (has-room table)))
         ∙ ap (λ (a : Answer). Answered a (take (replyBytes a) (replyAfter table came (full table))) ∷ byRules left (Frame read ∷ []) .seen) (struck-answer table s c spoilt other room)
         ∙ ap (λ (rest : List Seen). Answered (Accepted (unhitAwake (Writes c) n table sent came) 0) [] ∷ rest) read-left,
-    λ k first last. subst⁻¹ (λ (t : List ℕ). SeenAs part n t k _ _ _) there (missed-at-ports table s c spoilt room other part k first last),
+    subst⁻¹ (EachSeen c part table sent came) there (missed-at-ports table s c spoilt room other part),
   )
     where
       n : ℕ

@@ -50,7 +50,7 @@ unfolding all bitsOfBytes bitsOf odd
 is-struck =
     record {
       ours = eleven-is-ours;
-      spike = spike-of-parts 10 112 (are-bytes writeSent refl) (are-bytes writeOne refl) refl refl (λ e. false≢true (sym e)) refl;
+      spike = spike-of-parts 10 119 (are-bytes writeSent refl) (are-bytes writeOne refl) refl refl (λ e. false≢true (sym e)) refl;
       same-head = refl;
     }
 

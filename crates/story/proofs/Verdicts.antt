@@ -18,7 +18,7 @@ use Rattle.ports.specs.declared.ports.Port.the-variants.{Refused, A, B}
 use Rattle.ports.specs.Verdicts.{isDamaged, isRight, counterDiffers}
 use Rattle.ports.specs.Check.{checkRefusals, checked}
 use Rattle.ports.specs.Ports.{partA, partB, portRefusals, chosen, portOf}
-use Rattle.ports.proofs.Choosing.{either, either-a, either-b, either-a-but, either-b-but}
+use Rattle.ports.proofs.Choosing.{either, either-a, either-b, either-a-differs, either-b-differs}
 
 -- ---- the three
 
@@ -90,7 +90,7 @@ module _ (inA inB : List ℕ) (expected : ℕ) where
       by : (r s : Bool) → isRight inA expected ≡ r → isRight inB expected ≡ s → either inA inB expected ≡ A (not r)
       by true s e f = either-a inA inB expected e
       by false true e f = absurd (false≢true (sym e ∙ no-better f))
-      by false false e f = either-a-but inA inB expected e f whole
+      by false false e f = either-a-differs inA inB expected e f whole
 
   -- B's, where its check is right and A's is wrong
   pub either-from-b : payloadRight inA ≡ false → payloadRight inB ≡ true → either inA inB expected ≡ B (not (isRight inB expected))
@@ -101,7 +101,7 @@ module _ (inA inB : List ℕ) (expected : ℕ) where
 
       by : (s : Bool) → isRight inB expected ≡ s → either inA inB expected ≡ B (not s)
       by true f = either-b inA inB expected not-right f
-      by false f = either-b-but inA inB expected damaged f whole
+      by false f = either-b-differs inA inB expected damaged f whole
 
 -- ---- the two ports
 

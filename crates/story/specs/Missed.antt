@@ -2,15 +2,18 @@
 -- monitor has if it took the frame.
 -- Assumes nothing.
 use mathlib.Core.Path.{_≡_}
-use mathlib.Core.Bool.{Bool, true, false, cond, not}
+use mathlib.Core.Bool.{Bool, true, false, cond, not, _&&_}
 use mathlib.Core.List.{List, [], map, reverse}
-use Prim.Native.Nat.{ℕ, _*_, _≤_, _<_}
+use Prim.Native.Nat.{ℕ, _-_, _*_, _≤_, _<_}
 use lib.ListN.{length}
 use Rattle.laws.specs.Rows.{rows, rowAt}
 use Rattle.wire.specs.Order.{replyData}
+use Rattle.records.specs.declared.commands.Command.the-variants.{Writes}
+use Rattle.records.specs.declared.commands.Write.{Write}
 use Rattle.records.specs.declared.record.Part.{Part}
-use Rattle.records.specs.Record.{recordSize, counter, byteOf}
+use Rattle.records.specs.Record.{recordSize, counter, inLpcm, byteOf}
 use Rattle.records.specs.Commands.{payloadSize}
+use Rattle.monitor.specs.Effects.{nextCount}
 use Rattle.reads.specs.Reply.{reply}
 use Rattle.judging.specs.Table.{monitors}
 use Rattle.chain.specs.Frame.{tableAfter, replyAfter}
@@ -20,6 +23,7 @@ use Rattle.ports.specs.declared.ports.Port.the-variants.{A, B}
 use Rattle.ports.specs.Verdicts.{isDamaged}
 use Rattle.ports.specs.Check.{checked}
 use Rattle.ports.specs.Ports.{partA, partB, portOf}
+use Rattle.story.specs.Spikes.{unhit}
 
 -- n monitors have one counter
 abbrev pub OneCounter : ℕ → List ℕ → ℕ → Type 0
@@ -44,6 +48,14 @@ pub record SeenAs (part : Part) (n : ℕ) (table : List ℕ) (k expected : ℕ) 
   pub from-both : portOf (fromA part n table) (fromB part n table) n k expected ≡ A (not right)
   pub a-damaged : (a : List ℕ) → length a ≡ payloadSize * n → isDamaged (partA a n k) ≡ true → portOf a (fromB part n table) n k expected ≡ B (not right)
   pub b-damaged : (b : List ℕ) → length b ≡ payloadSize * n → isDamaged (partB b n k) ≡ true → portOf (fromA part n table) b n k expected ≡ A (not right)
+
+-- each monitor of a table is seen so after a write that came with some monitors' checks wrong, against the counter after its own: right where it was not hit and is
+-- not in LPCM, and with the counter that it had where it was or is
+abbrev pub EachSeen : Write → Part → List ℕ → List ℕ → List ℕ → List ℕ → Type 0
+EachSeen c part table sent came after =
+    (k : ℕ) → 1 ≤ k → k ≤ monitors table
+    → let r = rowAt recordSize (k - 1) table in
+    SeenAs part (monitors table) after k (nextCount (byteOf counter r)) (not (inLpcm r) && unhit (Writes c) (monitors table) sent came (k - 1)) (byteOf counter r)
 
 -- some monitor of them is seen with another counter
 pub record SomeDiffer (part : Part) (n : ℕ) (table : List ℕ) (expected received : ℕ) : Type 0 where
