@@ -2,6 +2,7 @@
 use crate::say;
 use chain::Answer;
 use host::Built;
+use ports::Checked;
 use ports::Port;
 
 pub(crate) const TABLE_SIZE: usize = 2 * records::RECORD_SIZE;
@@ -55,6 +56,9 @@ const VALUES: [u8; 18] = *b"\
 
 const WRCFGB: u16 = 0x0024;
 
+// What a spike turns over of the third byte for the far half, play by play: four bits in a row, once.
+const SPIKES: [u8; 4] = [0, 0, 0x3c, 0];
+
 const READS: usize = 8;
 
 // RDCFGB, RDSTATD, and the six registers of the cells: three cells in each but the last, which has cell 16.
@@ -75,14 +79,29 @@ const FIRST: usize = 6;
 pub(crate) const SEEN_SIZE: usize = FIRST + 8 * READS;
 
 // All that is read of a half: behind the first six bytes eight for each register. Each counts 1 where it was read at port A, and 16 where
-// it was read at port B.
+// it was read at port B; 256 times as much where its counter differs. The counter is that of the first register.
 pub(crate) struct Seen {
     pub bytes: [u8; SEEN_SIZE],
     pub ports: u64,
+    pub counter: u8,
 }
 
-// Our host's frame for both monitors goes to the chain, and is shown where that is asked for. How many took it?
-fn sent(table: &mut Table, code: u16, values: &[u8], reply: &mut [u8; 16], shown: bool) -> usize {
+// A frame with what a spike has turned over.
+fn struck(frame: [u8; 20], spike: u8) -> [u8; 20] {
+    let mut comes = frame;
+    comes[6] = comes[6] ^ spike;
+    comes
+}
+
+// Our host's frame for both monitors goes to the chain, struck by a spike, and is shown where that is asked for. How many took it?
+fn sent(
+    table: &mut Table,
+    code: u16,
+    values: &[u8],
+    spike: u8,
+    reply: &mut [u8; 16],
+    shown: bool,
+) -> usize {
     let mut frame = [0u8; 20];
     let Built::Length(length) = host::build(code, 2, values, &mut frame) else {
         return 0;
@@ -90,22 +109,31 @@ fn sent(table: &mut Table, code: u16, values: &[u8], reply: &mut [u8; 16], shown
     if length > 20 {
         return 0;
     }
+    let comes = struck(frame, spike);
     if shown {
-        say::frame(frame, length);
+        say::frame(comes, length);
     }
-    match chain::handle(table, &frame[0..length], reply) {
+    match chain::handle(table, &comes[0..length], reply) {
         Answer::Accepted { taken, .. } => taken,
         Answer::Refused(_) => 0,
     }
 }
 
-// The thresholds go out, in our order (0) or in the old bench's (1). How many monitors took them?
-pub(crate) fn write(table: &mut Table, order: usize) -> usize {
+// The thresholds go out: in play 1 in the old bench's order, in the others in ours. How many monitors took them?
+pub(crate) fn write(table: &mut Table, play: usize) -> usize {
     let values = VALUES;
+    let spikes = SPIKES;
     let mut no_reply = [0u8; 16];
-    let from = order % 2 * 6;
+    let from = play % 3 % 2 * 6;
     let to = from + 12;
-    sent(table, WRCFGB, &values[from..to], &mut no_reply, true)
+    sent(
+        table,
+        WRCFGB,
+        &values[from..to],
+        spikes[play % 4],
+        &mut no_reply,
+        true,
+    )
 }
 
 // The codes of both halves, each to its own monitor. Did both loads go through?
@@ -127,33 +155,48 @@ fn from_the_far_end(a: [u8; 16]) -> [u8; 16] {
     b
 }
 
-// A half's part of a register goes to its place, as the host picks it from the two replies: port A's where that is right, otherwise port
-// B's. What comes to port A from monitor 2 is damaged, each time: one bit is turned over on the way.
-fn pick(reply: [u8; 16], half: usize, seen: &mut [u8], at: usize) -> u64 {
+// A half's part of a register goes to its place, as the host picks it from the two replies, by the counter that it expects. What comes to port A
+// from monitor 2 is damaged, each time: one bit is turned over on the way.
+fn pick(reply: [u8; 16], half: usize, expected: u8, seen: &mut [u8], at: usize) -> u64 {
     let b = from_the_far_end(reply);
     let mut a = reply;
     a[8] = a[8] ^ 1;
     let monitor = half % 2 + 1;
-    bytes::put(seen, at, ports::part_of(&a, &b, 2, monitor));
-    match ports::port_of(&a, &b, 2, monitor) {
-        Port::A => 1,
-        Port::B => 16,
+    bytes::put(seen, at, ports::part_of(&a, &b, 2, monitor, expected));
+    match ports::port_of(&a, &b, 2, monitor, expected) {
+        Port::A(differs) => if differs { 0x100 } else { 0x1 },
+        Port::B(differs) => if differs { 0x1000 } else { 0x10 },
         Port::Refused(_) => 0,
     }
 }
 
+// The counter that came with a payload, by our host's check; one that is damaged has none.
+fn counter_of(payload: &[u8], expected: u8) -> u8 {
+    match ports::check(payload, expected) {
+        Checked::Right => expected,
+        Checked::CounterDiffers(received) => received,
+        Checked::Damaged => u8::MAX,
+        Checked::Unchecked(_) => u8::MAX,
+    }
+}
+
 // All the registers of a half, each read from both ends.
-pub(crate) fn look(table: &mut Table, half: usize) -> Seen {
+pub(crate) fn look(table: &mut Table, half: usize, expected: u8) -> Seen {
     let codes = CODES;
     let mut seen = [0u8; SEEN_SIZE];
     let mut ports = 0;
     let mut i = 0;
     while i < READS {
         let mut reply = [0u8; 16];
-        sent(table, codes[i], b"", &mut reply, false);
-        let port = pick(reply, half, &mut seen, FIRST + 8 * i);
+        sent(table, codes[i], b"", 0, &mut reply, false);
+        let port = pick(reply, half, expected, &mut seen, FIRST + 8 * i);
         ports = std::num::wrapping_add_u64(ports, port);
         i += 1;
     }
-    Seen { bytes: seen, ports }
+    let counter = counter_of(&seen[FIRST..FIRST + 8], expected);
+    Seen {
+        bytes: seen,
+        ports,
+        counter,
+    }
 }

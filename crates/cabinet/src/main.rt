@@ -1,6 +1,7 @@
 // A backup-battery cabinet on the bench. It has two halves, each with a monitor and with thresholds of its own. An old bench
 // sent the two payloads in list order, so each monitor got the other's thresholds; it read the replies with the same reversal,
-// passed the board, and half the pack ran flat. Here our host and our chain do the same work, and then the old order is played.
+// passed the board, and half the pack ran flat. Here our host and our chain do the same work, and then the old order is played. In the old
+// bench's cabinet our host then writes anew, and one half misses the write: what a repair shop reads, and how it is made good.
 mod bench;
 mod judged;
 mod numbers;
@@ -16,6 +17,9 @@ use crate::numbers::microvolts_of;
 use crate::say::words;
 use crate::words::AT;
 use crate::words::CABINET;
+use crate::words::CLOSE;
+use crate::words::COUNTED;
+use crate::words::COUNTER;
 use crate::words::FLAG;
 use crate::words::FLAGS;
 use crate::words::HALF;
@@ -35,15 +39,31 @@ use crate::words::SENT;
 use crate::words::TAKEN;
 use crate::words::TOOK;
 use crate::words::TOTAL;
-use crate::words::UNSEEN;
 use crate::words::VERDICT;
 use crate::words::WHOSE;
 use crate::words::WRONG;
 
-// What is expected of the near half and of the far half, by our host and then by the old bench. In hexadecimal: two digits for the ports (8
-// registers read at port A, or at port B), one for whose thresholds it holds, three for how many cells have a flag up, and two for how many
-// have other flags than the half's own thresholds ask for. In list order no flag is up, and one cell of the far half should have one.
-const EXPECTED: [u64; 4] = [0x08_1_000_00, 0x80_1_001_00, 0x08_2_000_00, 0x80_2_000_01];
+// The counter that our host expects of the near half and of the far half in each play. It is one more than before for each write; after the one
+// that the far half missed our host counts on from what it read there.
+const COUNTERS: [u64; 8] = [1, 1, 1, 1, 2, 2, 3, 2];
+
+// How many monitors take the write of each play.
+const TAKERS: [usize; 4] = [2, 2, 1, 2];
+
+// What is expected of the two, play by play. In hexadecimal: two digits for the counter that came, four for the ports (8 registers read at port
+// A or at port B, and to the left of these 8 likewise where the counter differs), one for whose thresholds it holds, three for how many cells
+// have a flag up, and two for how many have other flags than the half's own thresholds ask for. In list order no flag is up, and one cell of the
+// far half should have one; so it stays where the far half misses the write.
+const EXPECTED: [u64; 8] = [
+    0x01_0008_1_000_00,
+    0x01_0080_1_001_00,
+    0x01_0008_2_000_00,
+    0x01_0080_2_000_01,
+    0x02_0008_1_000_00,
+    0x01_8000_2_000_01,
+    0x03_0008_1_000_00,
+    0x02_0080_1_001_00,
+];
 
 // Thresholds, in the words of a number.
 fn limits(k: u64, under: u64, over: u64) {
@@ -87,21 +107,24 @@ fn flags(seen: [u8; SEEN_SIZE], half: usize) -> u64 {
 
 // At which port was a half read: 0 is A, 1 is B, 2 is neither or both?
 fn port(ports: u64) -> u64 {
-    if ports == 8 {
-        0
-    } else if ports == 128 {
-        1
-    } else {
-        2
+    match ports {
+        0x0008 | 0x0800 => 0,
+        0x0080 | 0x8000 => 1,
+        _ => 2,
     }
 }
 
-// All that is read of a half, in words, and its codes. What comes back is as in what is expected.
-fn half(table: &mut Table, half: usize, cells: &mut [i16; 32]) -> u64 {
-    let seen = bench::look(table, half);
+// All that is read of a half in a play, in words, and its codes. What comes back is as in what is expected.
+fn half(table: &mut Table, play: usize, half: usize, cells: &mut [i16; 32]) -> u64 {
+    let counters = COUNTERS;
+    let expected = counters[play % 4 * 2 + half % 2] % 64;
+    let seen = bench::look(table, half, expected as u8);
     let bytes = seen.bytes;
     words(HALF + (half % 2) as u64, 0);
     words(PORT + port(seen.ports) % 3, 0);
+    let counter = seen.counter as u64;
+    words(COUNTER, counter);
+    words(COUNTED + (counter != expected) as u64 % 2, expected);
     let whose = holds(HOLDS, bytes, half);
     judged::put_codes(cells, bytes, half);
     let from = half % 2 * 16;
@@ -111,7 +134,7 @@ fn half(table: &mut Table, half: usize, cells: &mut [i16; 32]) -> u64 {
     words(LOWEST_CELL, (sums.cell % 16 + 1) as u64);
     words(AT, sums.lowest);
     let found = flags(bytes, half);
-    seen.ports << 24 | whose << 20 | found
+    counter << 40 | seen.ports << 24 | whose << 20 | found
 }
 
 // The whole pack, in words where that is asked for. Is it what was loaded, by the host's own summary too?
@@ -131,8 +154,8 @@ fn pack(cells: [i16; 32], shown: bool) -> bool {
 // passed a board on which it saw the thresholds that were ordered. Did it pass this one?
 fn old_reading(table: &mut Table) -> bool {
     words(OLD_READING, 0);
-    let far = bench::look(table, 1).bytes;
-    let near = bench::look(table, 0).bytes;
+    let far = bench::look(table, 1, 1).bytes;
+    let near = bench::look(table, 0, 1).bytes;
     let one = holds(TOOK, far, 0);
     let other = holds(TOOK + 1, near, 1);
     let passed = (one == 1) & (other == 1);
@@ -140,38 +163,43 @@ fn old_reading(table: &mut Table) -> bool {
     passed
 }
 
-// A cabinet from its first day: no threshold set, no cell loaded. Then the frame, in our order (0) or in the old bench's (1), the cells, and
-// all that can be read. Is it as expected?
-fn played(order: usize) -> bool {
+// The frame, the cells, and all that can be read: in our order (0), in the old bench's (1), with a spike on the wire (2) and after it (3). Is
+// it as expected?
+fn played(table: &mut Table, play: usize) -> bool {
     let expected = EXPECTED;
-    let mut table = [0u8; TABLE_SIZE];
+    let takers = TAKERS;
     let mut cells = [0i16; 32];
-    words(SENT + (order % 2) as u64, 0);
-    let taken = bench::write(&mut table, order);
+    words(SENT + (play % 4) as u64, 0);
+    let taken = bench::write(table, play);
     words(TAKEN, taken as u64);
-    let loaded = bench::load(&mut table);
+    let loaded = bench::load(table);
     words(LOADED + loaded as u64 % 2, 0);
-    let near = half(&mut table, 0, &mut cells);
-    let far = half(&mut table, 1, &mut cells);
-    let at = order % 2 * 2;
+    let near = half(table, play, 0, &mut cells);
+    let far = half(table, play, 1, &mut cells);
+    let at = play % 4 * 2;
     let so = (near == expected[at]) & (far == expected[at + 1]);
-    let whole = pack(cells, order == 0);
-    let right = (taken == 2) & loaded & so & whole;
-    if order == 0 {
-        return right;
-    }
+    let whole = pack(cells, play == 0);
     if so {
-        words(UNSEEN, 0);
+        words(CLOSE + (play % 4) as u64, 0);
     }
-    right & old_reading(&mut table)
+    (taken == takers[play % 4]) & loaded & so & whole
 }
 
+// Each table is a cabinet from its first day: no threshold set, no cell loaded.
 fn main() {
     let ordered = LIMITS;
+    let mut ours = [0u8; TABLE_SIZE];
+    let mut old = [0u8; TABLE_SIZE];
     words(CABINET, 0);
     limits(ORDERED, ordered[0], ordered[1]);
     limits(ORDERED + 1, ordered[2], ordered[3]);
-    let ours = played(0);
-    let old = played(1);
-    words(VERDICT + (ours & old) as u64 % 2, 0);
+    let ordered_so = played(&mut ours, 0);
+    let reversed = played(&mut old, 1);
+    let passed = old_reading(&mut old);
+    let missed = played(&mut old, 2);
+    let mended = played(&mut old, 3);
+    words(
+        VERDICT + (ordered_so & reversed & passed & missed & mended) as u64 % 2,
+        0,
+    );
 }

@@ -8,10 +8,10 @@ use Rattle.cabinet.proofs.bench.look.Statement.{statement}
 use Rattle.cabinet.proofs.bench.look.Tie as tie
 
 abbrev Inv-loop : tie.InvT-loop
-Inv-loop table₀ half codes seen₀ ports₀ i₀ t9 table seen ports i = length seen ≡ 70
+Inv-loop table₀ half expected codes seen₀ ports₀ i₀ t9 table seen ports i = length seen ≡ 70
 
 abbrev μ-loop : tie.MeasureT-loop
-μ-loop table₀ half codes seen₀ ports₀ i₀ t9 table seen ports i = 8 - i
+μ-loop table₀ half expected codes seen₀ ports₀ i₀ t9 table seen ports i = 8 - i
 
 pub look-spec : {M : Type 1} → statement M
 look-spec =
@@ -32,4 +32,9 @@ look-spec =
     (λ c. search needs)
     (λ c. search needs)
     (λ c. search needs)
+    (λ c. search needs)
+    (λ c. search needs)
+    (λ c. search needs)
+    (λ c. search needs)
+    (λ c κs. search needs)
     (λ c. search needs))
