@@ -37,24 +37,25 @@ pub(crate) fn sent(
     taken == 2
 }
 
-// A monitor's eight bytes of a reply as one number; monitors are counted from 0. It is 0 where our host finds the check wrong: that of
-// eight bytes 0 is wrong too.
-fn payload_in(reply: [u8; 16], half: usize) -> u64 {
+// A monitor's eight bytes of a reply as one number; monitors are counted from 0. It is 0 where our host finds the check wrong, or another
+// counter than it expects: the check of eight bytes 0 is wrong too.
+fn payload_in(reply: [u8; 16], half: usize, expected: u8) -> u64 {
     let at = half % 2 * 8;
     let end = at + 8;
     let payload = &reply[at..end];
-    match ports::check(payload) {
+    match ports::check(payload, expected) {
         Checked::Right => check_words::number_in(payload),
-        Checked::Wrong => 0,
+        Checked::CounterDiffers(_) => 0,
+        Checked::Damaged => 0,
         Checked::Unchecked(_) => 0,
     }
 }
 
 // What a monitor replies to a read.
-pub(crate) fn read(table: &mut Table, code: u16, half: usize) -> u64 {
+pub(crate) fn read(table: &mut Table, code: u16, half: usize, expected: u8) -> u64 {
     let mut reply = [0u8; 16];
     sent(table, code, b"", &mut reply, false);
-    payload_in(reply, half)
+    payload_in(reply, half, expected)
 }
 
 // An output as a digit: the row of Table 27 that decided, with 8 added where it is on; 0 is no output.

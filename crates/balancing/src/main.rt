@@ -154,10 +154,10 @@ fn verdict(half: usize, a: u64, b: u64, duties: u64, digits: u64) -> u64 {
     2
 }
 
-// The outputs, and 0 where the duties are not those ordered.
-fn portal(table: &mut Table, half: usize) -> u64 {
-    let a = bench::read(table, RDPWMA, half);
-    let b = bench::read(table, RDPWMB, half);
+// The outputs, and 0 where the duties are not those ordered, or the replies have not the counter expected.
+fn portal(table: &mut Table, half: usize, counter: u8) -> u64 {
+    let a = bench::read(table, RDPWMA, half, counter);
+    let b = bench::read(table, RDPWMB, half, counter);
     let bytes = a >> 16 << 16 | b >> 48;
     let duties = bytes >> 4 & 0x0f0f_0f0f_0f0f_0f0f | (bytes & 0x0f0f_0f0f_0f0f_0f0f) << 4;
     let digits = bench::outputs(table, half, 0, 0);
@@ -168,7 +168,7 @@ fn portal(table: &mut Table, half: usize) -> u64 {
 }
 
 // A half at a step. Is it as expected?
-fn half(table: &mut Table, half: usize, what: u64, expected: u64) -> bool {
+fn half(table: &mut Table, half: usize, what: u64, counter: u8, expected: u64) -> bool {
     words(HALF + (half % 2) as u64, 0, 0);
     let kind = what / 0x1000_0000 % 4;
     let came = match kind {
@@ -178,7 +178,7 @@ fn half(table: &mut Table, half: usize, what: u64, expected: u64) -> bool {
             digits
         }
         2 => phases(table, half),
-        _ => portal(table, half),
+        _ => portal(table, half, counter),
     };
     if came != expected {
         words(EXPECTED, 0, 0);
@@ -191,26 +191,37 @@ fn planned(i: usize) -> u64 {
     PLAN[i % 51]
 }
 
-fn step(table: &mut Table, i: usize) -> bool {
+fn step(table: &mut Table, i: usize, counter: u8) -> bool {
     words(STEP + (i % STEPS) as u64, 0, 0);
     let at = i % STEPS * 3;
     let what = planned(at);
     if what < 0x1000_0000 {
         return written(table, what);
     }
-    let near = half(table, 0, what, planned(at + 1));
-    let far = half(table, 1, what, planned(at + 2));
+    let near = half(table, 0, what, counter, planned(at + 1));
+    let far = half(table, 1, what, counter, planned(at + 2));
     near & far
+}
+
+// Our host's own count after a step, which both halves' replies must have: each frame of the plan counts, and after 63 comes 1.
+fn counted(counter: u8, i: usize) -> u8 {
+    if planned(i % STEPS * 3) < 0x1000_0000 {
+        counter % 63 + 1
+    } else {
+        counter
+    }
 }
 
 fn main() {
     let mut table = [0u8; TABLE_SIZE];
     words(ORDERED, 0, 0);
     let mut right = true;
+    let mut counter = 0;
     let mut i = 0;
     while i < STEPS {
-        let so = step(&mut table, i);
+        let so = step(&mut table, i, counter);
         right = right & so;
+        counter = counted(counter, i);
         i += 1;
     }
     if right {

@@ -1,5 +1,5 @@
 // All that is written, in words that are called by their number: a ~ stands before each, and the first are 1.
-pub(crate) const SIZE: usize = 1766;
+pub(crate) const SIZE: usize = 1790;
 
 pub(crate) const NUMBER: u64 = 1;
 
@@ -66,7 +66,7 @@ pub(crate) const WORDS: [u8; SIZE] = *b"\
     ~ | muted, no cell discharges\
     ~ | outputs NOT as ordered\
     ~ | duties NOT as ordered\
-    ~ | NOT read, a reply is damaged\
+    ~ | NOT read, a reply is damaged or a command was missed\
     ~ | NOT taken by both\
     ~ | NOT as expected, which is\
     ~A cabinet balancing: two halves of 16 cells, one monitor each, on one chain.\n\

@@ -5,10 +5,10 @@ use Rattle.balancing.proofs.main.Statement.{statement}
 use Rattle.balancing.proofs.main.Tie as tie
 
 abbrev Inv-loop : tie.InvT-loop
-Inv-loop table₀ right₀ i₀ table right i = Unit {0}
+Inv-loop table₀ right₀ counter₀ i₀ table right counter i = Unit {0}
 
 abbrev μ-loop : tie.MeasureT-loop
-μ-loop table₀ right₀ i₀ table right i = 17 - i
+μ-loop table₀ right₀ counter₀ i₀ table right counter i = 17 - i
 
 pub main-spec : {M : Type 1} → statement M
 main-spec =
@@ -18,6 +18,7 @@ main-spec =
     μ-loop
     (λ c κs. search needs)
     (λ c. search needs)
+    (λ c κs. search needs)
     (λ c κs. search needs)
     (λ c. search needs)
     (λ c. search needs)

@@ -8,7 +8,7 @@ abbrev Inv-loop : tie.InvT-loop
 Inv-loop k number hex all left₀ i₀ left i = Unit {0}
 
 abbrev μ-loop : tie.MeasureT-loop
-μ-loop k number hex all left₀ i₀ left i = 1766 - i
+μ-loop k number hex all left₀ i₀ left i = 1790 - i
 
 pub words-spec : {M : Type 1} → statement M
 words-spec =
