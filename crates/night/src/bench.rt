@@ -19,6 +19,9 @@ pub(crate) type Message = [u8; 8];
 // A wire on which nothing is sent. No message begins so, and where nothing is sent a buffer stays as it was.
 pub(crate) const SILENCE: u8 = 0xff;
 
+// What a read comes to where only the counter of the reply differs, with that counter added: more than any six bytes.
+pub(crate) const OTHER_COUNTER: u64 = 0x0100_0000_0000_0000;
+
 // Our host's frame for both monitors goes to the chain, and is shown where that is asked for. How many took it?
 pub(crate) fn sent(
     table: &mut Table,
@@ -42,24 +45,25 @@ pub(crate) fn sent(
     taken as u64
 }
 
-// The six data bytes of a half's payload as one number; halves are counted from 0. Where our host finds the check wrong it is larger than
+// The six data bytes of a half's payload as one number; halves are counted from 0. Where our host does not find it right it is larger than
 // any of six bytes.
-fn six_in(reply: [u8; 16], half: usize) -> u64 {
+fn six_in(reply: [u8; 16], half: usize, expected: u8) -> u64 {
     let at = half % 2 * 8;
     let end = at + 8;
     let payload = &reply[at..end];
-    match ports::check(payload) {
+    match ports::check(payload, expected) {
         Checked::Right => check_words::number_in(payload) >> 16,
-        Checked::Wrong => u64::MAX,
+        Checked::CounterDiffers(received) => OTHER_COUNTER + received as u64,
+        Checked::Damaged => u64::MAX,
         Checked::Unchecked(_) => u64::MAX,
     }
 }
 
 // What a half replies to a read.
-pub(crate) fn read(table: &mut Table, code: u16, half: usize) -> u64 {
+pub(crate) fn read(table: &mut Table, code: u16, half: usize, expected: u8) -> u64 {
     let mut reply = [0u8; 16];
     sent(table, code, b"", &mut reply, false);
-    six_in(reply, half)
+    six_in(reply, half, expected)
 }
 
 // A whole heartbeat, and what leaves the chain of it.

@@ -6,6 +6,7 @@ mod say;
 mod words;
 
 use crate::bench::Message;
+use crate::bench::OTHER_COUNTER;
 use crate::bench::TABLE_SIZE;
 use crate::bench::Table;
 use crate::say::kinds;
@@ -13,6 +14,7 @@ use crate::say::message;
 use crate::say::text;
 use crate::say::words;
 use crate::words::CELL_AT;
+use crate::words::DIFFERS;
 use crate::words::EXPECTED;
 use crate::words::HALF;
 use crate::words::HOST_HEARS;
@@ -54,7 +56,7 @@ const VALUES: [u8; 48] = *b"\
 // The code of every cell of the near half and of the far half, but for one that a step names: 3.21 V and 3.45 V.
 const CELLS: [i16; 2] = [11400, 13000];
 
-const STEPS: usize = 55;
+const STEPS: usize = 56;
 
 // What is done at a step, and what is expected of it. The first is in hexadecimal, words_kind_a_b_c, and begins with the number of words
 // that are said before, if any. Cells and halves are counted from 0.
@@ -65,7 +67,7 @@ const STEPS: usize = 55;
 // Kind 4 is one with a bit of byte b turned over, where a is 1 on the first hop, else on the last: the verdict again.
 // Kind 5 is one that our host sleeps through: 1 where a message leaves the chain.
 // Kind 6 has the near half lose its supply and start anew, and kind 7 has the time run out there.
-const PLAN: [u64; 110] = [
+const PLAN: [u64; 112] = [
     // The first evening.
     0x01_0_0_0_000c,
     2,
@@ -140,11 +142,13 @@ const PLAN: [u64; 110] = [
     // The last hop.
     0x0b_4_0_4_0000,
     0x3_00_00,
-    // A monitor out of LPCM.
+    // A monitor out of LPCM. It counts from 0, and our host with it from the first reply on.
     0x0c_6_0_0_0000,
     0,
     0x00_3_0_0_0000,
     0x4_00_00,
+    0x15_1_5_0_0000,
+    OTHER_COUNTER,
     0x15_1_5_0_0000,
     0,
     0x00_1_5_1_0000,
@@ -195,8 +199,13 @@ fn written(table: &mut Table, a: usize, b: usize, c: usize) -> u64 {
     bench::sent(table, CODES[a % 8], &values[from..to], &mut no_reply, true)
 }
 
-fn read(table: &mut Table, a: usize, b: usize, c: u64) -> u64 {
-    let six = bench::read(table, CODES[a % 8], b);
+fn read(table: &mut Table, counts: [u64; 2], a: usize, b: usize, c: u64) -> u64 {
+    let expected = counts[b % 2] % 64;
+    let six = bench::read(table, CODES[a % 8], b, expected as u8);
+    if six / OTHER_COUNTER == 1 {
+        words(DIFFERS, &[(b % 2 + 1) as u64, six % 256, expected]);
+        return six;
+    }
     let n = six % 0x1_0000_0000;
     words(
         HALF + (b % 2) as u64,
@@ -257,14 +266,14 @@ fn verdict(m: Message) -> u64 {
     verdict
 }
 
-fn step(table: &mut Table, what: u64) -> u64 {
+fn step(table: &mut Table, counts: [u64; 2], what: u64) -> u64 {
     let a = (what / 0x10_0000 % 16) as usize;
     let b = (what / 0x1_0000 % 16) as usize;
     let c = what % 0x1_0000;
     text(what / 0x1000_0000);
     match what / 0x100_0000 % 16 {
         0 => written(table, a, b, c as usize),
-        1 => read(table, a, b, c),
+        1 => read(table, counts, a, b, c),
         2 => stored(table, a, b, c),
         3 => verdict(bench::beat(table)),
         4 => verdict(bench::hops(table, b, (a == 1) as u8, (a != 1) as u8)),
@@ -280,13 +289,28 @@ fn step(table: &mut Table, what: u64) -> u64 {
     }
 }
 
+// Our host's own counts go on after a step, the near half's first. Where both are to take a write or a bare command each has one more, and after
+// 63 comes 1; how many did take it no host is told. From a counter that differs our host counts on.
+fn count(counts: &mut [u64; 2], what: u64, came: u64, expected: u64) {
+    if (what / 0x100_0000 % 16 == 0) & (expected == 2) {
+        counts[0] = counts[0] % 63 + 1;
+        counts[1] = counts[1] % 63 + 1;
+    }
+    if came / OTHER_COUNTER == 1 {
+        counts[(what / 0x1_0000 % 2) as usize] = came % 256;
+    }
+}
+
 fn main() {
     let mut table = [0u8; TABLE_SIZE];
+    let mut counts = [0u64; 2];
     let plan = PLAN;
     let mut right = true;
     for i in 0..STEPS {
-        let came = step(&mut table, plan[i * 2]);
+        let what = plan[i * 2];
+        let came = step(&mut table, counts, what);
         let expected = plan[i * 2 + 1];
+        count(&mut counts, what, came, expected);
         if came != expected {
             words(EXPECTED, &[expected, came]);
             right = false;

@@ -1,6 +1,6 @@
 // All that is written, in words that are called by their number: a ~ stands before each, and the first are 1. A byte from 80 (hex) on stands
 // for a number, 80 for the first, and one from 90 on for the same in hexadecimal.
-pub(crate) const SIZE: usize = 2746;
+pub(crate) const SIZE: usize = 2872;
 
 pub(crate) const NAMES: u64 = 16;
 
@@ -12,31 +12,33 @@ pub(crate) const TAKEN: u64 = 26;
 
 pub(crate) const HALF: u64 = 27;
 
-pub(crate) const IN_LPCM: u64 = 29;
+pub(crate) const DIFFERS: u64 = 29;
 
-pub(crate) const KINDS: u64 = 31;
+pub(crate) const IN_LPCM: u64 = 30;
 
-pub(crate) const JUDGES: u64 = 39;
+pub(crate) const KINDS: u64 = 32;
 
-pub(crate) const CELL_AT: u64 = 43;
+pub(crate) const JUDGES: u64 = 40;
 
-pub(crate) const NOTHING: u64 = 45;
+pub(crate) const CELL_AT: u64 = 44;
 
-pub(crate) const FAR_SENDS: u64 = 46;
+pub(crate) const NOTHING: u64 = 46;
 
-pub(crate) const NEAR_RECEIVES: u64 = 47;
+pub(crate) const FAR_SENDS: u64 = 47;
 
-pub(crate) const NEAR_SENDS_ON: u64 = 48;
+pub(crate) const NEAR_RECEIVES: u64 = 48;
 
-pub(crate) const LEAVES: u64 = 49;
+pub(crate) const NEAR_SENDS_ON: u64 = 49;
 
-pub(crate) const HOST_HEARS: u64 = 50;
+pub(crate) const LEAVES: u64 = 50;
 
-pub(crate) const VERDICTS: u64 = 51;
+pub(crate) const HOST_HEARS: u64 = 51;
 
-pub(crate) const EXPECTED: u64 = 56;
+pub(crate) const VERDICTS: u64 = 52;
 
-pub(crate) const NOT_SO: u64 = 57;
+pub(crate) const EXPECTED: u64 = 57;
+
+pub(crate) const NOT_SO: u64 = 58;
 
 pub(crate) const WORDS: [u8; SIZE] = *b"\
     ~A cabinet goes to sleep: two halves of 16 cells, one monitor each, on one chain.\n\
@@ -71,6 +73,7 @@ pub(crate) const WORDS: [u8; SIZE] = *b"\
     ~ | taken by \x80 of 2 monitors\
     ~ | near half \x90 \x91 \x92 \x93 \x94 \x95\
     ~ | far half \x90 \x91 \x92 \x93 \x94 \x95\
+    ~ | monitor \x80 NOT read: its counter is \x81, and \x82 was expected. A monitor that starts anew has 0; our host counts on from there.\
     ~; NOT in LPCM\
     ~; in LPCM\
     ~; a cell is below its limit\

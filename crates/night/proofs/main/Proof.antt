@@ -5,10 +5,10 @@ use Rattle.night.proofs.main.Statement.{statement}
 use Rattle.night.proofs.main.Tie as tie
 
 abbrev Inv-loop : tie.InvT-loop
-Inv-loop table₀ plan right₀ i₀ table right i = Unit {0}
+Inv-loop table₀ counts₀ plan right₀ i₀ table counts right i = Unit {0}
 
 abbrev μ-loop : tie.MeasureT-loop
-μ-loop table₀ plan right₀ i₀ table right i = 55 - i
+μ-loop table₀ counts₀ plan right₀ i₀ table counts right i = 56 - i
 
 pub main-spec : {M : Type 1} → statement M
 main-spec =
@@ -25,6 +25,7 @@ main-spec =
     (λ c. search needs)
     (λ c. search needs)
     (λ c. search needs)
+    (λ c κs. search needs)
     (λ c. search needs)
     (λ c κs. search needs)
     (λ c. search needs)

@@ -8,7 +8,7 @@ abbrev Inv-loop : tie.InvT-loop
 Inv-loop k numbers all left₀ i₀ left i = Unit {0}
 
 abbrev μ-loop : tie.MeasureT-loop
-μ-loop k numbers all left₀ i₀ left i = 2746 - i
+μ-loop k numbers all left₀ i₀ left i = 2872 - i
 
 pub words-spec : {M : Type 1} → statement M
 words-spec =
