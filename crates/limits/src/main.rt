@@ -12,6 +12,7 @@ mod longest;
 mod notes;
 mod order;
 mod outputs;
+mod replies;
 mod say;
 mod sleeping;
 mod soundness;
@@ -46,6 +47,10 @@ const BEAT_REFUSAL: u8 = 8;
 
 const BEAT: u8 = 9;
 
+const CHECK: u8 = 10;
+
+const PORTS: u8 = 11;
+
 fn tried(kind: u8, i: usize) -> bool {
     match kind {
         COMMAND => commands::command(i),
@@ -57,7 +62,9 @@ fn tried(kind: u8, i: usize) -> bool {
         PACK => volts::summary(i),
         OUTPUTS => outputs::asked(i),
         BEAT_REFUSAL => beats::refusal(i),
-        _ => beats::beat(i),
+        BEAT => beats::beat(i),
+        CHECK => replies::check(i),
+        _ => replies::two_ports(i),
     }
 }
 
@@ -100,6 +107,10 @@ fn main() {
     note(notes::VERDICT_CASES);
     let t = run(t, 0, BEAT, 113, 132);
     let t = run(t, words::HOSTS, BUILD, 0, 38);
+    replies::heading(replies::CHECKS);
+    let t = run(t, 0, CHECK, 0, 26);
+    replies::heading(replies::PORTS);
+    let t = run(t, 0, PORTS, 0, 41);
     let t = run(t, words::VOLTS, VOLTS, 0, 5);
     let t = run(t, 0, PACK, 0, 5);
     words(words::SUMMARY, t.lines, t.right, 0, 0);
