@@ -13,7 +13,7 @@ use lib.IntN.{ℤ}
 use lib.ListN.{length, getD}
 use borrow.Author.Tests.{leb-true, not-false}
 use Rattle.laws.proofs.Tests.{both-second}
-use Rattle.pec.specs.Words.{wordAt, counterOf}
+use Rattle.pec.specs.Words.{counterOf}
 use Rattle.pec.proofs.Messages.{word-below}
 use Rattle.refusals.proofs.Decided.{by-passing}
 use Rattle.records.specs.declared.commands.Command.{Command}

@@ -1,14 +1,14 @@
 -- Which port answers, and why none does: down the list of refusals, and back up it.
 -- Assumes nothing.
 use mathlib.Core.Path.{_≡_, sym, ap, _∙_}
-use mathlib.Core.Bool.{Bool, true, false, cond, _&&_}
+use mathlib.Core.Bool.{Bool, true, false, _&&_}
 use mathlib.Core.List.{List}
 use Prim.Native.Nat.{ℕ, _+_, _*_, _≤_}
 use lib.Dec.{leb, ltb, eqb}
 use lib.ListN.{length}
 use native.Mathlib.Omega.{arith}
 use borrow.Author.Tests.{not-false, eqb-true, eq-eqb, le-leb, le-ltb}
-use Rattle.refusals.specs.declared.Refusal.the-variants.{LengthWrong, PositionWrong, BothDamaged}
+use Rattle.refusals.specs.declared.Refusal.the-variants.{LengthWrong, PositionWrong}
 use Rattle.refusals.specs.Order.{decide, Passed}
 use Rattle.refusals.proofs.Deciding.{decide-map, has-passed}
 use Rattle.laws.proofs.Tests.{both-first, both-second}

@@ -1,13 +1,12 @@
 -- Document 01, "Two ends of the chain", and document 02, L5: port A's reply has monitor 1 first, port B's has monitor N first. Asked for
 -- monitor k, the host hands back k's eight bytes as they lie in one of the two replies.
 -- Assumes nothing.
-use mathlib.Core.Bool.{Bool, true, false, cond, not, _&&_}
+use mathlib.Core.Bool.{true, false, cond, not, _&&_}
 use mathlib.Core.List.{List, [], _∷_}
 use Prim.Native.Nat.{ℕ, _-_, _*_}
 use lib.Dec.{eqb, leb}
-use lib.ListN.{length, take, drop}
+use lib.ListN.{length}
 use Rattle.laws.specs.Rows.{rowAt}
-use Rattle.refusals.specs.declared.Refusal.{Refusal}
 use Rattle.refusals.specs.declared.Refusal.the-variants.{LengthWrong, PositionWrong, BothDamaged}
 use Rattle.refusals.specs.Order.{Row, _gives_, decide}
 use Rattle.records.specs.Commands.{mostMonitors, payloadSize}

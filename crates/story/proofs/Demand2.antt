@@ -4,7 +4,7 @@
 -- Assumes nothing.
 use mathlib.Core.Path.{_≡_, refl}
 use mathlib.Core.Bool.{Bool, true, false, cond, not, _&&_, _||_}
-use mathlib.Core.List.{List, [], _∷_, _++_, map, reverse}
+use mathlib.Core.List.{List, [], _∷_, _++_, map}
 use mathlib.Core.Logic.{_⊎_, _↔_}
 use Prim.Native.Nat.{ℕ, suc, _+_, _-_, _*_, _/_, _%_, _^_, _≤_, _<_}
 use lib.Bits.{bitAnd, bitOr}
@@ -21,7 +21,6 @@ use Rattle.laws.specs.Tables.{tabulate}
 use Rattle.pec.specs.Words.{seal, counterOf, commandRight, sealedRight, payloadRight}
 use Rattle.pec.specs.Spikes.{Spike}
 use Rattle.pec.proofs.Spikes.{spike-some}
-use Rattle.wire.specs.Order.{replyData}
 use Rattle.refusals.specs.declared.Refusal.{Refusal}
 use Rattle.refusals.specs.declared.Refusal.the-variants.{TableNotSound, FrameShort, CommandWrong, CodeNotListed, LengthWrong, NoRoom, PositionWrong, CountWrong, CodeCleared, BothDamaged}
 use Rattle.refusals.specs.Order.{_gives_, Passed}

@@ -1,10 +1,10 @@
 -- A missed write by its bytes (L5): the write of Sharp to two monitors, of which one bit of the near one's payload came turned over, and a table of two monitors with the
 -- counter 63. Against 1, the next counter, the near one is seen with 63 and the far one right. By computation, and by the laws of a missed write.
 -- Assumes nothing.
-use mathlib.Core.Path.{_≡_, refl, sym, subst}
-use mathlib.Core.Bool.{Bool, true, false, not, false≢true}
+use mathlib.Core.Path.{_≡_, refl, sym}
+use mathlib.Core.Bool.{true, false, false≢true}
 use mathlib.Core.List.{List, [], _∷_, _++_}
-use Prim.Native.Nat.{ℕ, zero, suc, _<_}
+use Prim.Native.Nat.{ℕ, zero, suc}
 use native.Mathlib.Omega.{arith}
 use lib.Dec.{lit≤}
 use Rattle.laws.specs.Bits.{odd, bitAt, bitsOf, bitsOfBytes}

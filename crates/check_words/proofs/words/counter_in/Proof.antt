@@ -1,10 +1,10 @@
 -- `check_words::words::counter_in` meets its contract: of the two bytes that seal a payload the second is below what the counter counts in.
 -- Assumes nothing.
-use mathlib.Core.Path.{_≡_, sym, ap₂}
+use mathlib.Core.Path.{_≡_}
 use mathlib.Core.List.{List}
 use Prim.Native.Nat.{ℕ, _+_, _*_, _/_, _<_, _≤_}
 use native.Mathlib.Omega.{arith}
-use lib.ListN.{length, getD, List·getD-eq-default}
+use lib.ListN.{getD, List·getD-eq-default}
 use Rattle.pec.specs.Words.{wordAt, counterOf}
 use borrow.Author.Needs.{needs}
 use Rattle.check_words.proofs.words.counter_in.Statement.{statement}
