@@ -1,4 +1,5 @@
 // What our host makes of replies, at its limits: the check of one payload and the two ports, against the counter that it expects.
+use crate::bench::Bytes;
 use crate::bench::ROOM;
 use crate::bench::lay;
 use crate::bench::same;
@@ -158,6 +159,11 @@ const PORT_ROWS: [u64; 41] = [
     4_4_02_00_016_016_063_07,
 ];
 
+// So many bytes of a payload, laid over others that are all the same.
+fn laid(over: u8, at: u64, count: u64, which: u64) -> Bytes {
+    lay([over; ROOM], at, count, PAYLOADS[(which % 6) as usize])
+}
+
 fn refused(refusal: Refusal) -> u64 {
     let number = refusals::number_of(refusal) as u64;
     words(REFUSED, number, 0, 0, 0);
@@ -188,7 +194,7 @@ pub(crate) fn check(i: usize) -> bool {
     let which = row / 10_000_000 % 6;
     let size = row / 1_000_000 % 10;
     let expected = row / 1000 % 1000 % 256;
-    let payload = lay([0u8; ROOM], 0, 8, PAYLOADS[which as usize]);
+    let payload = laid(0, 0, 8, which);
     let end = size as usize;
     said(BYTES, size, 0, 0, 0);
     heading(HOLDS + which);
@@ -207,54 +213,56 @@ fn told_port(came: Port) -> u64 {
     20 + k % 4
 }
 
-// The part that is handed back is compared too: it is laid over bytes of EE, which stay where there is none.
-pub(crate) fn two_ports(i: usize) -> bool {
-    let row = PORT_ROWS[i % 41];
-    let in_a = row / 10_000_000_000_000_000 % 6;
-    let in_b = row / 1_000_000_000_000_000 % 10 % 6;
-    let n = row / 10_000_000_000_000 % 100;
-    let k = row / 100_000_000_000 % 100;
-    let size_a = row / 100_000_000 % 1000;
-    let size_b = row / 100_000 % 1000;
-    let expected = row / 100 % 1000 % 256;
-    said(MONITORS, n, k, size_a, size_b);
-    heading(HOLDS + in_a);
-    heading(IN_B);
-    heading(HOLDS + in_b);
-    said(EXPECTED, expected, 0, 0, 0);
-    let a = lay([0u8; ROOM], (k + 99) % 100 * 8, 8, PAYLOADS[in_a as usize]);
-    let b = lay(
-        [0u8; ROOM],
-        (n + 100 - k) % 100 * 8,
-        8,
-        PAYLOADS[in_b as usize],
-    );
-    let end_a = size_a as usize;
-    let end_b = size_b as usize;
+// Is the part that was handed back the one expected, and none where none is?
+fn as_wanted(part: Bytes, row: u64, in_a: u64, in_b: u64) -> bool {
+    let mut which = in_a;
+    if row % 2 == 1 {
+        which = in_b;
+    }
+    same(part, laid(0xee, 0, row % 100 / 20 * 8, which), 0, ROOM)
+}
+
+// Both answers, told, and the part laid over bytes of EE. Are they as expected?
+fn answered(row: u64, a: Bytes, b: Bytes, n: usize, k: usize) -> bool {
+    let end_a = (row / 100_000_000 % 1000) as usize;
+    let end_b = (row / 100_000 % 1000) as usize;
+    let expected = (row / 100 % 1000 % 256) as u8;
     let reply_a = &a[0..end_a];
     let reply_b = &b[0..end_b];
     let mut part = [0xeeu8; ROOM];
     bytes::put(
         &mut part,
         0,
-        ports::part_of(reply_a, reply_b, n as usize, k as usize, expected as u8),
+        ports::part_of(reply_a, reply_b, n, k, expected),
     );
-    let answer = told_port(ports::port_of(
-        reply_a,
-        reply_b,
-        n as usize,
-        k as usize,
-        expected as u8,
-    ));
-    let mut which = in_a;
-    if row % 2 == 1 {
-        which = in_b;
-    }
-    let wanted = lay(
-        [0xee; ROOM],
-        0,
-        row % 100 / 20 * 8,
-        PAYLOADS[which as usize % 6],
+    let answer = told_port(ports::port_of(reply_a, reply_b, n, k, expected));
+    (answer == row % 100)
+        & as_wanted(
+            part,
+            row,
+            row / 10_000_000_000_000_000,
+            row / 1_000_000_000_000_000 % 10,
+        )
+}
+
+pub(crate) fn two_ports(i: usize) -> bool {
+    let row = PORT_ROWS[i % 41];
+    let in_a = row / 10_000_000_000_000_000 % 6;
+    let in_b = row / 1_000_000_000_000_000 % 10 % 6;
+    let n = row / 10_000_000_000_000 % 100;
+    let k = row / 100_000_000_000 % 100;
+    said(
+        MONITORS,
+        n,
+        k,
+        row / 100_000_000 % 1000,
+        row / 100_000 % 1000,
     );
-    (answer == row % 100) & same(part, wanted, 0, ROOM)
+    heading(HOLDS + in_a);
+    heading(IN_B);
+    heading(HOLDS + in_b);
+    said(EXPECTED, row / 100 % 1000, 0, 0, 0);
+    let a = laid(0, (k + 99) % 100 * 8, 8, in_a);
+    let b = laid(0, (n + 100 - k) % 100 * 8, 8, in_b);
+    answered(row, a, b, n as usize, k as usize)
 }
