@@ -178,8 +178,8 @@ osk_answer osk_host_frame(uint16_t command, size_t monitors, const uint8_t *valu
 /* A monitor counts the writes and bare commands that it takes: after 63 comes 1, RSTCC (002E) makes it 0, reads leave it. Each reply carries the
  * counter as it stands, in the six high bits of the seventh of its eight bytes (payload[6] >> 2). A host that keeps the same count knows what to expect:
  * after a write or a bare command the next counter, and of a monitor that missed it the reply has the old one. An RSTCC hides what was missed before it,
- * and 63 missed in a row come round to the same. A WRRR is counted whatever its check, so a damaged one does not show; in LPCM no write is taken, which
- * shows as one that was missed.
+ * and so do 63 missed in a row, but from 0. A WRRR is counted whatever its check, so a damaged one does not show; in LPCM no write is taken, which shows
+ * as one that was missed.
  */
 enum { OSK_RIGHT = 1, OSK_DAMAGED = 2, OSK_COUNTER_DIFFERS = 3 };
 

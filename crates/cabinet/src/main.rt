@@ -43,8 +43,8 @@ use crate::words::VERDICT;
 use crate::words::WHOSE;
 use crate::words::WRONG;
 
-// The counter that our host expects of the near half and of the far half in each play. It is one more than before for each write; after the one
-// that the far half missed our host counts on from what it read there.
+// The counter that our host expects of the near half and of the far half in each play. It is one more for each write than before; of the far half,
+// after the write that it missed, one more than was read of it then.
 const COUNTERS: [u64; 8] = [1, 1, 1, 1, 2, 2, 3, 2];
 
 // How many monitors take the write of each play.
@@ -123,8 +123,10 @@ fn half(table: &mut Table, play: usize, half: usize, cells: &mut [i16; 32]) -> u
     words(HALF + (half % 2) as u64, 0);
     words(PORT + port(seen.ports) % 3, 0);
     let counter = seen.counter as u64;
-    words(COUNTER, counter);
-    words(COUNTED + (counter != expected) as u64 % 2, expected);
+    if counter < 64 {
+        words(COUNTER, counter);
+        words(COUNTED + (counter != expected) as u64 % 2, expected);
+    }
     let whose = holds(HOLDS, bytes, half);
     judged::put_codes(cells, bytes, half);
     let from = half % 2 * 16;

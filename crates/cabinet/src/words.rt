@@ -1,5 +1,5 @@
 // All that is written, in words that are called by their number: a ~ stands before each, and the first are 1.
-pub(crate) const SIZE: usize = 1866;
+pub(crate) const SIZE: usize = 1899;
 
 pub(crate) const BYTE: u64 = 1;
 
@@ -68,7 +68,7 @@ pub(crate) const WORDS: [u8; SIZE] = *b"\
     ~, over-voltage above $ V\
     ~\n\nOur host sends the far monitor's payload first, as the chain wants it.\n  on the wire:\
     ~\nThe old bench sent the same two payloads in list order, the near monitor's first.\n  on the wire:\
-    ~\nOur host sends the right ones to that cabinet, and a spike turns over four bits for the far half. No host is told who took a write.\n  on the wire:\
+    ~\nOur host sends the right ones to that cabinet, and a spike turns over four bits for the far half. The bench tells who takes it, and no host.\n  on the wire:\
     ~\nOur host sends them again, and counts on from each half's own counter.\n  on the wire:\
     ~\n  taken by # of 2 monitors; cells \
     ~not loaded\n\
@@ -102,7 +102,7 @@ pub(crate) const WORDS: [u8; SIZE] = *b"\
     ~, total $ V\n\
     ~\
     ~no flag is up in either half: the low cell of the far half goes unseen\n\
-    ~no flag is up, and nothing that was read is damaged: the low cell goes unseen, and the counter of each reply says why\n\
+    ~no flag is up, and the bytes that our host goes by are not damaged: the low cell goes unseen, and the counter of the far half alone tells why\n\
     ~\
     ~The old bench read the replies in list order too:\n\
     ~  not as ordered, so it did not pass the board\n\

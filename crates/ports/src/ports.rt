@@ -3,13 +3,13 @@
 ghost use mathlib.Core.Path.{_≡_};
 ghost use mathlib.Core.Bool.{cond, _&&_};
 ghost use Prim.Native.Nat.{_+_, _*_, _≤_};
-ghost use lib.Dec.{leb};
+ghost use lib.Dec.{eqb, leb};
 ghost use lib.ListN.{length};
-ghost use Rattle.pec.specs.Words.{payloadRight};
+ghost use Rattle.pec.specs.Words.{counterOf};
 ghost use Rattle.records.specs.Commands.{mostMonitors, payloadSize};
 ghost use Rattle.refusals.specs.declared.Refusal.the-variants.{BothDamaged};
 ghost use Rattle.ports.specs.declared.ports.Port.the-variants.{Refused};
-ghost use Rattle.ports.specs.Verdicts.{isDamaged, isRight};
+ghost use Rattle.ports.specs.Verdicts.{isDamaged};
 ghost use Rattle.ports.specs.Ports.{placeA, placeB, chosen, portOf};
 ghost use Rattle.ports.specs.Parts.{bytesOf, lying, part, partOf};
 use records::MOST_COUNT;
@@ -63,10 +63,9 @@ fn part_at(reply: &[u8], place: usize) -> &[u8]
     &reply[from..to]
 }
 
-// Is a payload right, its check being so or not?
+// Is a payload right: is its check, and is its counter the one expected?
 fn is_right(check: bool, eight: &[u8], expected: u8) -> bool
-    requires { ⌜ check ≡ payloadRight (now eight) ⌝ }
-    ensures { λ r. ⌜ r ≡ isRight (now (eight .entry)) expected ⌝ }
+    ensures { λ r. ⌜ r ≡ (check && eqb (counterOf (now (eight .entry))) expected) ⌝ }
 {
     if !check {
         return false;

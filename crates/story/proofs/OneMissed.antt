@@ -27,7 +27,7 @@ use Rattle.story.proofs.Spikes.{struck-spoilt}
 use Rattle.story.proofs.Missed.{missed-seen}
 use Rattle.story.proofs.Sharp.{writeSent, eleven-is-ours, not-wrrr}
 
--- the near one's VOV one higher
+-- the near one's VOV 16 higher
 abbrev pub writeOne : List ℕ
 writeOne =
     0x00 ∷ 0x24 ∷ 0xB1 ∷ 0x9E

@@ -77,7 +77,8 @@ pub record StruckEach (c : Write) (n : ℕ) (sent came : List ℕ) : Type 0 wher
   pub same-head : take headSize came ≡ take headSize sent
   pub each : (k : ℕ) → k < n → (unhit (Writes c) n sent came k ≡ true) ⊎ Spike dataPlaces (ownIn (Writes c) n sent k) (ownIn (Writes c) n came k)
 
--- or their check is wrong, whatever was turned over
+-- its length and its first four bytes came as they were sent, and each monitor's own bytes came as they were sent or with a check that is wrong, whatever was
+-- turned over of them
 pub record Spoilt (c : Write) (n : ℕ) (sent came : List ℕ) : Type 0 where
   pub ours : Ours (Writes c) n sent
   pub as-long : length came ≡ length sent

@@ -8,7 +8,7 @@ abbrev Inv-loop : tie.InvT-loop
 Inv-loop k number all at₀ i₀ at i = Unit {0}
 
 abbrev μ-loop : tie.MeasureT-loop
-μ-loop k number all at₀ i₀ at i = 1866 - i
+μ-loop k number all at₀ i₀ at i = 1899 - i
 
 pub words-spec : {M : Type 1} → statement M
 words-spec =

@@ -6,25 +6,20 @@ use Prim.Native.Nat.{ℕ}
 use lib.Dec.{eqb}
 use borrow.Author.Tests.{not-true, not-false}
 use Rattle.pec.specs.Words.{counterOf}
-use Rattle.ports.specs.Verdicts.{isRight}
 use borrow.Author.Needs.{needs}
 use Rattle.ports.proofs.ports.is_right.Statement.{statement}
 use Rattle.ports.proofs.ports.is_right.Tie as tie
 
 returns : tie.Need-returns
-unfolding isRight
 returns c =
-    let s = c .before .before in
-    let q = s .args in
-    ap (λ (b : Bool). b && eqb (counterOf (q .eight .now)) (q .expected)) (sym (not-true _ (c .if1 .taken)) ∙ s .pre)
+    let q = c .before .before .args in
+    ap (λ (b : Bool). b && eqb (counterOf (q .eight .now)) (q .expected)) (sym (not-true (q .check) (c .if1 .taken)))
 
 returns-2 : tie.Need-returns-2
-unfolding isRight
 returns-2 c =
-    let s = c .before .before .before in
-    let q = s .args in
+    let q = c .before .before .before .args in
     ap (λ (n : ℕ). eqb n (q .expected)) (c .counter-in .ensures)
-    ∙ ap (λ (b : Bool). b && eqb (counterOf (q .eight .now)) (q .expected)) (sym (not-false _ (c .before .if1 .left)) ∙ s .pre)
+    ∙ ap (λ (b : Bool). b && eqb (counterOf (q .eight .now)) (q .expected)) (sym (not-false (q .check) (c .before .if1 .left)))
 
 pub is-right-spec : {M : Type 1} → statement M
 is-right-spec = tie.close (tie.spec returns (λ c κs. search needs) returns-2)
