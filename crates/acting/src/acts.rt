@@ -1,9 +1,9 @@
 // What one monitor does with an accepted command and its own bytes.
 ghost use Rattle.std.specs.Prelude.{◌≡◌, cond, ◌&&◌, length};
-ghost use Rattle.pec.specs.Words.{sealedRight, numberRight};
-ghost use Rattle.records.specs.Record.{recordSize, isRecord};
-ghost use Rattle.records.specs.Commands.{dataSize};
-ghost use Rattle.monitor.specs.Effects.{locked, nextCount, counted, done, goodFor, accepts, takes, keeps};
+ghost use Rattle.pec.specs.Words.{sealed_right, number_right};
+ghost use Rattle.records.specs.Record.{record_size, is_record};
+ghost use Rattle.records.specs.Commands.{data_size};
+ghost use Rattle.monitor.specs.Effects.{locked, next_count, counted, done, good_for, accepts, takes, keeps};
 
 use monitor::carry_out;
 use records::{
@@ -13,7 +13,7 @@ use writes::needs_check;
 use writing::write;
 
 fn lock(rec: &mut [u8])
-    requires { length rec.old ≡ recordSize }
+    requires { length rec.old ≡ record_size }
     ensures { rec.new ≡ locked rec.old }
 {
     rec[UNLOCKED] = 0;
@@ -21,14 +21,14 @@ fn lock(rec: &mut [u8])
 
 // After 63 comes 1. A counter above 63 is in no sound record.
 fn next_count(n: u8) -> u8
-    ensures { result ≡ nextCount n }
+    ensures { result ≡ next_count n }
 {
     if n < MOST_COUNT { n + 1 } else { 1 }
 }
 
 // Locked, and counted where it is taken: so begins every command that is no read.
 fn begin(rec: &mut [u8], taken: bool)
-    requires { length rec.old ≡ recordSize }
+    requires { length rec.old ≡ record_size }
     ensures { rec.new ≡ cond taken (counted (locked rec.old)) (locked rec.old) }
 {
     lock(rec);
@@ -39,7 +39,7 @@ fn begin(rec: &mut [u8], taken: bool)
 
 // A bare command at one monitor: counted and done.
 fn act_bare(what: Bare, rec: &mut [u8])
-    requires { length rec.old ≡ recordSize }
+    requires { length rec.old ≡ record_size }
     ensures { rec.new ≡ done what (counted (locked rec.old)) }
 {
     begin(rec, true);
@@ -49,7 +49,7 @@ fn act_bare(what: Bare, rec: &mut [u8])
 // A monitor's own bytes as the number that their check goes by. It is divided in one place: the division for six data bytes and that
 // for two would want more registers than the loop of the monitors has.
 fn number_for(what: Write, own: &[u8]) -> u64
-    ensures { numberRight result ≡ sealedRight (dataSize what) own.now }
+    ensures { number_right result ≡ sealed_right (data_size what) own.now }
 {
     if data_size(what) == 6 {
         return check_words::number_in(own);
@@ -59,7 +59,7 @@ fn number_for(what: Write, own: &[u8]) -> u64
 
 // Are a monitor's own bytes good for a write: right, or, where it does not need its check right, whatever bytes they are, if as many?
 fn good_for(what: Write, own: &[u8]) -> bool
-    ensures { result ≡ goodFor what own.now }
+    ensures { result ≡ good_for what own.now }
 {
     if needs_check(what) {
         return check_words::number_right(number_for(what, own));
@@ -80,7 +80,7 @@ fn accepts(what: Write, rec: &[u8], own: &[u8]) -> bool
 
 // A write at one monitor: counted and done where it accepts it.
 fn act_write(what: Write, rec: &mut [u8], own: &[u8]) -> bool
-    requires { length rec.old ≡ recordSize }
+    requires { length rec.old ≡ record_size }
     ensures value { result ≡ takes (Command.Writes what) own.now rec.old }
     ensures rec_after { rec.new ≡ keeps (Command.Writes what) own.now rec.old }
 {
@@ -96,8 +96,8 @@ fn act_write(what: Write, rec: &mut [u8], own: &[u8]) -> bool
 // What one monitor does with an accepted command: its record changes as the rules say, and the answer is whether it took
 // the command. A slice that is no record stays as it is, and the answer is false.
 pub fn act(command: Command, rec: &mut [u8], own: &[u8]) -> bool
-    ensures value { result ≡ (isRecord rec.old && takes command own.now rec.old) }
-    ensures rec_after { rec.new ≡ cond (isRecord rec.old) (keeps command own.now rec.old) rec.old }
+    ensures value { result ≡ (is_record rec.old && takes command own.now rec.old) }
+    ensures rec_after { rec.new ≡ cond (is_record rec.old) (keeps command own.now rec.old) rec.old }
 {
     if rec.len() != RECORD_SIZE {
         return false;

@@ -126,7 +126,7 @@ fn pick(reply: [u8; 16], half: usize, expected: u8, seen: &mut [u8], at: usize) 
     let mut a = reply;
     a[8] = a[8] ^ 1;
     let monitor = half % 2 + 1;
-    bytes::put(seen, at, ports::part_of(&a, &b, 2, monitor, expected));
+    laying::put(seen, at, ports::part_of(&a, &b, 2, monitor, expected));
     match ports::port_of(&a, &b, 2, monitor, expected) {
         Port::A(differs) => if differs { 0x100 } else { 0x1 },
         Port::B(differs) => if differs { 0x1000 } else { 0x10 },

@@ -17,20 +17,20 @@ unfolding word
 word_below (pos n) f = omega arith
 word_below (negsuc n) f = omega arith
 
-pub word-of-negative : (z : ℤ) → lt_z z (pos 0) ≡ true → SFits w16 z → z +ℤ pos 65536 ≡ pos (word z)
+pub word_of_negative : (z : ℤ) → lt_z z (pos 0) ≡ true → SFits w16 z → z +ℤ pos 65536 ≡ pos (word z)
 unfolding word
-word-of-negative (pos n) h f = absurd (none (ltb-true n 0 h))
+word_of_negative (pos n) h f = absurd (none (ltb-true n 0 h))
   where
     none : n < 0 → ⊥
     none b = omega arith
-word-of-negative (negsuc n) h f =
+word_of_negative (negsuc n) h f =
     ap (λ (b : Bool). cond b (negsuc (suc n - suc 65536)) (pos (65536 - suc n))) (le-ltb 65536 (suc n) (omega arith))
     ∙ ap pos one_less
   where
     one_less : 65536 - suc n ≡ 65535 - n
     one_less = omega arith
 
-pub word-of-positive : (z : ℤ) → lt_z z (pos 0) ≡ false → z ≡ pos (word z)
+pub word_of_positive : (z : ℤ) → lt_z z (pos 0) ≡ false → z ≡ pos (word z)
 unfolding word
-word-of-positive (pos n) h = refl
-word-of-positive (negsuc n) h = absurd (subst T h tt)
+word_of_positive (pos n) h = refl
+word_of_positive (negsuc n) h = absurd (subst T h tt)

@@ -1,15 +1,15 @@
 // The cells of one monitor: sixteen codes are stored, and what is stored is compared.
 ghost use Rattle.std.specs.Prelude.{◌≡◌, cond, ◌&&◌, ◌*◌, ◌<◌, eqb, length};
-ghost use Rattle.records.specs.Record.{cellCount, flags, isRecord};
+ghost use Rattle.records.specs.Record.{cell_count, flags, is_record};
 ghost use Rattle.thresholds.specs.Thresholds.{signed};
 ghost use Rattle.cells.specs.Cells.{
   word,
-  codeByte,
+  code_byte,
   store,
   code_in,
-  flagsFor,
+  flags_for,
   flags_of,
-  flagByte,
+  flag_byte,
   compare,
 };
 
@@ -33,7 +33,7 @@ fn word_of(code: i16) -> u16
 // Byte i of the cells, low bytes first.
 fn code_byte(codes: &[i16], i: usize) -> u8
     requires { i < 2 * length codes.now }
-    ensures { result ≡ codeByte codes.now i }
+    ensures { result ≡ code_byte codes.now i }
 {
     let bits = word_of(codes[i / 2]);
     if i % 2 == 0 {
@@ -46,8 +46,8 @@ fn code_byte(codes: &[i16], i: usize) -> u8
 // Stores sixteen codes in a record. Nothing changes, and the answer is false, where it is no record or the codes are not
 // sixteen.
 pub fn store(rec: &mut [u8], codes: &[i16]) -> bool
-    ensures value { result ≡ (isRecord rec.old && eqb (length codes.now) cellCount) }
-    ensures rec_after { rec.new ≡ cond (isRecord rec.old && eqb (length codes.now) cellCount) (store codes.now rec.old) rec.old }
+    ensures value { result ≡ (is_record rec.old && eqb (length codes.now) cell_count) }
+    ensures rec_after { rec.new ≡ cond (is_record rec.old && eqb (length codes.now) cell_count) (store codes.now rec.old) rec.old }
 {
     if rec.len() != RECORD_SIZE {
         return false;
@@ -88,7 +88,7 @@ pub fn code_in(rec: &[u8], part: Part, c: usize) -> ResultCode
 
 // A cell's two flags, UV counting 1 and OV counting 2.
 fn flags_for(code: ResultCode, lower: ResultCode, upper: ResultCode) -> u8
-    ensures { result ≡ flagsFor code lower upper }
+    ensures { result ≡ flags_for code lower upper }
 {
     let under = (code.0 < lower.0) as u8;
     let over = (upper.0 < code.0) as u8;
@@ -113,7 +113,7 @@ fn flags_of(rec: &[u8], c: usize) -> u8
 // Byte j of the flags, for the four cells that it holds.
 fn flag_byte(rec: &[u8], j: usize) -> u8
     requires { j < flags.size }
-    ensures { result ≡ flagByte rec.now j }
+    ensures { result ≡ flag_byte rec.now j }
 {
     let first = flags_of(rec, 4 * j);
     let second = flags_of(rec, 4 * j + 1);
@@ -125,8 +125,8 @@ fn flag_byte(rec: &[u8], j: usize) -> u8
 // Compares the stored cells of a record with its thresholds and raises flags. Nothing changes, and the answer is false,
 // where it is no record. The flags' bytes are no part of what is compared, so each may be raised before the next is made.
 pub fn compare(rec: &mut [u8]) -> bool
-    ensures value { result ≡ isRecord rec.old }
-    ensures rec_after { rec.new ≡ cond (isRecord rec.old) (compare rec.old) rec.old }
+    ensures value { result ≡ is_record rec.old }
+    ensures rec_after { rec.new ≡ cond (is_record rec.old) (compare rec.old) rec.old }
 {
     if rec.len() != RECORD_SIZE {
         return false;

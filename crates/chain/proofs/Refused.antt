@@ -8,44 +8,44 @@ use Prim.Native.Nat.{ℕ}
 use native.Mathlib.Omega.{arith}
 use lib.ListN.{length}
 use Rattle.refusals.specs.declared.Refusal.{Refusal}
-use Rattle.records.specs.Commands.{replyLength}
+use Rattle.records.specs.Commands.{reply_length}
 use Rattle.chain.specs.declared.frames.Answer.TheVariants.{Refused, Accepted}
 use Rattle.judging.specs.Table.{monitors}
-use Rattle.judging.specs.Refusals.{commandIn}
-use Rattle.serving.specs.Served.{takenBy, kept}
+use Rattle.judging.specs.Refusals.{command_in}
+use Rattle.serving.specs.Served.{taken_by, kept}
 use Rattle.replying.specs.Replied.{replied}
-use Rattle.chain.specs.Frame.{frameRefusals, answer, tableAfter, replyAfter}
-use Rattle.refusals.proofs.Decided.{stays-so, goes_on, is-accepted}
+use Rattle.chain.specs.Frame.{frame_refusals, answer, table_after, reply_after}
+use Rattle.refusals.proofs.Decided.{stays_so, goes_on, is_accepted}
 
 pub accepted-apart : (taken reply : ℕ) (r : Refusal) → Accepted taken reply ≡ Refused r → ⊥
 accepted-apart taken reply r e = let z : ◌≡◌ {A = ℕ} 0 1 = cc in omega arith
 
-pub refused-table : (table frame : List ℕ) (room : ℕ) (r : Refusal) → answer table frame room ≡ Refused r → tableAfter table frame room ≡ table
-unfolding answer tableAfter
-refused-table table frame room r e = stays-so (frameRefusals table frame room) Refused _ r table _ (accepted-apart _ _ r) e
+pub refused-table : (table frame : List ℕ) (room : ℕ) (r : Refusal) → answer table frame room ≡ Refused r → table_after table frame room ≡ table
+unfolding answer table_after
+refused-table table frame room r e = stays_so (frame_refusals table frame room) Refused _ r table _ (accepted-apart _ _ r) e
 
-pub refused-reply : (table frame buffer : List ℕ) (r : Refusal) → answer table frame (length buffer) ≡ Refused r → replyAfter table frame buffer ≡ buffer
-unfolding answer replyAfter
-refused-reply table frame buffer r e = stays-so (frameRefusals table frame (length buffer)) Refused _ r buffer _ (accepted-apart _ _ r) e
+pub refused-reply : (table frame buffer : List ℕ) (r : Refusal) → answer table frame (length buffer) ≡ Refused r → reply_after table frame buffer ≡ buffer
+unfolding answer reply_after
+refused-reply table frame buffer r e = stays_so (frame_refusals table frame (length buffer)) Refused _ r buffer _ (accepted-apart _ _ r) e
 
 module _ (table frame : List ℕ) (taken reply : ℕ) where
   pub accepted-table : (room : ℕ) → answer table frame room ≡ Accepted taken reply
-      → tableAfter table frame room ≡ kept (commandIn frame) (monitors table) table frame
-  unfolding answer tableAfter
-  accepted-table room e = goes_on (frameRefusals table frame room) Refused _ (Accepted taken reply) table _ (accepted-apart taken reply) e
+      → table_after table frame room ≡ kept (command_in frame) (monitors table) table frame
+  unfolding answer table_after
+  accepted-table room e = goes_on (frame_refusals table frame room) Refused _ (Accepted taken reply) table _ (accepted-apart taken reply) e
 
   pub accepted-reply : (buffer : List ℕ) → answer table frame (length buffer) ≡ Accepted taken reply
-      → replyAfter table frame buffer ≡ replied (commandIn frame) (monitors table) table buffer
-  unfolding answer replyAfter
-  accepted-reply buffer e = goes_on (frameRefusals table frame (length buffer)) Refused _ (Accepted taken reply) buffer _ (accepted-apart taken reply) e
+      → reply_after table frame buffer ≡ replied (command_in frame) (monitors table) table buffer
+  unfolding answer reply_after
+  accepted-reply buffer e = goes_on (frame_refusals table frame (length buffer)) Refused _ (Accepted taken reply) buffer _ (accepted-apart taken reply) e
 
   the_values : (room : ℕ) → answer table frame room ≡ Accepted taken reply
-      → Accepted (takenBy (commandIn frame) (monitors table) table frame) (replyLength (commandIn frame) (monitors table)) ≡ Accepted taken reply
+      → Accepted (taken_by (command_in frame) (monitors table) table frame) (reply_length (command_in frame) (monitors table)) ≡ Accepted taken reply
   unfolding answer
-  the_values room e = is-accepted (frameRefusals table frame room) Refused _ (Accepted taken reply) (accepted-apart taken reply) e
+  the_values room e = is_accepted (frame_refusals table frame room) Refused _ (Accepted taken reply) (accepted-apart taken reply) e
 
-  pub accepted-taken : (room : ℕ) → answer table frame room ≡ Accepted taken reply → taken ≡ takenBy (commandIn frame) (monitors table) table frame
+  pub accepted-taken : (room : ℕ) → answer table frame room ≡ Accepted taken reply → taken ≡ taken_by (command_in frame) (monitors table) table frame
   accepted-taken room e = let same = the_values room e in cc
 
-  pub accepted-length : (room : ℕ) → answer table frame room ≡ Accepted taken reply → reply ≡ replyLength (commandIn frame) (monitors table)
+  pub accepted-length : (room : ℕ) → answer table frame room ≡ Accepted taken reply → reply ≡ reply_length (command_in frame) (monitors table)
   accepted-length room e = let same = the_values room e in cc

@@ -3,34 +3,34 @@
 -- Assumes nothing.
 use Rattle.std.specs.Prelude.{List, [], ◌∷◌, ℕ, length, take}
 use Rattle.refusals.specs.Order.{Row, decide}
-use Rattle.records.specs.Commands.{replyLength}
+use Rattle.records.specs.Commands.{reply_length}
 use Rattle.chain.specs.declared.frames.Answer.{Answer}
 use Rattle.chain.specs.declared.frames.Answer.TheVariants.{Refused, Accepted}
 use Rattle.judging.specs.Table.{monitors}
-use Rattle.judging.specs.Refusals.{commandIn, tableRow, shortRow, commandRow, listedRow, lengthRow, roomRow}
-use Rattle.serving.specs.Served.{takenBy, kept}
+use Rattle.judging.specs.Refusals.{command_in, table_row, short_row, command_row, listed_row, length_row, room_row}
+use Rattle.serving.specs.Served.{taken_by, kept}
 use Rattle.replying.specs.Replied.{replied}
 
 -- the refusals, in their order
-unfoldable pub frameRefusals : List ℕ → List ℕ → ℕ → List Row
-frameRefusals table frame room =
-    tableRow table
-    ∷ shortRow (length frame)
-    ∷ commandRow (take 4 frame)
-    ∷ listedRow frame
-    ∷ lengthRow (length frame) (commandIn frame) (monitors table)
-    ∷ roomRow room (commandIn frame) (monitors table)
+unfoldable pub frame_refusals : List ℕ → List ℕ → ℕ → List Row
+frame_refusals table frame room =
+    table_row table
+    ∷ short_row (length frame)
+    ∷ command_row (take 4 frame)
+    ∷ listed_row frame
+    ∷ length_row (length frame) (command_in frame) (monitors table)
+    ∷ room_row room (command_in frame) (monitors table)
     ∷ []
 
 -- ---- what comes of any frame. A refusal changes nothing
 
 unfoldable pub answer : List ℕ → List ℕ → ℕ → Answer
 answer table frame room =
-    decide (frameRefusals table frame room) Refused
-    (Accepted (takenBy (commandIn frame) (monitors table) table frame) (replyLength (commandIn frame) (monitors table)))
+    decide (frame_refusals table frame room) Refused
+    (Accepted (taken_by (command_in frame) (monitors table) table frame) (reply_length (command_in frame) (monitors table)))
 
-unfoldable pub tableAfter : List ℕ → List ℕ → ℕ → List ℕ
-tableAfter table frame room = decide (frameRefusals table frame room) (λ n. table) (kept (commandIn frame) (monitors table) table frame)
+unfoldable pub table_after : List ℕ → List ℕ → ℕ → List ℕ
+table_after table frame room = decide (frame_refusals table frame room) (λ n. table) (kept (command_in frame) (monitors table) table frame)
 
-unfoldable pub replyAfter : List ℕ → List ℕ → List ℕ → List ℕ
-replyAfter table frame buffer = decide (frameRefusals table frame (length buffer)) (λ n. buffer) (replied (commandIn frame) (monitors table) table buffer)
+unfoldable pub reply_after : List ℕ → List ℕ → List ℕ → List ℕ
+reply_after table frame buffer = decide (frame_refusals table frame (length buffer)) (λ n. buffer) (replied (command_in frame) (monitors table) table buffer)

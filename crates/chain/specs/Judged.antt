@@ -3,23 +3,23 @@
 use Rattle.std.specs.Prelude.{◌≡◌, List, ℕ, ◌*◌, ◌≤◌, length}
 use Rattle.refusals.specs.Order.{decide}
 use Rattle.records.specs.declared.commands.Command.{Command}
-use Rattle.records.specs.Record.{recordSize}
-use Rattle.records.specs.Commands.{mostMonitors, frameLength, replyLength}
+use Rattle.records.specs.Record.{record_size}
+use Rattle.records.specs.Commands.{most_monitors, frame_length, reply_length}
 use Rattle.judging.specs.declared.heads.Judged.{Judged}
 use Rattle.judging.specs.declared.heads.Judged.TheVariants.{Bad, Good}
 use Rattle.judging.specs.Table.{monitors}
-use Rattle.judging.specs.Refusals.{commandIn}
-use Rattle.chain.specs.Frame.{frameRefusals}
+use Rattle.judging.specs.Refusals.{command_in}
+use Rattle.chain.specs.Frame.{frame_refusals}
 
 unfoldable pub judged : List ℕ → List ℕ → ℕ → Judged
-judged table frame room = decide (frameRefusals table frame room) Bad (Good (commandIn frame) (monitors table))
+judged table frame room = decide (frame_refusals table frame room) Bad (Good (command_in frame) (monitors table))
 
 pub record Ready (c : Command) (n : ℕ) (table frame : List ℕ) (room : ℕ) : Type 0 where
-  pub whole : length table ≡ n * recordSize
+  pub whole : length table ≡ n * record_size
   pub some : 1 ≤ n
-  pub few : n ≤ mostMonitors
-  pub long : length frame ≡ frameLength c n
-  pub enough : replyLength c n ≤ room
+  pub few : n ≤ most_monitors
+  pub long : length frame ≡ frame_length c n
+  pub enough : reply_length c n ≤ room
 
 abbrev pub ReadyIf : Judged → List ℕ → List ℕ → ℕ → Type 0
 ReadyIf (Bad n) table frame room = Unit {0}

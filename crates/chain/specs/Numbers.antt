@@ -6,6 +6,6 @@ use Rattle.chain.specs.declared.frames.Answer.TheVariants.{Refused, Accepted}
 use Rattle.chain.specs.declared.numbers.Numbers.{Numbers}
 
 -- an accepted frame has no number: 0
-abbrev pub numbersOf : Answer → Numbers
-numbersOf (Refused r) = record { number = number_of r; taken = 0; reply = 0 }
-numbersOf (Accepted taken reply) = record { number = 0; taken = taken; reply = reply }
+abbrev pub numbers_of : Answer → Numbers
+numbers_of (Refused r) = record { number = number_of r; taken = 0; reply = 0 }
+numbers_of (Accepted taken reply) = record { number = 0; taken = taken; reply = reply }

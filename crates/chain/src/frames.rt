@@ -1,9 +1,9 @@
 // The engine that handles a whole frame.
 ghost use Rattle.std.specs.Prelude.{◌≡◌, ◌*◌, ◌≤◌, length, drop};
-ghost use Rattle.records.specs.Record.{recordSize};
-ghost use Rattle.records.specs.Commands.{mostMonitors};
-ghost use Rattle.serving.specs.Served.{takenBy, kept};
-ghost use Rattle.chain.specs.Frame.{answer, tableAfter, replyAfter};
+ghost use Rattle.records.specs.Record.{record_size};
+ghost use Rattle.records.specs.Commands.{most_monitors};
+ghost use Rattle.serving.specs.Served.{taken_by, kept};
+ghost use Rattle.chain.specs.Frame.{answer, table_after, reply_after};
 ghost use Rattle.chain.specs.Judged.{judged, ReadyIf};
 
 use judging::{Judged, judge_head, sound_count};
@@ -47,8 +47,8 @@ fn payloads_of(frame: &[u8]) -> &[u8]
 
 // Every monitor acts on its own bytes of a frame.
 fn serve_frame(table: &mut [u8], command: Command, n: usize, frame: &[u8]) -> usize
-    requires { (length table.old ≡ n * recordSize) × (n ≤ mostMonitors) }
-    ensures value { result ≡ takenBy command n table.old frame.now }
+    requires { (length table.old ≡ n * record_size) × (n ≤ most_monitors) }
+    ensures value { result ≡ taken_by command n table.old frame.now }
     ensures table_after { table.new ≡ kept command n table.old frame.now }
 {
     serve(table, command, n, payloads_of(frame))
@@ -58,8 +58,8 @@ fn serve_frame(table: &mut [u8], command: Command, n: usize, frame: &[u8]) -> us
 // refusal changes nothing.
 pub fn handle(table: &mut [u8], frame: &[u8], buffer: &mut [u8]) -> Answer
     ensures value { result ≡ answer table.old frame.now (length buffer.old) }
-    ensures table_after { table.new ≡ tableAfter table.old frame.now (length buffer.old) }
-    ensures buffer_after { buffer.new ≡ replyAfter table.old frame.now buffer.old }
+    ensures table_after { table.new ≡ table_after table.old frame.now (length buffer.old) }
+    ensures buffer_after { buffer.new ≡ reply_after table.old frame.now buffer.old }
 {
     match judge(table, frame, buffer.len()) {
         Judged::Bad(refusal) => Answer::Refused(refusal),

@@ -1,6 +1,6 @@
 // The paper's numbers and values for the answers.
 ghost use Rattle.std.specs.Prelude.{◌≡◌};
-ghost use Rattle.chain.specs.Numbers.{numbersOf};
+ghost use Rattle.chain.specs.Numbers.{numbers_of};
 
 use crate::frames::Answer;
 
@@ -13,7 +13,7 @@ pub struct Numbers {
 }
 
 pub fn numbers_of(answer: Answer) -> Numbers
-    ensures { result ≡ numbersOf answer }
+    ensures { result ≡ numbers_of answer }
 {
     match answer {
         Answer::Refused(refusal) => Numbers {

@@ -8,12 +8,12 @@ use lib.Dec.{eqb}
 use lib.ListN.{length, take}
 use Rattle.laws.specs.Bits.{◌⊕◌, odd, bits_of}
 use Rattle.pec.specs.Remainder.{once, step, remainder}
-use Rattle.pec.specs.Words.{word_at, dataPec, sealedRight, payloadRight, numberRight}
+use Rattle.pec.specs.Words.{word_at, data_pec, sealed_right, payload_right, number_right}
 
-zero-wrong : numberRight 0 ≡ false
-unfolding numberRight remainder step once bits_of odd ◌⊕◌ xor
-zero-wrong = refl
+zero_wrong : number_right 0 ≡ false
+unfolding number_right remainder step once bits_of odd ◌⊕◌ xor
+zero_wrong = refl
 
-pub none_right : (bytes : List ℕ) → eqb (length bytes) 8 ≡ false → numberRight 0 ≡ payloadRight bytes
-unfolding payloadRight sealedRight
-none_right bytes other = zero-wrong ∙ sym (ap (λ (b : Bool). b && eqb (word_at bytes 6 % 1024) (dataPec (take 6 bytes) (word_at bytes 6 / 1024))) other)
+pub none_right : (bytes : List ℕ) → eqb (length bytes) 8 ≡ false → number_right 0 ≡ payload_right bytes
+unfolding payload_right sealed_right
+none_right bytes other = zero_wrong ∙ sym (ap (λ (b : Bool). b && eqb (word_at bytes 6 % 1024) (data_pec (take 6 bytes) (word_at bytes 6 / 1024))) other)

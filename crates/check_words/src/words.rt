@@ -3,23 +3,23 @@ ghost use Rattle.std.specs.Prelude.{◌≡◌, ◌∷◌, ◌++◌, ◌+◌, ◌
 ghost use Rattle.laws.specs.Bits.{bits_of, number_of};
 ghost use Rattle.pec.specs.Remainder.{remainder};
 ghost use Rattle.pec.specs.Words.{
-  twoBytes,
-  commandCheck,
-  commandRight,
+  two_bytes,
+  command_check,
+  command_right,
   polynomial10,
   seal,
-  sealedRight,
-  payloadRight,
-  counterOf,
+  sealed_right,
+  payload_right,
+  counter_of,
   number_in,
-  numberRight,
+  number_right,
 };
 
 use pec::{nothing_left, of_command, remainder_10};
 
 // A 16-bit number as it is sent, the high byte first.
 pub fn two_bytes(n: u16) -> [u8; 2]
-    ensures { result ≡ twoBytes n }
+    ensures { result ≡ two_bytes n }
 {
     [(n / 256) as u8, (n % 256) as u8]
 }
@@ -50,7 +50,7 @@ fn number_by_parts(bytes: &[u8], rest: u64) -> u64
 
 // The two bytes sent after a command code.
 pub fn command_check(code: u16) -> [u8; 2]
-    ensures { result ≡ commandCheck code }
+    ensures { result ≡ command_check code }
 {
     let check = of_command(code);
     two_bytes(check * 2)
@@ -58,7 +58,7 @@ pub fn command_check(code: u16) -> [u8; 2]
 
 // Are four bytes a command and its check?
 pub fn command_right(four: &[u8]) -> bool
-    ensures { result ≡ commandRight four.now }
+    ensures { result ≡ command_right four.now }
 {
     if four.len() != 4 {
         return false;
@@ -82,7 +82,7 @@ fn of_message(message: u64) -> u16
 // The 16 bits that seal six bytes: the counter's six, and the check.
 fn seal_six(six: &[u8], counter: u8) -> u16
     requires { length six.now ≡ 6 }
-    ensures { twoBytes result ≡ seal six.now counter }
+    ensures { two_bytes result ≡ seal six.now counter }
 {
     let six_bits = counter % 64;
     let check = of_message(number_by_parts(six, 2) * 64 + (six_bits as u64));
@@ -103,7 +103,7 @@ pub fn sealed(six: &[u8; 6], counter: u8) -> [u8; 8]
 // the compiler to keep it in a caller's loop.
 pub fn number_in(eight: &[u8]) -> u64
     ensures value { result ≡ number_in eight.now }
-    ensures result_value { numberRight result ≡ payloadRight eight.now }
+    ensures result_value { number_right result ≡ payload_right eight.now }
 {
     if eight.len() != 8 {
         return 0;
@@ -113,21 +113,21 @@ pub fn number_in(eight: &[u8]) -> u64
 
 // Is a payload right that is one number?
 pub fn number_right(payload: u64) -> bool
-    ensures { result ≡ numberRight payload }
+    ensures { result ≡ number_right payload }
 {
     nothing_left(payload)
 }
 
 // Are eight bytes a payload and its check, over the six counter bits as they stand?
 pub fn payload_right(eight: &[u8]) -> bool
-    ensures { result ≡ payloadRight eight.now }
+    ensures { result ≡ payload_right eight.now }
 {
     number_right(number_in(eight))
 }
 
 // The counter that a payload carries: the six high bits of its seventh byte, and 0 where it has none.
 pub fn counter_in(eight: &[u8]) -> u8
-    ensures { result ≡ counterOf eight.now }
+    ensures { result ≡ counter_of eight.now }
 {
     if eight.len() < 7 {
         return 0;
@@ -169,7 +169,7 @@ fn eight_of(four: &[u8]) -> [u8; 8]
 // Two bytes of data and the two that seal them as one number, and 0 for another length: what `number_in` is for a payload.
 pub fn four_in(four: &[u8]) -> u64
     ensures value { result ≡ number_in (0x00 ∷ 0x00 ∷ 0x01 ∷ 0x1A ∷ four.now) }
-    ensures result_value { numberRight result ≡ sealedRight 2 four.now }
+    ensures result_value { number_right result ≡ sealed_right 2 four.now }
 {
     if four.len() != 4 {
         return 0;
@@ -179,7 +179,7 @@ pub fn four_in(four: &[u8]) -> u64
 
 // Are four bytes two of data and their check, over the six counter bits as they stand?
 pub fn four_right(four: &[u8]) -> bool
-    ensures { result ≡ sealedRight 2 four.now }
+    ensures { result ≡ sealed_right 2 four.now }
 {
     if four.len() != 4 {
         return false;

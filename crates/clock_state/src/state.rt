@@ -1,8 +1,8 @@
 // The bytes of the state: the code's names for what specs/State.antt lays out, and reading them. Any slice may be read; a byte past
 // its end counts as 0.
 ghost use Rattle.std.specs.Prelude.{◌≡◌, ◌<◌, ◌≤◌};
-ghost use Rattle.records.specs.Commands.{mostMonitors};
-ghost use Rattle.clock_state.specs.State.{idle, seenIn, kindIn, chainedIn};
+ghost use Rattle.records.specs.Commands.{most_monitors};
+ghost use Rattle.clock_state.specs.State.{idle, seen_in, kind_in, chained_in};
 
 use records::{MOST_MONITORS, PAYLOAD_SIZE, byte_at};
 
@@ -42,7 +42,7 @@ pub fn start(state: &mut [u8; STATE_SIZE])
 
 // How many bytes came.
 pub fn seen_in(state: &[u8]) -> usize
-    ensures value { result ≡ seenIn state.now }
+    ensures value { result ≡ seen_in state.now }
     ensures upper_bound { result < 65536 }
 {
     let low = byte_at(state, SEEN) as usize;
@@ -52,15 +52,15 @@ pub fn seen_in(state: &[u8]) -> usize
 
 // N at byte four, and 0 for more monitors than a chain has.
 pub fn chained_in(state: &[u8]) -> usize
-    ensures value { result ≡ chainedIn state.now }
-    ensures upper_bound { result ≤ mostMonitors }
+    ensures value { result ≡ chained_in state.now }
+    ensures upper_bound { result ≤ most_monitors }
 {
     let n = byte_at(state, CHAINED) as usize;
     if n <= MOST_MONITORS { n } else { 0 }
 }
 
 pub fn kind_in(state: &[u8]) -> Kind
-    ensures { result ≡ kindIn state.now }
+    ensures { result ≡ kind_in state.now }
 {
     let byte = byte_at(state, KIND);
     if byte == DRAINS {

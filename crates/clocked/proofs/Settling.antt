@@ -13,10 +13,10 @@ use Rattle.laws.specs.Rows.{rows, joined, along}
 use Rattle.refusals.specs.declared.Refusal.{Refusal}
 use Rattle.refusals.specs.declared.Refusal.TheVariants.{NoRoom}
 use Rattle.refusals.specs.Order.{decide}
-use Rattle.refusals.proofs.Deciding.{decide-append, decide-map, holds-here, holds_not, none_left}
+use Rattle.refusals.proofs.Deciding.{decide_append, decide-map, holds_here, holds_not, none_left}
 use Rattle.records.specs.declared.commands.Command.{Command}
-use Rattle.records.specs.Record.{recordSize}
-use Rattle.records.specs.Commands.{mostMonitors, payloadSize, replyLength}
+use Rattle.records.specs.Record.{record_size}
+use Rattle.records.specs.Commands.{most_monitors, payload_size, reply_length}
 use Rattle.monitor.specs.Effects.{keeps}
 use Rattle.serving.specs.Served.{takers}
 use Rattle.chain.specs.declared.frames.Answer.{Answer}
@@ -24,40 +24,40 @@ use Rattle.chain.specs.declared.frames.Answer.TheVariants.{Refused, Accepted}
 use Rattle.judging.specs.declared.heads.Judged.{Judged}
 use Rattle.judging.specs.declared.heads.Judged.TheVariants.{Bad, Good}
 use Rattle.judging.specs.Table.{monitors}
-use Rattle.judging.specs.Refusals.{commandIn, roomRow}
-use Rattle.judging.proofs.Judging.{within-most}
+use Rattle.judging.specs.Refusals.{command_in, room_row}
+use Rattle.judging.proofs.Judging.{within_most}
 use Rattle.clocking.specs.Clock.{Clock}
-use Rattle.releasing.specs.Release.{releaseRefusals, taken_of, keptOf, released, tableReleased}
+use Rattle.releasing.specs.Release.{release_refusals, taken_of, kept_of, released, table_released}
 use Rattle.releasing.specs.Judged.{judged}
-use Rattle.clocked.specs.Frames.{replyOf, settleRefusals, settled, tableSettled, bufferSettled}
-use Rattle.clocking.proofs.Known.{reply-short}
+use Rattle.clocked.specs.Frames.{reply_of, settle_refusals, settled, table_settled, buffer_settled}
+use Rattle.clocking.proofs.Known.{reply_short}
 use Rattle.releasing.proofs.ReleaseJudging.{ready}
 use Rattle.releasing.proofs.ReleaseOutcome as release
 
 -- a reply has room among the bytes of the longest, however the release is judged
-pub reply-fits : (j : Judged) → replyOf j ≤ payloadSize * mostMonitors
+pub reply-fits : (j : Judged) → reply_of j ≤ payload_size * most_monitors
 reply-fits (Bad r) = omega arith
-reply-fits (Good command n) = go (leb n mostMonitors) refl
+reply-fits (Good command n) = go (leb n most_monitors) refl
   where
-    go : (b : Bool) → leb n mostMonitors ≡ b → cond b (replyLength command n) 0 ≤ payloadSize * mostMonitors
-    go true e = let few = leb-true n mostMonitors e in omega (arith, reply-short command n)
+    go : (b : Bool) → leb n most_monitors ≡ b → cond b (reply_length command n) 0 ≤ payload_size * most_monitors
+    go true e = let few = leb-true n most_monitors e in omega (arith, reply_short command n)
     go false e = omega arith
 
 -- one of the three outcomes: `refused`, or what the command and the number of monitors lead to
 module _ {A : Type 0} (c : Clock) (table : List ℕ) (room : ℕ) (refused : Refusal → A) (of : Command → ℕ → A) where
   abbrev outcome : A
-  outcome = decide (settleRefusals c table room) refused (of (commandIn c.head) (monitors table))
+  outcome = decide (settle_refusals c table room) refused (of (command_in c.head) (monitors table))
 
   abbrev next : Judged → A
   next (Bad r) = refused r
-  next (Good command n) = decide (roomRow room command n ∷ []) refused (of command n)
+  next (Good command n) = decide (room_row room command n ∷ []) refused (of command n)
 
   module _ {j : Judged} (e : judged c table ≡ j) where
     by-judgement : outcome ≡ next j
-    unfolding settleRefusals judged
+    unfolding settle_refusals judged
     by-judgement =
-        decide-append (releaseRefusals c table) (roomRow room (commandIn c.head) (monitors table) ∷ []) refused (of (commandIn c.head) (monitors table))
-        ∙ sym (decide-map next (releaseRefusals c table) Bad (Good (commandIn c.head) (monitors table)))
+        decide_append (release_refusals c table) (room_row room (command_in c.head) (monitors table) ∷ []) refused (of (command_in c.head) (monitors table))
+        ∙ sym (decide-map next (release_refusals c table) Bad (Good (command_in c.head) (monitors table)))
         ∙ ap next e
 
   -- refused by the judgement
@@ -66,74 +66,74 @@ module _ {A : Type 0} (c : Clock) (table : List ℕ) (room : ℕ) (refused : Ref
 
   module _ {command : Command} {n : ℕ} (e : judged c table ≡ Good command n) where
     -- refused for the room
-    by-room : room < replyLength command n → outcome ≡ refused NoRoom
-    by-room h = by-judgement e ∙ holds-here (roomRow room command n) [] refused (of command n) (lt-ltb room (replyLength command n) h)
+    by_room : room < reply_length command n → outcome ≡ refused NoRoom
+    by_room h = by-judgement e ∙ holds_here (room_row room command n) [] refused (of command n) (lt-ltb room (reply_length command n) h)
 
     -- not refused
-    by-none : replyLength command n ≤ room → outcome ≡ of command n
+    by-none : reply_length command n ≤ room → outcome ≡ of command n
     by-none h =
         by-judgement e
-        ∙ holds_not (roomRow room command n) [] refused (of command n) (le-ltb room (replyLength command n) h)
+        ∙ holds_not (room_row room command n) [] refused (of command n) (le-ltb room (reply_length command n) h)
         ∙ none_left refused (of command n)
 
 -- ---- the answer, the table and the reply buffer
 
 module _ (c : Clock) (table back buffer : List ℕ) where
   abbrev answers : Command → ℕ → Answer
-  answers command n = Accepted (takers command (rows recordSize n table) c.windows) (replyLength command n)
+  answers command n = Accepted (takers command (rows record_size n table) c.windows) (reply_length command n)
 
   abbrev tables : Command → ℕ → List ℕ
-  tables command n = joined (along (λ r window. keeps command window r) (rows recordSize n table) c.windows)
+  tables command n = joined (along (λ r window. keeps command window r) (rows record_size n table) c.windows)
 
   abbrev buffers : Command → ℕ → List ℕ
-  buffers command n = take (replyLength command n) back ++ drop (replyLength command n) buffer
+  buffers command n = take (reply_length command n) back ++ drop (reply_length command n) buffer
 
   -- what was settled
   pub record Settled (answer : Answer) (after : List ℕ) (left : List ℕ) : Type 0 where
-    pub the-answer : answer ≡ settled c table (length buffer)
-    pub the-table : after ≡ tableSettled c table (length buffer)
-    pub the-buffer : left ≡ bufferSettled c table back buffer
+    pub the_answer : answer ≡ settled c table (length buffer)
+    pub the_table : after ≡ table_settled c table (length buffer)
+    pub the_buffer : left ≡ buffer_settled c table back buffer
 
   -- the length of the reply is the command's, where the release is accepted
-  its-length : {command : Command} {n : ℕ} → judged c table ≡ Good command n → replyOf (Good command n) ≡ replyLength command n
-  its-length {command} {n} e = within-most n (replyLength command n) (ready c table e).few refl
+  its-length : {command : Command} {n : ℕ} → judged c table ≡ Good command n → reply_of (Good command n) ≡ reply_length command n
+  its-length {command} {n} e = within_most n (reply_length command n) (ready c table e).few refl
 
   -- the room stops it
-  room_by : (j : Judged) → judged c table ≡ j → length buffer < replyOf j → Settled (Refused NoRoom) table buffer
-  unfolding settled taken_of tableSettled keptOf bufferSettled
+  room_by : (j : Judged) → judged c table ≡ j → length buffer < reply_of j → Settled (Refused NoRoom) table buffer
+  unfolding settled taken_of table_settled kept_of buffer_settled
   room_by (Bad r) e h = absurd (omega arith)
   room_by (Good command n) e h =
-      let small : length buffer < replyLength command n = subst (λ (k : ℕ). length buffer < k) (its-length e) h in
+      let small : length buffer < reply_length command n = subst (λ (k : ℕ). length buffer < k) (its-length e) h in
       record {
-        the-answer = sym (by-room c table (length buffer) Refused answers e small);
-        the-table = sym (by-room c table (length buffer) (λ r. table) tables e small);
-        the-buffer = sym (by-room c table (length buffer) (λ r. buffer) buffers e small);
+        the_answer = sym (by_room c table (length buffer) Refused answers e small);
+        the_table = sym (by_room c table (length buffer) (λ r. table) tables e small);
+        the_buffer = sym (by_room c table (length buffer) (λ r. buffer) buffers e small);
       }
 
   -- it does not
-  none-by : (j : Judged) → judged c table ≡ j → {answer : Answer} {after left : List ℕ} → replyOf j ≤ length buffer → answer ≡ released c table
-      → after ≡ tableReleased c table → left ≡ take (replyOf j) back ++ drop (replyOf j) buffer → Settled answer after left
-  unfolding settled taken_of tableSettled keptOf bufferSettled
+  none-by : (j : Judged) → judged c table ≡ j → {answer : Answer} {after left : List ℕ} → reply_of j ≤ length buffer → answer ≡ released c table
+      → after ≡ table_released c table → left ≡ take (reply_of j) back ++ drop (reply_of j) buffer → Settled answer after left
+  unfolding settled taken_of table_settled kept_of buffer_settled
   none-by (Bad r) e h a t b =
       record {
-        the-answer = a ∙ release.the-answer c table e ∙ sym (by-refusal c table (length buffer) Refused answers e);
-        the-table = t ∙ release.the-table c table e ∙ sym (by-refusal c table (length buffer) (λ r. table) tables e);
-        the-buffer = b ∙ sym (by-refusal c table (length buffer) (λ r. buffer) buffers e);
+        the_answer = a ∙ release.the_answer c table e ∙ sym (by-refusal c table (length buffer) Refused answers e);
+        the_table = t ∙ release.the_table c table e ∙ sym (by-refusal c table (length buffer) (λ r. table) tables e);
+        the_buffer = b ∙ sym (by-refusal c table (length buffer) (λ r. buffer) buffers e);
       }
   none-by (Good command n) e h a t b =
-      let enough : replyLength command n ≤ length buffer = subst (λ (k : ℕ). k ≤ length buffer) (its-length e) h in
+      let enough : reply_length command n ≤ length buffer = subst (λ (k : ℕ). k ≤ length buffer) (its-length e) h in
       record {
-        the-answer = a ∙ release.the-answer c table e ∙ sym (by-none c table (length buffer) Refused answers e enough);
-        the-table = t ∙ release.the-table c table e ∙ sym (by-none c table (length buffer) (λ r. table) tables e enough);
-        the-buffer = b ∙ ap (λ (k : ℕ). take k back ++ drop k buffer) (its-length e) ∙ sym (by-none c table (length buffer) (λ r. buffer) buffers e enough);
+        the_answer = a ∙ release.the_answer c table e ∙ sym (by-none c table (length buffer) Refused answers e enough);
+        the_table = t ∙ release.the_table c table e ∙ sym (by-none c table (length buffer) (λ r. table) tables e enough);
+        the_buffer = b ∙ ap (λ (k : ℕ). take k back ++ drop k buffer) (its-length e) ∙ sym (by-none c table (length buffer) (λ r. buffer) buffers e enough);
       }
 
   -- by the length that the code made out
-  module _ {size : ℕ} (its : size ≡ replyOf (judged c table)) where
-    pub settled-room : length buffer < size → Settled (Refused NoRoom) table buffer
-    settled-room h = room_by (judged c table) refl (subst (λ (k : ℕ). length buffer < k) its h)
+  module _ {size : ℕ} (its : size ≡ reply_of (judged c table)) where
+    pub settled_room : length buffer < size → Settled (Refused NoRoom) table buffer
+    settled_room h = room_by (judged c table) refl (subst (λ (k : ℕ). length buffer < k) its h)
 
-    pub settled-none : {answer : Answer} {after left : List ℕ} → size ≤ length buffer → answer ≡ released c table → after ≡ tableReleased c table
+    pub settled-none : {answer : Answer} {after left : List ℕ} → size ≤ length buffer → answer ≡ released c table → after ≡ table_released c table
         → left ≡ take size back ++ drop size buffer → Settled answer after left
     settled-none h a t b =
         none-by (judged c table) refl (subst (λ (k : ℕ). k ≤ length buffer) its h) a t (b ∙ ap (λ (k : ℕ). take k back ++ drop k buffer) its)

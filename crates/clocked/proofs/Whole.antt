@@ -12,108 +12,108 @@ use lib.Dec.{lit≤}
 use lib.ListN.{length, take, drop, replicate}
 use borrow.Author.Tests.{ltb-false, le-ltb, eqb-true, not-false}
 use Rattle.laws.specs.Rows.{rows, joined, along}
-use Rattle.wire.specs.Order.{replyData}
+use Rattle.wire.specs.Order.{reply_data}
 use Rattle.refusals.specs.declared.Refusal.{Refusal}
 use Rattle.refusals.specs.Order.{decide, Passed}
-use Rattle.refusals.proofs.Deciding.{decide-append, passes, has-passed}
+use Rattle.refusals.proofs.Deciding.{decide_append, passes, has_passed}
 use Rattle.records.specs.declared.commands.Command.{Command}
 use Rattle.records.specs.declared.commands.Command.TheVariants.{Reads, Unlisted}
 use Rattle.records.specs.declared.record.Part.{Part}
-use Rattle.records.specs.Record.{recordSize}
-use Rattle.records.specs.Commands.{isListed, mostMonitors, payloadSize, frameLength, replyLength}
+use Rattle.records.specs.Record.{record_size}
+use Rattle.records.specs.Commands.{is_listed, most_monitors, payload_size, frame_length, reply_length}
 use Rattle.monitor.specs.Effects.{keeps}
 use Rattle.reads.specs.Reply.{reply}
 use Rattle.chain.specs.declared.frames.Answer.TheVariants.{Refused, Accepted}
 use Rattle.judging.specs.Table.{monitors, sound}
-use Rattle.judging.specs.Refusals.{commandIn, roomRow}
-use Rattle.serving.specs.Served.{takers, takenBy, kept}
+use Rattle.judging.specs.Refusals.{command_in, room_row}
+use Rattle.serving.specs.Served.{takers, taken_by, kept}
 use Rattle.replying.specs.Replied.{replied}
-use Rattle.chain.specs.Frame.{frameRefusals, answer, tableAfter, replyAfter}
-use Rattle.judging.proofs.Soundness.{is-sound}
+use Rattle.chain.specs.Frame.{frame_refusals, answer, table_after, reply_after}
+use Rattle.judging.proofs.Soundness.{is_sound}
 use Rattle.chain.proofs.Refused.{accepted-apart, accepted-reply, accepted-length}
 use Rattle.clocking.specs.Clock.{Clock, start, known}
-use Rattle.releasing.specs.Release.{releaseRefusals, taken_of, keptOf, released, tableReleased}
-use Rattle.clocked.specs.Frames.{clockedAll, answeredAll, keptBack, settleRefusals, settled, tableSettled, bufferSettled}
-use Rattle.clocked.proofs.Run.{windowsFor, cameFor, run, back}
-use Rattle.clocking.proofs.Known.{chained-sound, reply-short}
+use Rattle.releasing.specs.Release.{release_refusals, taken_of, kept_of, released, table_released}
+use Rattle.clocked.specs.Frames.{clocked_all, answered_all, kept_back, settle_refusals, settled, table_settled, buffer_settled}
+use Rattle.clocked.proofs.Run.{windows_for, came_for, run, back}
+use Rattle.clocking.proofs.Known.{chained-sound, reply_short}
 use Rattle.clocked.proofs.SameRefusals.{command-head, same_outcome}
-use Rattle.clocked.proofs.Acting.{same_taken, same_kept, came-reply, length-came, same-reply, same-buffer}
+use Rattle.clocked.proofs.Acting.{same_taken, same_kept, came-reply, length-came, same-reply, same_buffer}
 
 -- ---- a release needs no room for a reply
 
 -- where it has room, refusal 6 does not hold
-no-sixth : {A : Type 0} (c : Clock) (table : List ℕ) (room : ℕ) (refused : Refusal → A) (accepted : A) → payloadSize * monitors table ≤ room
-    → decide (settleRefusals c table room) refused accepted ≡ decide (releaseRefusals c table) refused accepted
-unfolding settleRefusals
-no-sixth c table room refused accepted h =
-    decide-append (releaseRefusals c table) (roomRow room (commandIn c.head) (monitors table) ∷ []) refused accepted
-    ∙ ap (decide (releaseRefusals c table) refused)
-    (passes (roomRow room (commandIn c.head) (monitors table) ∷ []) refused accepted
-    (le-ltb room (replyLength (commandIn c.head) (monitors table)) (le_trans (reply-short (commandIn c.head) (monitors table)) h), tt))
+no_sixth : {A : Type 0} (c : Clock) (table : List ℕ) (room : ℕ) (refused : Refusal → A) (accepted : A) → payload_size * monitors table ≤ room
+    → decide (settle_refusals c table room) refused accepted ≡ decide (release_refusals c table) refused accepted
+unfolding settle_refusals
+no_sixth c table room refused accepted h =
+    decide_append (release_refusals c table) (room_row room (command_in c.head) (monitors table) ∷ []) refused accepted
+    ∙ ap (decide (release_refusals c table) refused)
+    (passes (room_row room (command_in c.head) (monitors table) ∷ []) refused accepted
+    (le-ltb room (reply_length (command_in c.head) (monitors table)) (le_trans (reply_short (command_in c.head) (monitors table)) h), tt))
 
 module _ (table frame : List ℕ) where
   -- the clock after the frame
   abbrev clock : Clock
-  clock = clockedAll table frame start
+  clock = clocked_all table frame start
 
   -- ---- a frame that passes every refusal
 
-  module _ (room : ℕ) (p : Passed (frameRefusals table frame room)) where
+  module _ (room : ℕ) (p : Passed (frame_refusals table frame room)) where
     -- the table is sound
     its-sound : sound table ≡ true
-    unfolding frameRefusals
+    unfolding frame_refusals
     its-sound = not-false (sound table) p.0
 
     -- it has its four bytes
     long : 4 ≤ length frame
-    unfolding frameRefusals
+    unfolding frame_refusals
     long = ltb-false (length frame) 4 p.1.0
 
     -- its code is listed
-    listed : isListed (commandIn frame) ≡ true
-    unfolding frameRefusals
-    listed = not-false (isListed (commandIn frame)) p.1.1.1.0
+    listed : is_listed (command_in frame) ≡ true
+    unfolding frame_refusals
+    listed = not-false (is_listed (command_in frame)) p.1.1.1.0
 
     -- its length is the one for its command and N
-    whole : length frame ≡ frameLength (commandIn frame) (monitors table)
-    unfolding frameRefusals
-    whole = eqb-true (length frame) (frameLength (commandIn frame) (monitors table)) (not-false _ p.1.1.1.1.0)
+    whole : length frame ≡ frame_length (command_in frame) (monitors table)
+    unfolding frame_refusals
+    whole = eqb-true (length frame) (frame_length (command_in frame) (monitors table)) (not-false _ p.1.1.1.1.0)
 
     -- so its command is known
-    its-command : known table (take 4 frame) ≡ commandIn frame
-    unfolding known frameRefusals
+    its-command : known table (take 4 frame) ≡ command_in frame
+    unfolding known frame_refusals
     its-command =
-        passes _ (λ r. Unlisted) (commandIn (take 4 frame))
-        (p.0, (p.1.1.0, (ap (λ (c : Command). not (isListed c)) (command-head frame) ∙ p.1.1.1.0, tt)))
+        passes _ (λ r. Unlisted) (command_in (take 4 frame))
+        (p.0, (p.1.1.0, (ap (λ (c : Command). not (is_listed c)) (command-head frame) ∙ p.1.1.1.0, tt)))
         ∙ command-head frame
 
     -- the clock has it
-    head-command : commandIn clock.head ≡ commandIn frame
-    head-command = ap (λ (c : Clock). commandIn c.head) (run table frame long) ∙ command-head frame
+    head-command : command_in clock.head ≡ command_in frame
+    head-command = ap (λ (c : Clock). command_in c.head) (run table frame long) ∙ command-head frame
 
     -- the windows by it
-    its-windows : clock.windows ≡ windowsFor table frame (commandIn frame) (monitors table)
+    its-windows : clock.windows ≡ windows_for table frame (command_in frame) (monitors table)
     its-windows =
         ap (λ (c : Clock). c.windows) (run table frame long)
-        ∙ ap₂ (windowsFor table frame) its-command (chained-sound table its-sound)
+        ∙ ap₂ (windows_for table frame) its-command (chained-sound table its-sound)
 
     -- what came back after byte four by it
-    its-back : drop 4 (answeredAll table frame start) ≡ cameFor table frame (commandIn frame) (monitors table)
-    its-back = ap (drop 4) (back table frame long) ∙ ap₂ (cameFor table frame) its-command (chained-sound table its-sound)
+    its_back : drop 4 (answered_all table frame start) ≡ came_for table frame (command_in frame) (monitors table)
+    its_back = ap (drop 4) (back table frame long) ∙ ap₂ (came_for table frame) its-command (chained-sound table its-sound)
 
     -- as many monitors take it
-    acts-taken : taken_of clock table ≡ takenBy (commandIn frame) (monitors table) table frame
+    acts-taken : taken_of clock table ≡ taken_by (command_in frame) (monitors table) table frame
     unfolding taken_of
     acts-taken =
-        ap₂ (λ (c : Command) (ws : List (List ℕ)). takers c (rows recordSize (monitors table) table) ws) head-command its-windows
-        ∙ same_taken table frame (commandIn frame) (monitors table) whole
+        ap₂ (λ (c : Command) (ws : List (List ℕ)). takers c (rows record_size (monitors table) table) ws) head-command its-windows
+        ∙ same_taken table frame (command_in frame) (monitors table) whole
 
     -- each keeps the same
-    acts-kept : keptOf clock table ≡ kept (commandIn frame) (monitors table) table frame
-    unfolding keptOf
+    acts-kept : kept_of clock table ≡ kept (command_in frame) (monitors table) table frame
+    unfolding kept_of
     acts-kept =
-        ap₂ (λ (c : Command) (ws : List (List ℕ)). joined (along (λ r window. keeps c window r) (rows recordSize (monitors table) table) ws)) head-command its-windows
-        ∙ same_kept table frame (commandIn frame) (monitors table) whole
+        ap₂ (λ (c : Command) (ws : List (List ℕ)). joined (along (λ r window. keeps c window r) (rows record_size (monitors table) table) ws)) head-command its-windows
+        ∙ same_kept table frame (command_in frame) (monitors table) whole
 
   -- ---- where a reply buffer is lent
 
@@ -122,84 +122,84 @@ module _ (table frame : List ℕ) where
   unfolding settled answer
   judged-whole room =
       same_outcome table frame room Refused _ _
-      (λ p. ap₂ Accepted (acts-taken room p) (ap (λ (c : Command). replyLength c (monitors table)) (head-command room p)))
+      (λ p. ap₂ Accepted (acts-taken room p) (ap (λ (c : Command). reply_length c (monitors table)) (head-command room p)))
 
   -- the table
-  pub table-whole : (room : ℕ) → tableSettled clock table room ≡ tableAfter table frame room
-  unfolding tableSettled tableAfter
+  pub table-whole : (room : ℕ) → table_settled clock table room ≡ table_after table frame room
+  unfolding table_settled table_after
   table-whole room = same_outcome table frame room (λ r. table) _ _ (λ p. acts-kept room p)
 
   -- the reply buffer: what came back may be kept in any buffer that has room for the longest reply
-  pub buffer-kept : (own buffer : List ℕ) → payloadSize * mostMonitors ≤ length own
-      → bufferSettled clock table (keptBack (answeredAll table frame start) own) buffer ≡ replyAfter table frame buffer
-  unfolding bufferSettled replyAfter
-  buffer-kept own buffer fits = same_outcome table frame (length buffer) (λ r. buffer) _ _ accepted
+  pub buffer_kept : (own buffer : List ℕ) → payload_size * most_monitors ≤ length own
+      → buffer_settled clock table (kept_back (answered_all table frame start) own) buffer ≡ reply_after table frame buffer
+  unfolding buffer_settled reply_after
+  buffer_kept own buffer fits = same_outcome table frame (length buffer) (λ r. buffer) _ _ accepted
     where
       put : Command → List ℕ
-      put c = take (replyLength c (monitors table)) (keptBack (answeredAll table frame start) own) ++ drop (replyLength c (monitors table)) buffer
+      put c = take (reply_length c (monitors table)) (kept_back (answered_all table frame start) own) ++ drop (reply_length c (monitors table)) buffer
 
-      accepted : Passed (frameRefusals table frame (length buffer)) → put (commandIn clock.head) ≡ replied (commandIn frame) (monitors table) table buffer
+      accepted : Passed (frame_refusals table frame (length buffer)) → put (command_in clock.head) ≡ replied (command_in frame) (monitors table) table buffer
       accepted p =
-          let few = (is-sound table (its-sound (length buffer) p)).few in
-          let room : replyLength (commandIn frame) (monitors table) ≤ length own = omega (arith, reply-short (commandIn frame) (monitors table)) in
+          let few = (is_sound table (its-sound (length buffer) p)).few in
+          let room : reply_length (command_in frame) (monitors table) ≤ length own = omega (arith, reply_short (command_in frame) (monitors table)) in
           ap put (head-command (length buffer) p)
-          ∙ same-buffer table frame (commandIn frame) (monitors table) (answeredAll table frame start) own buffer room (whole (length buffer) p) (its-back (length buffer) p)
+          ∙ same_buffer table frame (command_in frame) (monitors table) (answered_all table frame start) own buffer room (whole (length buffer) p) (its_back (length buffer) p)
 
   -- such as one of 256 zeros
-  pub buffer-whole : (buffer : List ℕ)
-      → bufferSettled clock table (keptBack (answeredAll table frame start) (replicate (payloadSize * mostMonitors) 0)) buffer ≡ replyAfter table frame buffer
-  buffer-whole buffer = buffer-kept (replicate (payloadSize * mostMonitors) 0) buffer (lit≤ tt)
+  pub buffer_whole : (buffer : List ℕ)
+      → buffer_settled clock table (kept_back (answered_all table frame start) (replicate (payload_size * most_monitors) 0)) buffer ≡ reply_after table frame buffer
+  buffer_whole buffer = buffer_kept (replicate (payload_size * most_monitors) 0) buffer (lit≤ tt)
 
   -- ---- where none is lent
 
   -- the answer
-  pub released-whole : (room : ℕ) → payloadSize * monitors table ≤ room → released clock table ≡ answer table frame room
+  pub released-whole : (room : ℕ) → payload_size * monitors table ≤ room → released clock table ≡ answer table frame room
   unfolding released settled
-  released-whole room h = sym (no-sixth clock table room Refused _ h) ∙ judged-whole room
+  released-whole room h = sym (no_sixth clock table room Refused _ h) ∙ judged-whole room
 
   -- the table
-  pub table-released-whole : (room : ℕ) → payloadSize * monitors table ≤ room → tableReleased clock table ≡ tableAfter table frame room
-  unfolding tableReleased tableSettled
-  table-released-whole room h = sym (no-sixth clock table room (λ r. table) _ h) ∙ table-whole room
+  pub table_released-whole : (room : ℕ) → payload_size * monitors table ≤ room → table_released clock table ≡ table_after table frame room
+  unfolding table_released table_settled
+  table_released-whole room h = sym (no_sixth clock table room (λ r. table) _ h) ∙ table-whole room
 
   -- ---- the reply is what came back after byte four
 
   module _ (room taken bytes : ℕ) (e : answer table frame room ≡ Accepted taken bytes) where
     -- an accepted frame passes every refusal
-    passed : Passed (frameRefusals table frame room)
+    passed : Passed (frame_refusals table frame room)
     unfolding answer
-    passed = has-passed (frameRefusals table frame room) Refused _ (Accepted taken bytes) (accepted-apart taken bytes) e
+    passed = has_passed (frame_refusals table frame room) Refused _ (Accepted taken bytes) (accepted-apart taken bytes) e
 
-    module _ (part : Part) (c : commandIn frame ≡ Reads part) where
+    module _ (part : Part) (c : command_in frame ≡ Reads part) where
       -- a read's length
-      its-length : length frame ≡ frameLength (Reads part) (monitors table)
-      its-length = whole room passed ∙ ap (λ (x : Command). frameLength x (monitors table)) c
+      its-length : length frame ≡ frame_length (Reads part) (monitors table)
+      its-length = whole room passed ∙ ap (λ (x : Command). frame_length x (monitors table)) c
 
       -- what came back by it
-      its-reply : drop 4 (answeredAll table frame start) ≡ cameFor table frame (Reads part) (monitors table)
-      its-reply = its-back room passed ∙ ap (λ (x : Command). cameFor table frame x (monitors table)) c
+      its-reply : drop 4 (answered_all table frame start) ≡ came_for table frame (Reads part) (monitors table)
+      its-reply = its_back room passed ∙ ap (λ (x : Command). came_for table frame x (monitors table)) c
 
       -- it is the monitors' replies, nearest monitor first
-      pub read_whole : drop 4 (answeredAll table frame start) ≡ replyData (map (reply part) (rows recordSize (monitors table) table))
+      pub read_whole : drop 4 (answered_all table frame start) ≡ reply_data (map (reply part) (rows record_size (monitors table) table))
       read_whole = its-reply ∙ came-reply table frame part (monitors table) its-length
 
       -- and no byte more
-      pub read_length : length (drop 4 (answeredAll table frame start)) ≡ payloadSize * monitors table
+      pub read_length : length (drop 4 (answered_all table frame start)) ≡ payload_size * monitors table
       read_length = ap length its-reply ∙ length-came table frame part (monitors table) its-length
 
   -- the same where it is the release that accepts the read
-  pub released-read : (taken bytes : ℕ) → released clock table ≡ Accepted taken bytes → (part : Part) → commandIn frame ≡ Reads part
-      → drop 4 (answeredAll table frame start) ≡ replyData (map (reply part) (rows recordSize (monitors table) table))
-  released-read taken bytes e = read_whole (payloadSize * monitors table) taken bytes (sym (released-whole (payloadSize * monitors table) (omega arith)) ∙ e)
+  pub released_read : (taken bytes : ℕ) → released clock table ≡ Accepted taken bytes → (part : Part) → command_in frame ≡ Reads part
+      → drop 4 (answered_all table frame start) ≡ reply_data (map (reply part) (rows record_size (monitors table) table))
+  released_read taken bytes e = read_whole (payload_size * monitors table) taken bytes (sym (released-whole (payload_size * monitors table) (omega arith)) ∙ e)
 
   -- of any accepted frame it begins as the reply buffer does
   pub reply-whole : (buffer : List ℕ) (taken bytes : ℕ) → answer table frame (length buffer) ≡ Accepted taken bytes
-      → take bytes (drop 4 (answeredAll table frame start)) ≡ take bytes (replyAfter table frame buffer)
+      → take bytes (drop 4 (answered_all table frame start)) ≡ take bytes (reply_after table frame buffer)
   reply-whole buffer taken bytes e =
       let p = passed (length buffer) taken bytes e in
-      ap₂ take its (its-back (length buffer) p)
-      ∙ same-reply table frame (commandIn frame) (monitors table) buffer (whole (length buffer) p)
+      ap₂ take its (its_back (length buffer) p)
+      ∙ same-reply table frame (command_in frame) (monitors table) buffer (whole (length buffer) p)
       ∙ sym (ap₂ take its (accepted-reply table frame taken bytes buffer e))
     where
-      its : bytes ≡ replyLength (commandIn frame) (monitors table)
+      its : bytes ≡ reply_length (command_in frame) (monitors table)
       its = accepted-length table frame taken bytes (length buffer) e

@@ -3,53 +3,53 @@
 -- Assumes nothing.
 use Rattle.std.specs.Prelude.{cond, ◌&&◌, List, [], ◌∷◌, ◌++◌, ℕ, ◌-◌, leb, ltb, length, set, take, drop}
 use Rattle.refusals.specs.Order.{Row, decide}
-use Rattle.records.specs.Commands.{mostMonitors, replyLength}
+use Rattle.records.specs.Commands.{most_monitors, reply_length}
 use Rattle.chain.specs.declared.frames.Answer.{Answer}
 use Rattle.chain.specs.declared.frames.Answer.TheVariants.{Refused, Accepted}
 use Rattle.judging.specs.declared.heads.Judged.{Judged}
 use Rattle.judging.specs.declared.heads.Judged.TheVariants.{Bad, Good}
 use Rattle.judging.specs.Table.{monitors}
-use Rattle.judging.specs.Refusals.{commandIn, roomRow}
+use Rattle.judging.specs.Refusals.{command_in, room_row}
 use Rattle.clocking.specs.Clock.{Clock, clocked, answered}
-use Rattle.releasing.specs.Release.{releaseRefusals, taken_of, keptOf}
+use Rattle.releasing.specs.Release.{release_refusals, taken_of, kept_of}
 
 -- ---- byte after byte
 
-unfoldable pub clockedAll : List ℕ → List ℕ → Clock → Clock
-clockedAll table [] c = c
-clockedAll table (byte ∷ bytes) c = clockedAll table bytes (clocked table byte c)
+unfoldable pub clocked_all : List ℕ → List ℕ → Clock → Clock
+clocked_all table [] c = c
+clocked_all table (byte ∷ bytes) c = clocked_all table bytes (clocked table byte c)
 
-unfoldable pub answeredAll : List ℕ → List ℕ → Clock → List ℕ
-answeredAll table [] c = []
-answeredAll table (byte ∷ bytes) c = answered c ∷ answeredAll table bytes (clocked table byte c)
+unfoldable pub answered_all : List ℕ → List ℕ → Clock → List ℕ
+answered_all table [] c = []
+answered_all table (byte ∷ bytes) c = answered c ∷ answered_all table bytes (clocked table byte c)
 
 -- the byte that came back with the i-th byte, counted from 0, at its place of a buffer: those after the fourth, as far as there is
 -- room
-unfoldable pub keptOne : ℕ → ℕ → List ℕ → List ℕ
-keptOne i byte buffer = cond (leb 4 i && ltb (i - 4) (length buffer)) (set buffer (i - 4) byte) buffer
+unfoldable pub kept_one : ℕ → ℕ → List ℕ → List ℕ
+kept_one i byte buffer = cond (leb 4 i && ltb (i - 4) (length buffer)) (set buffer (i - 4) byte) buffer
 
 -- all of them
-unfoldable pub keptBack : List ℕ → List ℕ → List ℕ
-keptBack back buffer = take (length buffer) (drop 4 back) ++ drop (length (drop 4 back)) buffer
+unfoldable pub kept_back : List ℕ → List ℕ → List ℕ
+kept_back back buffer = take (length buffer) (drop 4 back) ++ drop (length (drop 4 back)) buffer
 
 -- ---- the end of it, with a reply buffer
 
 -- the length of the reply where a release is so judged: a refusal has none, nor have more monitors than a chain has
-abbrev pub replyOf : Judged → ℕ
-replyOf (Bad r) = 0
-replyOf (Good command n) = cond (leb n mostMonitors) (replyLength command n) 0
+abbrev pub reply_of : Judged → ℕ
+reply_of (Bad r) = 0
+reply_of (Good command n) = cond (leb n most_monitors) (reply_length command n) 0
 
-unfoldable pub settleRefusals : Clock → List ℕ → ℕ → List Row
-settleRefusals c table room = releaseRefusals c table ++ roomRow room (commandIn c.head) (monitors table) ∷ []
+unfoldable pub settle_refusals : Clock → List ℕ → ℕ → List Row
+settle_refusals c table room = release_refusals c table ++ room_row room (command_in c.head) (monitors table) ∷ []
 
 unfoldable pub settled : Clock → List ℕ → ℕ → Answer
-settled c table room = decide (settleRefusals c table room) Refused (Accepted (taken_of c table) (replyLength (commandIn c.head) (monitors table)))
+settled c table room = decide (settle_refusals c table room) Refused (Accepted (taken_of c table) (reply_length (command_in c.head) (monitors table)))
 
-unfoldable pub tableSettled : Clock → List ℕ → ℕ → List ℕ
-tableSettled c table room = decide (settleRefusals c table room) (λ r. table) (keptOf c table)
+unfoldable pub table_settled : Clock → List ℕ → ℕ → List ℕ
+table_settled c table room = decide (settle_refusals c table room) (λ r. table) (kept_of c table)
 
 -- the reply is what came back, as it was kept; bytes past it stay
-unfoldable pub bufferSettled : Clock → List ℕ → List ℕ → List ℕ → List ℕ
-bufferSettled c table own buffer =
-    decide (settleRefusals c table (length buffer)) (λ r. buffer)
-    (take (replyLength (commandIn c.head) (monitors table)) own ++ drop (replyLength (commandIn c.head) (monitors table)) buffer)
+unfoldable pub buffer_settled : Clock → List ℕ → List ℕ → List ℕ → List ℕ
+buffer_settled c table own buffer =
+    decide (settle_refusals c table (length buffer)) (λ r. buffer)
+    (take (reply_length (command_in c.head) (monitors table)) own ++ drop (reply_length (command_in c.head) (monitors table)) buffer)

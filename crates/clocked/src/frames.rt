@@ -1,8 +1,8 @@
 // A whole frame clocked a byte at a time.
 ghost use Rattle.std.specs.Prelude.{◌≡◌, length};
-ghost use Rattle.chain.specs.Frame.{answer, tableAfter, replyAfter};
-ghost use Rattle.clocked.specs.Frames.{clockedAll, answeredAll, keptOne, keptBack, replyOf, settled, tableSettled, bufferSettled};
-ghost use Rattle.clocking.specs.Bytes.{clockOf};
+ghost use Rattle.chain.specs.Frame.{answer, table_after, reply_after};
+ghost use Rattle.clocked.specs.Frames.{clocked_all, answered_all, kept_one, kept_back, reply_of, settled, table_settled, buffer_settled};
+ghost use Rattle.clocking.specs.Bytes.{clock_of};
 
 use chain::Answer;
 use clock_state::STATE_SIZE;
@@ -17,7 +17,7 @@ const REPLY_SIZE: usize = PAYLOAD_SIZE * MOST_MONITORS;
 
 // Keeps the byte that came back with the i-th byte of a frame, counted from 0: those after the fourth, as many as there is room for.
 fn keep(back: &mut [u8], i: usize, byte: u8)
-    ensures { back.new ≡ keptOne i byte back.old }
+    ensures { back.new ≡ kept_one i byte back.old }
 {
     if i < 4 {
         return;
@@ -29,8 +29,8 @@ fn keep(back: &mut [u8], i: usize, byte: u8)
 
 // Clocks every byte of a frame in, and keeps the bytes that came back after the fourth.
 fn clock_all(state: &mut [u8; STATE_SIZE], table: &[u8], frame: &[u8], back: &mut [u8])
-    ensures state_after { clockOf state.new ≡ clockedAll table.now frame.now (clockOf state.old) }
-    ensures back_after { back.new ≡ keptBack (answeredAll table.now frame.now (clockOf state.old)) back.old }
+    ensures state_after { clock_of state.new ≡ clocked_all table.now frame.now (clock_of state.old) }
+    ensures back_after { back.new ≡ kept_back (answered_all table.now frame.now (clock_of state.old)) back.old }
 {
     let mut i = 0;
     while i < frame.len() {
@@ -42,7 +42,7 @@ fn clock_all(state: &mut [u8; STATE_SIZE], table: &[u8], frame: &[u8], back: &mu
 
 // The length of the reply where a release is so judged; a refusal has none.
 fn reply_after(judged: Judged) -> usize
-    ensures { result ≡ replyOf judged }
+    ensures { result ≡ reply_of judged }
 {
     match judged {
         Judged::Bad(_) => 0,
@@ -57,16 +57,16 @@ fn settle(
     back: &[u8; REPLY_SIZE],
     buffer: &mut [u8],
 ) -> Answer
-    ensures value { result ≡ settled (clockOf state.old) table.old (length buffer.old) }
-    ensures table_after { table.new ≡ tableSettled (clockOf state.old) table.old (length buffer.old) }
-    ensures buffer_after { buffer.new ≡ bufferSettled (clockOf state.old) table.old back.now buffer.old }
+    ensures value { result ≡ settled (clock_of state.old) table.old (length buffer.old) }
+    ensures table_after { table.new ≡ table_settled (clock_of state.old) table.old (length buffer.old) }
+    ensures buffer_after { buffer.new ≡ buffer_settled (clock_of state.old) table.old back.now buffer.old }
 {
     let size = reply_after(judge(state, table));
     if buffer.len() < size {
         return Answer::Refused(Refusal::NoRoom);
     }
     let came = &back[..];
-    bytes::put(buffer, 0, &came[..size]);
+    laying::put(buffer, 0, &came[..size]);
     release(state, table)
 }
 
@@ -74,8 +74,8 @@ fn settle(
 // `clock` and `release`, not here.
 pub fn handle(table: &mut [u8], frame: &[u8], buffer: &mut [u8]) -> Answer
     ensures value { result ≡ answer table.old frame.now (length buffer.old) }
-    ensures table_after { table.new ≡ tableAfter table.old frame.now (length buffer.old) }
-    ensures buffer_after { buffer.new ≡ replyAfter table.old frame.now buffer.old }
+    ensures table_after { table.new ≡ table_after table.old frame.now (length buffer.old) }
+    ensures buffer_after { buffer.new ≡ reply_after table.old frame.now buffer.old }
 {
     let mut state = [0; STATE_SIZE];
     let mut back = [0; REPLY_SIZE];

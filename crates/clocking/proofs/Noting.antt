@@ -11,73 +11,73 @@ use lib.ListN.{length, set, take, drop, length-set, length-drop, drop_of_length-
 use lib.Seq.{take_all, take-set-lt, drop-set-lt}
 use borrow.Author.Tests.{le-leb}
 use borrow.Rule.Slice.PartMut.{put_mid}
-use Rattle.laws.proofs.LentParts.{part-back}
+use Rattle.laws.proofs.LentParts.{part_back}
 use Rattle.records.specs.declared.commands.Command.{Command}
-use Rattle.records.specs.Commands.{mostMonitors, payloadSize, replyLength}
+use Rattle.records.specs.Commands.{most_monitors, payload_size, reply_length}
 use Rattle.judging.specs.Table.{monitors, sound}
-use Rattle.replying.specs.Replied.{replied, repliesInto}
-use Rattle.clocking.specs.Clock.{known, kind_of, chainedBy}
-use Rattle.clock_state.specs.State.{windows_at, stateSize, kind_at, chainedAt, kindByte, headIn}
+use Rattle.replying.specs.Replied.{replied, replies_into}
+use Rattle.clocking.specs.Clock.{known, kind_of, chained_by}
+use Rattle.clock_state.specs.State.{windows_at, state_size, kind_at, chained_at, kind_byte, head_in}
 use Rattle.clocking.specs.Bytes.{noted}
-use Rattle.clocking.proofs.Known.{known-unsound, replies-fit}
+use Rattle.clocking.proofs.Known.{known_unsound, replies-fit}
 
 -- what the chain replies to a known command, at any part with room for the longest reply
-module _ (table head part : List ℕ) (room : payloadSize * mostMonitors ≤ length part) where
+module _ (table head part : List ℕ) (room : payload_size * most_monitors ≤ length part) where
   abbrev its : Command
   its = known table head
 
-  replies-noted : cond (repliesInto its table (length part)) (replied its (monitors table) table part) part ≡ replied its (monitors table) table part
-  unfolding repliesInto
+  replies-noted : cond (replies_into its table (length part)) (replied its (monitors table) table part) part ≡ replied its (monitors table) table part
+  unfolding replies_into
   replies-noted = go (sound table) refl
     where
-      go : (b : Bool) → sound table ≡ b → cond (sound table && leb (replyLength its (monitors table)) (length part)) (replied its (monitors table) table part) part ≡ replied its (monitors table) table part
+      go : (b : Bool) → sound table ≡ b → cond (sound table && leb (reply_length its (monitors table)) (length part)) (replied its (monitors table) table part) part ≡ replied its (monitors table) table part
       go true e =
-          let fits : replyLength its (monitors table) ≤ length part = omega (arith, replies-fit table head) in
+          let fits : reply_length its (monitors table) ≤ length part = omega (arith, replies-fit table head) in
           ap₂ (λ (a b : Bool). cond (a && b) (replied its (monitors table) table part) part) e (le-leb _ _ fits)
       go false e =
-          ap (λ (a : Bool). cond (a && leb (replyLength its (monitors table)) (length part)) (replied its (monitors table) table part) part) e
-          ∙ subst⁻¹ (λ (c : Command). part ≡ replied c (monitors table) table part) (known-unsound table head e) (unfold replied in refl)
+          ap (λ (a : Bool). cond (a && leb (reply_length its (monitors table)) (length part)) (replied its (monitors table) table part) part) e
+          ∙ subst⁻¹ (λ (c : Command). part ≡ replied c (monitors table) table part) (known_unsound table head e) (unfold replied in refl)
 
-module _ (table s : List ℕ) (kind n : ℕ) (sized : length s ≡ stateSize) where
+module _ (table s : List ℕ) (kind n : ℕ) (sized : length s ≡ state_size) where
   -- the kind and N are stored
   abbrev pub stored : List ℕ
-  stored = set (set s kind_at kind) chainedAt n
+  stored = set (set s kind_at kind) chained_at n
 
-  pub length-stored : length stored ≡ stateSize
-  length-stored = length-set (set s kind_at kind) chainedAt n ∙ length-set s kind_at kind ∙ sized
+  pub length-stored : length stored ≡ state_size
+  length-stored = length-set (set s kind_at kind) chained_at n ∙ length-set s kind_at kind ∙ sized
 
   -- the part of the windows, as it is lent
   abbrev pub places : List ℕ
-  places = take (stateSize - windows_at) (drop windows_at stored)
+  places = take (state_size - windows_at) (drop windows_at stored)
 
   windows-kept : places ≡ drop windows_at s
   windows-kept =
-      let all : length (drop windows_at stored) ≤ stateSize - windows_at = omega (arith, length-drop windows_at stored, length-stored) in
-      take_all (stateSize - windows_at) (drop windows_at stored) all
-      ∙ drop-set-lt windows_at (set s kind_at kind) chainedAt n (lit< tt)
+      let all : length (drop windows_at stored) ≤ state_size - windows_at = omega (arith, length-drop windows_at stored, length-stored) in
+      take_all (state_size - windows_at) (drop windows_at stored) all
+      ∙ drop-set-lt windows_at (set s kind_at kind) chained_at n (lit< tt)
       ∙ drop-set-lt windows_at s kind_at kind (lit< tt)
 
-  front : take windows_at stored ≡ set (set (take windows_at s) kind_at kind) chainedAt n
+  front : take windows_at stored ≡ set (set (take windows_at s) kind_at kind) chained_at n
   front =
-      take-set-lt windows_at (set s kind_at kind) chainedAt n (lit< tt)
-      ∙ ap (λ (r : List ℕ). set r chainedAt n) (take-set-lt windows_at s kind_at kind (lit< tt))
+      take-set-lt windows_at (set s kind_at kind) chained_at n (lit< tt)
+      ∙ ap (λ (r : List ℕ). set r chained_at n) (take-set-lt windows_at s kind_at kind (lit< tt))
 
-  pub noted-by : {command : Command} {after : List ℕ} → command ≡ known table (headIn s) → kind ≡ kindByte (kind_of command) → n ≡ chainedBy table
-      → after ≡ cond (repliesInto command table (length places)) (replied command (monitors table) table places) places
-      → put_mid windows_at (stateSize - windows_at) stored after ≡ noted table s
+  pub noted-by : {command : Command} {after : List ℕ} → command ≡ known table (head_in s) → kind ≡ kind_byte (kind_of command) → n ≡ chained_by table
+      → after ≡ cond (replies_into command table (length places)) (replied command (monitors table) table places) places
+      → put_mid windows_at (state_size - windows_at) stored after ≡ noted table s
   unfolding noted
   noted-by {command} {after} its-command its-kind its-count a =
-      let room : payloadSize * mostMonitors ≤ length places = omega (arith, ap length windows-kept, length-drop windows_at s, sized) in
-      let past : length stored ≤ stateSize = omega (arith, length-stored) in
-      let known-here = known table (headIn s) in
-      part-back windows_at (payloadSize * mostMonitors) stored after
+      let room : payload_size * most_monitors ≤ length places = omega (arith, ap length windows-kept, length-drop windows_at s, sized) in
+      let past : length stored ≤ state_size = omega (arith, length-stored) in
+      let known-here = known table (head_in s) in
+      part_back windows_at (payload_size * most_monitors) stored after
       ∙ ap₂ (λ (x y : List ℕ). take windows_at stored ++ x ++ y)
       (a
-      ∙ ap (λ (c : Command). cond (repliesInto c table (length places)) (replied c (monitors table) table places) places) its-command
-      ∙ replies-noted table (headIn s) places room
+      ∙ ap (λ (c : Command). cond (replies_into c table (length places)) (replied c (monitors table) table places) places) its-command
+      ∙ replies-noted table (head_in s) places room
       ∙ ap (replied known-here (monitors table) table) windows-kept)
       (drop_of_length-le stored past)
       ∙ append-nil (take windows_at stored ++ replied known-here (monitors table) table (drop windows_at s))
       ∙ ap (λ (x : List ℕ). x ++ replied known-here (monitors table) table (drop windows_at s)) front
-      ∙ ap₂ (λ (k m : ℕ). set (set (take windows_at s) kind_at k) chainedAt m ++ replied known-here (monitors table) table (drop windows_at s))
-      (its-kind ∙ ap (λ (c : Command). kindByte (kind_of c)) its-command) its-count
+      ∙ ap₂ (λ (k m : ℕ). set (set (take windows_at s) kind_at k) chained_at m ++ replied known-here (monitors table) table (drop windows_at s))
+      (its-kind ∙ ap (λ (c : Command). kind_byte (kind_of c)) its-command) its-count

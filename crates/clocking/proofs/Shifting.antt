@@ -8,8 +8,8 @@ use Prim.Native.Nat.{ℕ, zero, suc, ◌+◌, ◌-◌, ◌*◌, ◌<◌}
 use native.Mathlib.Omega.{arith}
 use lib.ListN.{length, get_or, set, take, drop}
 use borrow.Rule.Slice.PartMut.{put_mid}
-use Rattle.laws.proofs.LentParts.{part-back}
-use Rattle.clock_state.specs.State.{windows_at, chainedIn, registerIn}
+use Rattle.laws.proofs.LentParts.{part_back}
+use Rattle.clock_state.specs.State.{windows_at, chained_in, register_in}
 use Rattle.clocking.specs.Bytes.{shifted}
 
 module _ {A : Type 0} where
@@ -50,28 +50,28 @@ module _ {A : Type 0} where
   nothing (x ∷ xs) a e = absurd (omega arith)
 
   -- the first element, whatever stands in for none
-  pub the-first : (l : List A) (d a : A) → 0 < length l → get_or l 0 d ≡ get_or l 0 a
-  the-first [] d a h = absurd (omega arith)
-  the-first (x ∷ xs) d a h = refl
+  pub the_first : (l : List A) (d a : A) → 0 < length l → get_or l 0 d ≡ get_or l 0 a
+  the_first [] d a h = absurd (omega arith)
+  the_first (x ∷ xs) d a h = refl
 
 -- ---- the register of a state: lent, and come back
 
-module _ (w byte : ℕ) (s : List ℕ) {n : ℕ} (its : n ≡ chainedIn s) where
+module _ (w byte : ℕ) (s : List ℕ) {n : ℕ} (its : n ≡ chained_in s) where
   -- the register, as it is lent
   abbrev pub lent : List ℕ
   lent = take (windows_at + w * n - windows_at) (drop windows_at s)
 
-  lent-register : lent ≡ registerIn w (chainedIn s) s
-  unfolding registerIn
+  lent-register : lent ≡ register_in w (chained_in s) s
+  unfolding register_in
   lent-register =
       let size : windows_at + w * n - windows_at ≡ w * n = omega arith in
       ap (λ (k : ℕ). take k (drop windows_at s)) (size ∙ ap (λ (k : ℕ). w * k) its)
 
-  pub first-of-register : {first : ℕ} → first ≡ get_or lent 0 byte → first ≡ get_or (registerIn w (chainedIn s) s) 0 byte
-  first-of-register e = e ∙ ap (λ (r : List ℕ). get_or r 0 byte) lent-register
+  pub first_of_register : {first : ℕ} → first ≡ get_or lent 0 byte → first ≡ get_or (register_in w (chained_in s) s) 0 byte
+  first_of_register e = e ∙ ap (λ (r : List ℕ). get_or r 0 byte) lent-register
 
   pub shifted_by : {after : List ℕ} → after ≡ drop 1 (lent ++ byte ∷ []) → put_mid windows_at (windows_at + w * n - windows_at) s after ≡ shifted w byte s
   unfolding shifted
   shifted_by {after} e =
-      part-back windows_at (w * n) s after
+      part_back windows_at (w * n) s after
       ∙ ap₂ (λ (x : List ℕ) (k : ℕ). take windows_at s ++ x ++ drop (windows_at + w * k) s) (e ∙ ap (λ (r : List ℕ). drop 1 (r ++ byte ∷ [])) lent-register) its

@@ -7,11 +7,11 @@ use Rattle.wire.specs.Windows.{empty, enter, leaves, draw}
 use Rattle.refusals.specs.Order.{decide}
 use Rattle.records.specs.declared.commands.Command.{Command}
 use Rattle.records.specs.declared.commands.Command.TheVariants.{Reads, Writes, Bares, Unlisted}
-use Rattle.records.specs.Record.{recordSize}
-use Rattle.records.specs.Commands.{mostMonitors, payloadSize, width_of}
+use Rattle.records.specs.Record.{record_size}
+use Rattle.records.specs.Commands.{most_monitors, payload_size, width_of}
 use Rattle.reads.specs.Reply.{reply}
 use Rattle.judging.specs.Table.{monitors, sound}
-use Rattle.judging.specs.Refusals.{commandIn, tableRow, commandRow, listedRow}
+use Rattle.judging.specs.Refusals.{command_in, table_row, command_row, listed_row}
 use Rattle.clock_state.specs.declared.state.Kind.{Kind}
 use Rattle.clock_state.specs.declared.state.Kind.TheVariants.{Fills, Drains, Still}
 
@@ -40,7 +40,7 @@ far = 0xFF
 
 -- a command is known when refusals 1, 3 and 4 do not hold; else it is `Unlisted`
 unfoldable pub known : List ℕ → List ℕ → Command
-known table head = decide (tableRow table ∷ commandRow head ∷ listedRow head ∷ []) (λ r. Unlisted) (commandIn head)
+known table head = decide (table_row table ∷ command_row head ∷ listed_row head ∷ []) (λ r. Unlisted) (command_in head)
 
 -- a known write's bytes fill windows of the write's width, a known read's drain them; in any other frame they stay empty
 abbrev pub kind_of : Command → Kind
@@ -50,20 +50,20 @@ kind_of (Bares c) = Still
 kind_of Unlisted = Still
 
 -- the windows after byte four: of a known read each has its own monitor's eight reply bytes
-unfoldable pub filledFor : Command → ℕ → List ℕ → List (List ℕ)
-filledFor (Reads part) n table = map (reply part) (rows recordSize n table)
-filledFor (Writes c) n table = empty n
-filledFor (Bares c) n table = empty n
-filledFor Unlisted n table = empty n
+unfoldable pub filled_for : Command → ℕ → List ℕ → List (List ℕ)
+filled_for (Reads part) n table = map (reply part) (rows record_size n table)
+filled_for (Writes c) n table = empty n
+filled_for (Bares c) n table = empty n
+filled_for Unlisted n table = empty n
 
 -- N of a sound table
-unfoldable pub chainedBy : List ℕ → ℕ
-chainedBy table = cond (sound table) (monitors table) 0
+unfoldable pub chained_by : List ℕ → ℕ
+chained_by table = cond (sound table) (monitors table) 0
 
 unfoldable pub fourth : List ℕ → ℕ → Clock → Clock
 fourth table byte c =
     let head = set c.head 3 byte in
-    record { seen = 4; head = head; chained = chainedBy table; kind = kind_of (known table head); windows = filledFor (known table head) (chainedBy table) table }
+    record { seen = 4; head = head; chained = chained_by table; kind = kind_of (known table head); windows = filled_for (known table head) (chained_by table) table }
 
 unfoldable pub early : ℕ → Clock → Clock
 early byte c = record { seen = c.seen + 1; head = set c.head c.seen byte; chained = c.chained; kind = c.kind; windows = c.windows }
@@ -71,12 +71,12 @@ early byte c = record { seen = c.seen + 1; head = set c.head c.seen byte; chaine
 -- ---- the later bytes
 
 -- one byte more than any frame has
-abbrev pub mostSeen : ℕ
-mostSeen = 4 + payloadSize * mostMonitors + 1
+abbrev pub most_seen : ℕ
+most_seen = 4 + payload_size * most_monitors + 1
 
 -- bytes are counted up to there: no frame of more is accepted, however many come
-unfoldable pub oneMore : ℕ → ℕ
-oneMore k = cond (ltb k mostSeen) (k + 1) k
+unfoldable pub one_more : ℕ → ℕ
+one_more k = cond (ltb k most_seen) (k + 1) k
 
 -- a write's byte enters monitor 1's window, and full windows pass their oldest on; in a read every window draws from the next
 unfoldable pub moved : Kind → ℕ → List (List ℕ) → List (List ℕ)
@@ -85,7 +85,7 @@ moved Drains byte windows = draw far windows
 moved Still byte windows = windows
 
 unfoldable pub later : ℕ → Clock → Clock
-later byte c = record { seen = oneMore c.seen; head = c.head; chained = c.chained; kind = c.kind; windows = moved c.kind byte c.windows }
+later byte c = record { seen = one_more c.seen; head = c.head; chained = c.chained; kind = c.kind; windows = moved c.kind byte c.windows }
 
 -- ---- any byte
 

@@ -1,9 +1,9 @@
 // One byte clocked in.
 ghost use Rattle.std.specs.Prelude.{◌≡◌, ◌++◌, ◌∷◌, [], ◌<◌, ◌≤◌, length, get_or, drop};
-ghost use Rattle.records.specs.Commands.{payloadSize};
-ghost use Rattle.clocking.specs.Clock.{known, chainedBy, kind_of, oneMore, clocked, leaving, answered};
-ghost use Rattle.clock_state.specs.State.{stateSize, kindByte, kindIn, chainedIn, registerIn};
-ghost use Rattle.clocking.specs.Bytes.{clockOf, counted, noted, shifted, movedOn, takenIn, stateAfter};
+ghost use Rattle.records.specs.Commands.{payload_size};
+ghost use Rattle.clocking.specs.Clock.{known, chained_by, kind_of, one_more, clocked, leaving, answered};
+ghost use Rattle.clock_state.specs.State.{state_size, kind_byte, kind_in, chained_in, register_in};
+ghost use Rattle.clocking.specs.Bytes.{clock_of, counted, noted, shifted, moved_on, taken_in, state_after};
 
 use clock_state::{
     CHAINED, DRAINS, HEAD, KIND, Kind, SEEN, STATE_SIZE, STILL, WINDOWS, chained_in, kind_in,
@@ -20,7 +20,7 @@ const MOST_SEEN: usize = 4 + PAYLOAD_SIZE * MOST_MONITORS + 1;
 // The command of the first four bytes, and one that is not listed where refusal 1, 3 or 4 holds. The count of the table, 0 if it is not
 // sound, is known already: a look at all of it is dear.
 fn known_command(table: &[u8], head: &[u8], count: usize) -> Command
-    requires { (length head.now ≡ 4) × (count ≡ chainedBy table.now) }
+    requires { (length head.now ≡ 4) × (count ≡ chained_by table.now) }
     ensures { result ≡ known table.now head.now }
 {
     if count == 0 {
@@ -35,7 +35,7 @@ fn known_command(table: &[u8], head: &[u8], count: usize) -> Command
 
 // What the bytes after the fourth do by the command, as the kind's byte: the windows of a write are as wide as its command's.
 fn kind_of(command: Command) -> u8
-    ensures { result ≡ kindByte (kind_of command) }
+    ensures { result ≡ kind_byte (kind_of command) }
 {
     match command {
         Command::Reads(_) => DRAINS,
@@ -47,7 +47,7 @@ fn kind_of(command: Command) -> u8
 
 // What the four bytes say, by the table that is lent with the fourth; a known read's replies.
 fn note(state: &mut [u8], table: &[u8])
-    requires { length state.old ≡ stateSize }
+    requires { length state.old ≡ state_size }
     ensures { state.new ≡ noted table.now state.old }
 {
     let count = judging::sound_count(table);
@@ -78,8 +78,8 @@ fn shift(register: &mut [u8], byte: u8) -> u8
 
 // The windows of so many bytes pass a byte on.
 fn shift_windows(state: &mut [u8], byte: u8, width: usize) -> u8
-    requires { (length state.old ≡ stateSize) × (width ≤ payloadSize) }
-    ensures value { result ≡ get_or (registerIn width (chainedIn state.old) state.old) 0 byte }
+    requires { (length state.old ≡ state_size) × (width ≤ payload_size) }
+    ensures value { result ≡ get_or (register_in width (chained_in state.old) state.old) 0 byte }
     ensures state_after { state.new ≡ shifted width byte state.old }
 {
     let end = WINDOWS + width * chained_in(state);
@@ -88,9 +88,9 @@ fn shift_windows(state: &mut [u8], byte: u8, width: usize) -> u8
 
 // A byte after the fourth.
 fn move_on(state: &mut [u8], byte: u8) -> u8
-    requires { length state.old ≡ stateSize }
-    ensures value { result ≡ leaving (clockOf state.old).kind (clockOf state.old).windows }
-    ensures state_after { state.new ≡ movedOn (kindIn state.old) byte state.old }
+    requires { length state.old ≡ state_size }
+    ensures value { result ≡ leaving (clock_of state.old).kind (clock_of state.old).windows }
+    ensures state_after { state.new ≡ moved_on (kind_in state.old) byte state.old }
 {
     match kind_in(state) {
         Kind::Fills(width) => {
@@ -104,9 +104,9 @@ fn move_on(state: &mut [u8], byte: u8) -> u8
 
 // A byte by its place in the frame.
 fn take_in(state: &mut [u8], table: &[u8], byte: u8) -> u8
-    requires { length state.old ≡ stateSize }
-    ensures value { result ≡ answered (clockOf state.old) }
-    ensures state_after { state.new ≡ takenIn table.now byte state.old }
+    requires { length state.old ≡ state_size }
+    ensures value { result ≡ answered (clock_of state.old) }
+    ensures state_after { state.new ≡ taken_in table.now byte state.old }
 {
     let seen = seen_in(state);
     if seen < 4 {
@@ -122,7 +122,7 @@ fn take_in(state: &mut [u8], table: &[u8], byte: u8) -> u8
 // One byte more, up to one more than any frame has.
 fn one_more(seen: usize) -> usize
     requires { seen < 65536 }
-    ensures value { result ≡ oneMore seen }
+    ensures value { result ≡ one_more seen }
     ensures upper_bound { result < 65536 }
 {
     if seen < MOST_SEEN { seen + 1 } else { seen }
@@ -130,7 +130,7 @@ fn one_more(seen: usize) -> usize
 
 // Counts a byte.
 fn count(state: &mut [u8])
-    requires { length state.old ≡ stateSize }
+    requires { length state.old ≡ state_size }
     ensures { state.new ≡ counted state.old }
 {
     let seen = one_more(seen_in(state));
@@ -140,9 +140,9 @@ fn count(state: &mut [u8])
 
 // Clocks one byte in, and answers the byte that comes back.
 pub fn clock(state: &mut [u8; STATE_SIZE], table: &[u8], byte: u8) -> u8
-    ensures value { result ≡ answered (clockOf state.old) }
-    ensures state_after { clockOf state.new ≡ clocked table.now byte (clockOf state.old) }
-    ensures state_after_2 { state.new ≡ stateAfter table.now byte state.old }
+    ensures value { result ≡ answered (clock_of state.old) }
+    ensures state_after { clock_of state.new ≡ clocked table.now byte (clock_of state.old) }
+    ensures state_after_2 { state.new ≡ state_after table.now byte state.old }
 {
     let back = take_in(state, table, byte);
     count(state);

@@ -4,35 +4,35 @@ use Rattle.std.specs.Prelude.{List, [], ◌∷◌, ◌++◌, ℕ, ◌-◌, ltb, 
 use Rattle.laws.specs.Rows.{row_at}
 use Rattle.refusals.specs.declared.Refusal.TheVariants.{PositionWrong, NoRoom}
 use Rattle.refusals.specs.Order.{Row, ◌gives◌, decide}
-use Rattle.records.specs.Record.{cellCount, recordSize}
-use Rattle.judging.specs.Refusals.{tableRow, positionRow}
+use Rattle.records.specs.Record.{cell_count, record_size}
+use Rattle.judging.specs.Refusals.{table_row, position_row}
 use Rattle.priorities.specs.declared.outputs.Events.{Events}
-use Rattle.priorities.specs.Table27.{lastPhase}
-use Rattle.priorities.specs.Outputs.{outputs, countOn}
+use Rattle.priorities.specs.Table27.{last_phase}
+use Rattle.priorities.specs.Outputs.{outputs, count_on}
 use Rattle.discharge.specs.declared.question.Discharged.{Discharged}
 use Rattle.discharge.specs.declared.question.Discharged.TheVariants.{Refused, On}
 
 -- ---- the refusals, in their order; 1 and 7 are those of the table and of the position
 
 -- 7: of the phase
-abbrev pub phaseRow : ℕ → Row
-phaseRow phase = ltb lastPhase phase gives PositionWrong
+abbrev pub phase_row : ℕ → Row
+phase_row phase = ltb last_phase phase gives PositionWrong
 
 -- 6: of the room for a byte for each output
-abbrev pub outRow : ℕ → Row
-outRow room = ltb room cellCount gives NoRoom
+abbrev pub out_row : ℕ → Row
+out_row room = ltb room cell_count gives NoRoom
 
-unfoldable pub dischargeRefusals : List ℕ → ℕ → ℕ → ℕ → List Row
-dischargeRefusals table position phase room = tableRow table ∷ positionRow table position ∷ phaseRow phase ∷ outRow room ∷ []
+unfoldable pub discharge_refusals : List ℕ → ℕ → ℕ → ℕ → List Row
+discharge_refusals table position phase room = table_row table ∷ position_row table position ∷ phase_row phase ∷ out_row room ∷ []
 
 -- ---- what comes of it. The table is only read, and a refusal changes nothing
 
 unfoldable pub discharged : List ℕ → ℕ → Events → ℕ → ℕ → Discharged
 discharged table position events phase room =
-    decide (dischargeRefusals table position phase room) Refused (On (countOn events phase (row_at recordSize (position - 1) table)))
+    decide (discharge_refusals table position phase room) Refused (On (count_on events phase (row_at record_size (position - 1) table)))
 
 -- the outputs at the start of a buffer, cell 1's first; bytes past them stay
-unfoldable pub outputsAfter : List ℕ → ℕ → Events → ℕ → List ℕ → List ℕ
-outputsAfter table position events phase out =
-    decide (dischargeRefusals table position phase (length out)) (λ n. out)
-    (outputs events phase (row_at recordSize (position - 1) table) ++ drop cellCount out)
+unfoldable pub outputs_after : List ℕ → ℕ → Events → ℕ → List ℕ → List ℕ
+outputs_after table position events phase out =
+    decide (discharge_refusals table position phase (length out)) (λ n. out)
+    (outputs events phase (row_at record_size (position - 1) table) ++ drop cell_count out)

@@ -1,6 +1,6 @@
 // The question: which outputs of one monitor are on, and which row of Table 27 decided each?
 ghost use Rattle.std.specs.Prelude.{◌≡◌, length};
-ghost use Rattle.discharge.specs.Question.{discharged, outputsAfter};
+ghost use Rattle.discharge.specs.Question.{discharged, outputs_after};
 
 use judging::{Placed, place_of};
 use priorities::{Events, put_outputs};
@@ -27,7 +27,7 @@ pub fn discharge(
     out: &mut [u8],
 ) -> Discharged
     ensures value { result ≡ discharged table.now position events phase (length out.old) }
-    ensures out_after { out.new ≡ outputsAfter table.now position events phase out.old }
+    ensures out_after { out.new ≡ outputs_after table.now position events phase out.old }
 {
     match place_of(table, position) {
         Placed::Nowhere(refusal) => Discharged::Refused(refusal),

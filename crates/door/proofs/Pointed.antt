@@ -7,15 +7,15 @@ use Prim.Native.Nat.{ℕ}
 use Rattle.laws.specs.Rows.{row_at}
 use Rattle.ports.specs.declared.ports.Port.{Port}
 use Rattle.ports.specs.declared.ports.Port.TheVariants.{Refused, A, B}
-use Rattle.ports.specs.Ports.{partA, partB, portOf, byPort}
+use Rattle.ports.specs.Ports.{part_a, part_b, port_of, by_port}
 use Rattle.ports.specs.Parts.{bytes_of}
-use Rattle.door.specs.Answers.{portParts, pointed}
+use Rattle.door.specs.Answers.{port_parts, pointed}
 
-pub pointed-bytes : (a b : List ℕ) (n k expected : ℕ) → pointed (portParts n k (portOf a b n k expected)) a b ≡ bytes_of a b n k expected
-unfolding bytes_of partA partB row_at
-pointed-bytes a b n k expected = by (portOf a b n k expected)
+pub pointed-bytes : (a b : List ℕ) (n k expected : ℕ) → pointed (port_parts n k (port_of a b n k expected)) a b ≡ bytes_of a b n k expected
+unfolding bytes_of part_a part_b row_at
+pointed-bytes a b n k expected = by (port_of a b n k expected)
   where
-    by : (port : Port) → pointed (portParts n k port) a b ≡ byPort [] (partA a n k) (partB b n k) port
+    by : (port : Port) → pointed (port_parts n k port) a b ≡ by_port [] (part_a a n k) (part_b b n k) port
     by (Refused r) = refl
     by (A true) = refl
     by (A false) = refl

@@ -11,28 +11,28 @@ use Rattle.readings.specs.declared.pack_summary.Pack.TheVariants.{Refused, Nothi
 use Rattle.packing.specs.Packed.{Parts, refused, accepted}
 
 -- a cleared cell has no voltage
-abbrev pub voltsOrNan : Reading → Float
-voltsOrNan (Volts volts) = volts
-voltsOrNan Cleared = nan
+abbrev pub volts_or_nan : Reading → Float
+volts_or_nan (Volts volts) = volts
+volts_or_nan Cleared = nan
 
 -- ---- a summary
 
 -- the lowest, the highest and the total
-abbrev pub summarySize : ℕ
-summarySize = 3
+abbrev pub summary_size : ℕ
+summary_size = 3
 
 -- 6, behind the summary's own 8
-abbrev pub roomRow : ℕ → Row
-roomRow room = ltb room summarySize gives NoRoom
+abbrev pub room_row : ℕ → Row
+room_row room = ltb room summary_size gives NoRoom
 
 -- 1 and the number of cells not cleared, and 0 where there is no summary
-abbrev pub summaryParts : Pack → ℕ → Parts
-summaryParts (Refused r) room = refused r
-summaryParts Nothing room = decide (roomRow room ∷ []) refused (accepted 0 0)
-summaryParts (Whole s) room = decide (roomRow room ∷ []) refused (accepted 1 s.cells)
+abbrev pub summary_parts : Pack → ℕ → Parts
+summary_parts (Refused r) room = refused r
+summary_parts Nothing room = decide (room_row room ∷ []) refused (accepted 0 0)
+summary_parts (Whole s) room = decide (room_row room ∷ []) refused (accepted 1 s.cells)
 
 -- at the start of a buffer; what lies past it stays, and all of it where there is none
-abbrev pub summaryOut : Pack → List Float → List Float
-summaryOut (Refused r) out = out
-summaryOut Nothing out = out
-summaryOut (Whole s) out = decide (roomRow (length out) ∷ []) (λ r. out) (s.lowest ∷ s.highest ∷ s.total ∷ drop summarySize out)
+abbrev pub summary_out : Pack → List Float → List Float
+summary_out (Refused r) out = out
+summary_out Nothing out = out
+summary_out (Whole s) out = decide (room_row (length out) ∷ []) (λ r. out) (s.lowest ∷ s.highest ∷ s.total ∷ drop summary_size out)

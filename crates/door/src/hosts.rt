@@ -1,10 +1,10 @@
 // The host: the frames it writes, the check of one payload, the two ports.
 ghost use Rattle.std.specs.Prelude.{◌≡◌, cond, ◌+◌, ◌≤◌, length};
-ghost use Rattle.host.specs.Frames.{built, bufferAfter};
+ghost use Rattle.host.specs.Frames.{built, buffer_after};
 ghost use Rattle.ports.specs.Check.{checked};
-ghost use Rattle.ports.specs.Ports.{portOf};
+ghost use Rattle.ports.specs.Ports.{port_of};
 ghost use Rattle.packing.specs.Packed.{packed};
-ghost use Rattle.door.specs.Answers.{builtParts, checkedParts, portParts};
+ghost use Rattle.door.specs.Answers.{built_parts, checked_parts, port_parts};
 
 use host::Built;
 use packing::{accepted, refused};
@@ -19,8 +19,8 @@ pub extern "C" fn osk_host_frame(
     values: &[u8],
     out: &mut [u8],
 ) -> u32
-    ensures value { result ≡ packed (builtParts (built command monitors values.now (length out.old))) }
-    ensures out_after { out.new ≡ bufferAfter command monitors values.now out.old }
+    ensures value { result ≡ packed (built_parts (built command monitors values.now (length out.old))) }
+    ensures out_after { out.new ≡ buffer_after command monitors values.now out.old }
 {
     match host::build(command, monitors, values, out) {
         Built::Unbuilt(refusal) => refused(refusal),
@@ -32,7 +32,7 @@ pub extern "C" fn osk_host_frame(
 // one received.
 #[unsafe(no_mangle)]
 pub extern "C" fn osk_check(payload: &[u8], expected: u8) -> u32
-    ensures { result ≡ packed (checkedParts (checked payload.now expected)) }
+    ensures { result ≡ packed (checked_parts (checked payload.now expected)) }
 {
     match ports::check(payload, expected) {
         Checked::Unchecked(refusal) => refused(refusal),
@@ -60,7 +60,7 @@ pub extern "C" fn osk_two_ports(
     position: usize,
     expected: u8,
 ) -> u32
-    ensures { result ≡ packed (portParts monitors position (portOf a.now b.now monitors position expected)) }
+    ensures { result ≡ packed (port_parts monitors position (port_of a.now b.now monitors position expected)) }
 {
     match ports::port_of(a, b, monitors, position, expected) {
         Port::Refused(refusal) => refused(refusal),

@@ -2,7 +2,7 @@
 ghost use Rattle.std.specs.Prelude.{◌≡◌, not, eqb};
 ghost use Rattle.messages.specs.Verdicts.{verdict};
 ghost use Rattle.packing.specs.Packed.{packed};
-ghost use Rattle.door.specs.Answers.{verdictParts};
+ghost use Rattle.door.specs.Answers.{verdict_parts};
 
 use messages::{Verdict, verdict_on};
 use packing::{accepted, refused};
@@ -10,7 +10,7 @@ use packing::{accepted, refused};
 // 1 where it passed, 2 where it failed, with 256 times the count and the flags, 3 where it is damaged, 4 where the time ran out: 0 is no.
 #[unsafe(no_mangle)]
 pub extern "C" fn osk_verdict(message: &[u8], time_ran_out: u8) -> u32
-    ensures { result ≡ packed (verdictParts (verdict message.now (not (eqb time_ran_out 0)))) }
+    ensures { result ≡ packed (verdict_parts (verdict message.now (not (eqb time_ran_out 0)))) }
 {
     match verdict_on(message, time_ran_out != 0) {
         Verdict::Refused(refusal) => refused(refusal),

@@ -1,8 +1,8 @@
 // Readings: microvolts, volts, and the summary of a pack.
 ghost use Rattle.std.specs.Prelude.{◌≡◌, length};
-ghost use Rattle.readings.specs.Readings.{microvolts, reading_of, summaryOf};
+ghost use Rattle.readings.specs.Readings.{microvolts, reading_of, summary_of};
 ghost use Rattle.packing.specs.Packed.{packed};
-ghost use Rattle.door.specs.Volts.{voltsOrNan, summaryParts, summaryOut};
+ghost use Rattle.door.specs.Volts.{volts_or_nan, summary_parts, summary_out};
 
 use packing::{accepted, refused};
 use readings::{Pack, Reading};
@@ -24,7 +24,7 @@ pub extern "C" fn osk_microvolts(code: i16) -> i32
 // A code in volts, and NaN where the cell was cleared.
 #[unsafe(no_mangle)]
 pub extern "C" fn osk_volts(code: i16) -> f64
-    ensures { result ≡ voltsOrNan (reading_of (record { 0 = code })) }
+    ensures { result ≡ volts_or_nan (reading_of (record { 0 = code })) }
 {
     let wide = code as i32;
     match readings::reading_of(ResultCode(wide)) {
@@ -37,8 +37,8 @@ pub extern "C" fn osk_volts(code: i16) -> f64
 // cells not cleared. The buffer stays where there is none, and where that is refused.
 #[unsafe(no_mangle)]
 pub extern "C" fn osk_summary(codes: &[i16], out: &mut [f64]) -> u32
-    ensures value { result ≡ packed (summaryParts (summaryOf codes.now) (length out.old)) }
-    ensures out_after { out.new ≡ summaryOut (summaryOf codes.now) out.old }
+    ensures value { result ≡ packed (summary_parts (summary_of codes.now) (length out.old)) }
+    ensures out_after { out.new ≡ summary_out (summary_of codes.now) out.old }
 {
     match readings::summary_of(codes) {
         Pack::Refused(refusal) => refused(refusal),

@@ -12,31 +12,31 @@ use lib.ListN.{replicate}
 use Rattle.laws.specs.Bits.{odd, bit_at}
 use Rattle.laws.specs.Counts.{all}
 use Rattle.laws.specs.Rows.{rows, row_at}
-use Rattle.records.specs.Record.{inLpcm, bytes_of, byteIn, byte_of, recordSound}
+use Rattle.records.specs.Record.{in_lpcm, bytes_of, byte_in, byte_of, record_sound}
 use Rattle.judging.specs.Table.{monitors, sound}
-use Rattle.heartbeats.specs.Steps.{manages, isManager, isTimeout, ndev, towardsA}
-use Rattle.guarding.specs.Chains.{at, sendsOn, Guarded, FromTheEnd, Watched}
+use Rattle.heartbeats.specs.Steps.{manages, is_manager, is_timeout, ndev, towards_a}
+use Rattle.guarding.specs.Chains.{at, sends_on, Guarded, FromTheEnd, Watched}
 
 -- a record of zeros but for the first five bytes of LPCM's configuration and CMF1
-zeros-but : List ℕ → List ℕ
-zeros-but configuration = replicate 114 0 ++ configuration ++ replicate 14 0 ++ 0x80 ∷ replicate 36 0
+zeros_but : List ℕ → List ℕ
+zeros_but configuration = replicate 114 0 ++ configuration ++ replicate 14 0 ++ 0x80 ∷ replicate 36 0
 
 manager : List ℕ
-manager = zeros-but (0x80 ∷ 0x44 ∷ 0 ∷ 0 ∷ 0x20 ∷ [])
+manager = zeros_but (0x80 ∷ 0x44 ∷ 0 ∷ 0 ∷ 0x20 ∷ [])
 
-pub guarded-two : List ℕ
-guarded-two = zeros-but (0 ∷ 0 ∷ 0 ∷ 0 ∷ 0 ∷ []) ++ manager
+pub guarded_two : List ℕ
+guarded_two = zeros_but (0 ∷ 0 ∷ 0 ∷ 0 ∷ 0 ∷ []) ++ manager
 
-pub watched-two : List ℕ
-watched-two = zeros-but (0x08 ∷ 0 ∷ 0 ∷ 0 ∷ 0 ∷ []) ++ manager
+pub watched_two : List ℕ
+watched_two = zeros_but (0x08 ∷ 0 ∷ 0 ∷ 0 ∷ 0 ∷ []) ++ manager
 
 pub record Examples : Type 0 where
-  pub guarded : Guarded true 1 guarded-two × FromTheEnd true 1 (monitors guarded-two)
-  pub watched : Watched 1 watched-two
-  pub devices : (ndev (at 1 guarded-two) ≡ 0x44) × (ndev (at 1 watched-two) ≡ 0x44)
+  pub guarded : Guarded true 1 guarded_two × FromTheEnd true 1 (monitors guarded_two)
+  pub watched : Watched 1 watched_two
+  pub devices : (ndev (at 1 guarded_two) ≡ 0x44) × (ndev (at 1 watched_two) ≡ 0x44)
 
 pub examples : Examples
-unfolding guarded-two watched-two manager zeros-but sound monitors recordSound rows row_at all inLpcm byte_of byteIn bit_at odd manages isManager isTimeout ndev towardsA sendsOn bytes_of
+unfolding guarded_two watched_two manager zeros_but sound monitors record_sound rows row_at all in_lpcm byte_of byte_in bit_at odd manages is_manager is_timeout ndev towards_a sends_on bytes_of
 examples =
     record {
       guarded = (record { its-sound = refl; there = lit< tt; manager = refl; direction = refl; others = others }, inl (refl, refl));
@@ -45,7 +45,7 @@ examples =
       devices = (refl, refl);
     }
   where
-    others : (j : ℕ) → j < monitors guarded-two → (j ≡ 1 → ⊥) → sendsOn (at j guarded-two) ≡ true
+    others : (j : ℕ) → j < monitors guarded_two → (j ≡ 1 → ⊥) → sends_on (at j guarded_two) ≡ true
     others zero h apart = refl
     others (suc zero) h apart = absurd (apart refl)
     others (suc (suc j)) h apart = absurd (omega arith)

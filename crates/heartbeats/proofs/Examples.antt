@@ -5,18 +5,18 @@ use mathlib.Core.Bool.{true, false, xor}
 use mathlib.Core.List.{List, [], ◌∷◌, ◌++◌}
 use Prim.Native.Nat.{ℕ}
 use lib.ListN.{length, replicate}
-use Rattle.laws.specs.Bits.{◌⊕◌, odd, bit_at, bits_of, bitsOfBytes}
+use Rattle.laws.specs.Bits.{◌⊕◌, odd, bit_at, bits_of, bits_of_bytes}
 use Rattle.laws.specs.Counts.{same}
 use Rattle.pec.specs.Remainder.{once, step, remainder}
-use Rattle.pec.specs.Words.{twoBytes, word_at, pec15, commandCheck, dataPec, seal, sealedRight}
-use Rattle.records.specs.Record.{cmf1, recordSize, inLpcm, bytes_of, byteIn, byte_of, anew, onBytes}
+use Rattle.pec.specs.Words.{two_bytes, word_at, pec15, command_check, data_pec, seal, sealed_right}
+use Rattle.records.specs.Record.{cmf1, record_size, in_lpcm, bytes_of, byte_in, byte_of, anew, on_bytes}
 use Rattle.thresholds.specs.Thresholds.{signed, lower, upper, codes_of}
 use Rattle.cells.specs.Cells.{code_in}
-use Rattle.monitor.specs.Effects.{cellsTo}
-use Rattle.measuring.specs.Measuring.{cuv, cov, cdv, masked, kinds, kindsOf, kindsIn, pending, found, measured, passes}
-use Rattle.messages.specs.Messages.{messageHead, message, countIn, flagsIn, messageRight, isPass}
+use Rattle.monitor.specs.Effects.{cells_to}
+use Rattle.measuring.specs.Measuring.{cuv, cov, cdv, masked, kinds, kinds_of, kinds_in, pending, found, measured, passes}
+use Rattle.messages.specs.Messages.{message_head, message, count_in, flags_in, message_right, is_pass}
 use Rattle.heartbeats.specs.declared.steps.Beat.TheVariants.{Silent, Sends}
-use Rattle.heartbeats.specs.Steps.{manages, isManager, isTimeout, ndev, countedDown, joinedTo, woken, wakes, hears, judged, reached, answers, late}
+use Rattle.heartbeats.specs.Steps.{manages, is_manager, is_timeout, ndev, counted_down, joined_to, woken, wakes, hears, judged, reached, answers, late}
 
 -- a monitor that leaves out all of its cells, by byte 0 of its configuration, CMC_NDEV, CMF0 and CMF1
 abbrev monitor : ℕ → ℕ → ℕ → ℕ → List ℕ
@@ -36,7 +36,7 @@ abbrev last : List ℕ
 last = monitor 0x08 0x00 0x00 0x83
 
 pub record Turns : Type 0 where
-  is-long : length manager ≡ recordSize
+  is_long : length manager ≡ record_size
   -- 48 is 47 after the manager, 46 after the next; the third fails, and leaves the count and joins its flag to those that came
   starts : wakes manager ≡ Sends 0x47 0x00
   passes_on : answers (message 0x47 0x00) good ≡ Sends 0x46 0x00
@@ -51,17 +51,17 @@ pub record Turns : Type 0 where
   flagged : byte_of cmf1 (reached (message 0x43 0x01) (monitor 0x08 0x00 0x00 0x80)) ≡ 0x81
   missing : byte_of cmf1 (reached (message 0x42 0x00) (monitor 0x08 0x00 0x00 0x82)) ≡ 0x83
   -- the time runs out
-  ran_out : byte_of cmf1 (late (monitor 0x08 0x00 0x00 0x80)) ≡ 0x82
+  ran_out_lem : byte_of cmf1 (late (monitor 0x08 0x00 0x00 0x80)) ≡ 0x82
   -- one bit of the check flipped; a monitor not in LPCM; a manager
   damaged : answers (0x00 ∷ 0x43 ∷ 0x47 ∷ 0xB2 ∷ 0x47 ∷ 0x00 ∷ 0x01 ∷ 0x4F ∷ []) good ≡ Silent
   asleep : answers (message 0x47 0x00) (monitor 0x00 0x00 0x00 0x03) ≡ Silent
-  taken-by-none : answers (message 0x47 0x00) manager ≡ Silent
+  taken_by-none : answers (message 0x47 0x00) manager ≡ Silent
 
 pub turns : Turns
-unfolding bit_at bytes_of byteIn byte_of inLpcm anew onBytes signed lower upper codes_of code_in cellsTo cuv cov cdv masked kinds kindsOf kindsIn pending found measured passes message messageRight messageHead same seal sealedRight word_at twoBytes commandCheck pec15 dataPec remainder step once bitsOfBytes bits_of odd ◌⊕◌ xor isPass countIn flagsIn manages isManager isTimeout ndev countedDown joinedTo woken wakes hears judged reached answers late
+unfolding bit_at bytes_of byte_in byte_of in_lpcm anew on_bytes signed lower upper codes_of code_in cells_to cuv cov cdv masked kinds kinds_of kinds_in pending found measured passes message message_right message_head same seal sealed_right word_at two_bytes command_check pec15 data_pec remainder step once bits_of_bytes bits_of odd ◌⊕◌ xor is_pass count_in flags_in manages is_manager is_timeout ndev counted_down joined_to woken wakes hears judged reached answers late
 turns =
     record {
-      is-long = refl;
+      is_long = refl;
       starts = refl;
       passes_on = refl;
       fails = refl;
@@ -71,8 +71,8 @@ turns =
       ends = refl;
       flagged = refl;
       missing = refl;
-      ran_out = refl;
+      ran_out_lem = refl;
       damaged = refl;
       asleep = refl;
-      taken-by-none = refl;
+      taken_by-none = refl;
     }

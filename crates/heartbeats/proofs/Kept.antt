@@ -12,18 +12,18 @@ use lib.Bits.{bit_and, bit_or}
 use lib.Dec.{lit≤, lit<}
 use lib.ListN.{length, get_or}
 use Rattle.laws.specs.Bits.{odd, bit_at}
-use Rattle.laws.proofs.Counts.{and-true}
-use Rattle.laws.proofs.BitAt.{or-bits, and-bits}
+use Rattle.laws.proofs.Counts.{and_true}
+use Rattle.laws.proofs.BitAt.{or_bits, and_bits}
 use Rattle.records.specs.declared.record.Part.{Part}
-use Rattle.records.specs.Record.{cmf0, cmf1, lastCells, recordSize, inLpcm, bytes_of, byte_of, Outside, onBytes, recordSound}
-use Rattle.records.proofs.Anew.{length-anew, anew-inside}
-use Rattle.records.proofs.Parts.{byte-of-part, outside-anew, sound-elsewhere}
+use Rattle.records.specs.Record.{cmf0, cmf1, last_cells, record_size, in_lpcm, bytes_of, byte_of, Outside, on_bytes, record_sound}
+use Rattle.records.proofs.Anew.{length-anew, anew_inside}
+use Rattle.records.proofs.Parts.{byte_of-part, outside_anew, sound_elsewhere}
 use Rattle.measuring.specs.Measuring.{measured}
-use Rattle.measuring.proofs.Measured.{length-measured, sound-measured, measured-spares}
-use Rattle.messages.specs.Messages.{countIn, flagsIn, messageRight, isPass}
+use Rattle.measuring.proofs.Measured.{length-measured, sound-measured, measured_spares}
+use Rattle.messages.specs.Messages.{count_in, flags_in, message_right, is_pass}
 use Rattle.heartbeats.specs.declared.steps.Beat.{Beat}
 use Rattle.heartbeats.specs.declared.steps.Beat.TheVariants.{Silent, Sends}
-use Rattle.heartbeats.specs.Steps.{manages, isManager, isTimeout, countedDown, joinedTo, woken, wakes, hears, judged, reached, answers, late}
+use Rattle.heartbeats.specs.Steps.{manages, is_manager, is_timeout, counted_down, joined_to, woken, wakes, hears, judged, reached, answers, late}
 
 -- what holds of both holds of either
 either : {A : Type 0} (f : List ℕ → A) (b : Bool) (x y : List ℕ) {z : A} → f x ≡ z → f y ≡ z → f (cond b x y) ≡ z
@@ -40,139 +40,139 @@ and-false false = refl
 
 -- ---- CMC_EN, bit 7 of CMF1, in what a turn makes of CMF1
 
-cleared-bit : (old : ℕ) → bit_at 7 (bit_and old 0xFC) ≡ bit_at 7 old
+cleared_bit : (old : ℕ) → bit_at 7 (bit_and old 0xFC) ≡ bit_at 7 old
 unfolding bit_at odd
-cleared-bit old = and-bits 7 old 0xFC ∙ and-true (bit_at 7 old)
+cleared_bit old = and_bits 7 old 0xFC ∙ and_true (bit_at 7 old)
 
-failed-bit : (old : ℕ) → bit_at 7 (bit_or old 0x01) ≡ bit_at 7 old
+failed_bit : (old : ℕ) → bit_at 7 (bit_or old 0x01) ≡ bit_at 7 old
 unfolding bit_at odd
-failed-bit old = or-bits 7 old 0x01 ∙ or-false (bit_at 7 old)
+failed_bit old = or_bits 7 old 0x01 ∙ or-false (bit_at 7 old)
 
-late-bit : (old : ℕ) → bit_at 7 (bit_or old 0x02) ≡ bit_at 7 old
+late_bit : (old : ℕ) → bit_at 7 (bit_or old 0x02) ≡ bit_at 7 old
 unfolding bit_at odd
-late-bit old = or-bits 7 old 0x02 ∙ or-false (bit_at 7 old)
+late_bit old = or_bits 7 old 0x02 ∙ or-false (bit_at 7 old)
 
-judged-bit : (m r : List ℕ) (old : ℕ) → bit_at 7 (judged m r old) ≡ bit_at 7 old
+judged_bit : (m r : List ℕ) (old : ℕ) → bit_at 7 (judged m r old) ≡ bit_at 7 old
 unfolding judged
-judged-bit m r old = by (isPass (countedDown r (countIn m)) (joinedTo r (flagsIn m)))
+judged_bit m r old = by (is_pass (counted_down r (count_in m)) (joined_to r (flags_in m)))
   where
     by : (b : Bool) → bit_at 7 (cond b (bit_and old 0xFC) (bit_or old 0x01)) ≡ bit_at 7 old
-    by true = cleared-bit old
-    by false = failed-bit old
+    by true = cleared_bit old
+    by false = failed_bit old
 
 -- CMF1 made anew
 module _ (f : ℕ → ℕ) (l : List ℕ) where
   abbrev marked : List ℕ
-  marked = onBytes cmf1 (λ i old. f old) l
+  marked = on_bytes cmf1 (λ i old. f old) l
 
   length_marked : length marked ≡ length l
-  unfolding onBytes
+  unfolding on_bytes
   length_marked = length-anew (λ i old. f old) cmf1.at cmf1.size l
 
-  sound-marked : recordSound marked ≡ recordSound l
-  unfolding onBytes
-  sound-marked = sound-elsewhere (λ i old. f old) cmf1.at cmf1.size l (inr (lit≤ tt)) (inr (lit≤ tt))
+  sound-marked : record_sound marked ≡ record_sound l
+  unfolding on_bytes
+  sound-marked = sound_elsewhere (λ i old. f old) cmf1.at cmf1.size l (inr (lit≤ tt)) (inr (lit≤ tt))
 
-  marked-spares : (p : Part) → Outside p cmf1.at cmf1.size → bytes_of p marked ≡ bytes_of p l
-  unfolding onBytes
-  marked-spares p h = outside-anew p (λ i old. f old) cmf1.at cmf1.size l h
+  marked_spares : (p : Part) → Outside p cmf1.at cmf1.size → bytes_of p marked ≡ bytes_of p l
+  unfolding on_bytes
+  marked_spares p h = outside_anew p (λ i old. f old) cmf1.at cmf1.size l h
 
-  marked-lpcm : length l ≡ recordSize → ((old : ℕ) → bit_at 7 (f old) ≡ bit_at 7 old) → inLpcm marked ≡ inLpcm l
-  unfolding onBytes inLpcm byte_of
-  marked-lpcm whole same = ap (bit_at 7) (anew-inside (λ i old. f old) cmf1.at cmf1.size l 0 (lit< tt) (omega arith)) ∙ same (get_or l cmf1.at 0)
+  marked_lpcm : length l ≡ record_size → ((old : ℕ) → bit_at 7 (f old) ≡ bit_at 7 old) → in_lpcm marked ≡ in_lpcm l
+  unfolding on_bytes in_lpcm byte_of
+  marked_lpcm whole same = ap (bit_at 7) (anew_inside (λ i old. f old) cmf1.at cmf1.size l 0 (lit< tt) (omega arith)) ∙ same (get_or l cmf1.at 0)
 
 module _ (r : List ℕ) where
-  lpcm-measured : inLpcm (measured r) ≡ inLpcm r
-  unfolding inLpcm byte_of
-  lpcm-measured =
+  lpcm_measured : in_lpcm (measured r) ≡ in_lpcm r
+  unfolding in_lpcm byte_of
+  lpcm_measured =
       ap (bit_at 7)
-      (sym (byte-of-part cmf1 (measured r) {i = 0} (lit< tt))
-      ∙ ap (λ (l : List ℕ). get_or l 0 0) (measured-spares r cmf1 (inl (lit≤ tt)) (inr (lit≤ tt)))
-      ∙ byte-of-part cmf1 r {i = 0} (lit< tt))
+      (sym (byte_of-part cmf1 (measured r) {i = 0} (lit< tt))
+      ∙ ap (λ (l : List ℕ). get_or l 0 0) (measured_spares r cmf1 (inl (lit≤ tt)) (inr (lit≤ tt)))
+      ∙ byte_of-part cmf1 r {i = 0} (lit< tt))
 
   -- ---- the manager wakes
 
   pub length-woken : length (woken r) ≡ length r
   unfolding woken
-  length-woken = either length (isManager r) (measured r) r (length-measured r) refl
+  length-woken = either length (is_manager r) (measured r) r (length-measured r) refl
 
-  pub sound-woken : recordSound (woken r) ≡ recordSound r
+  pub sound-woken : record_sound (woken r) ≡ record_sound r
   unfolding woken
-  sound-woken = either recordSound (isManager r) (measured r) r (sound-measured r) refl
+  sound-woken = either record_sound (is_manager r) (measured r) r (sound-measured r) refl
 
-  pub woken-spares : (p : Part) → Outside p cmf0.at cmf0.size → Outside p lastCells.at lastCells.size → bytes_of p (woken r) ≡ bytes_of p r
+  pub woken_spares : (p : Part) → Outside p cmf0.at cmf0.size → Outside p last_cells.at last_cells.size → bytes_of p (woken r) ≡ bytes_of p r
   unfolding woken
-  woken-spares p h k = either (bytes_of p) (isManager r) (measured r) r (measured-spares r p h k) refl
+  woken_spares p h k = either (bytes_of p) (is_manager r) (measured r) r (measured_spares r p h k) refl
 
-  pub woken-lpcm : inLpcm (woken r) ≡ inLpcm r
+  pub woken_lpcm : in_lpcm (woken r) ≡ in_lpcm r
   unfolding woken
-  woken-lpcm = either inLpcm (isManager r) (measured r) r lpcm-measured refl
+  woken_lpcm = either in_lpcm (is_manager r) (measured r) r lpcm_measured refl
 
   -- ---- the time runs out
 
   pub length-late : length (late r) ≡ length r
   unfolding late
-  length-late = either length (isTimeout r) _ r (length_marked (λ old. bit_or old 0x02) r) refl
+  length-late = either length (is_timeout r) _ r (length_marked (λ old. bit_or old 0x02) r) refl
 
-  pub sound-late : recordSound (late r) ≡ recordSound r
+  pub sound-late : record_sound (late r) ≡ record_sound r
   unfolding late
-  sound-late = either recordSound (isTimeout r) _ r (sound-marked (λ old. bit_or old 0x02) r) refl
+  sound-late = either record_sound (is_timeout r) _ r (sound-marked (λ old. bit_or old 0x02) r) refl
 
-  pub late-spares : (p : Part) → Outside p cmf1.at cmf1.size → bytes_of p (late r) ≡ bytes_of p r
+  pub late_spares : (p : Part) → Outside p cmf1.at cmf1.size → bytes_of p (late r) ≡ bytes_of p r
   unfolding late
-  late-spares p h = either (bytes_of p) (isTimeout r) _ r (marked-spares (λ old. bit_or old 0x02) r p h) refl
+  late_spares p h = either (bytes_of p) (is_timeout r) _ r (marked_spares (λ old. bit_or old 0x02) r p h) refl
 
-  pub late-lpcm : length r ≡ recordSize → inLpcm (late r) ≡ inLpcm r
+  pub late_lpcm : length r ≡ record_size → in_lpcm (late r) ≡ in_lpcm r
   unfolding late
-  late-lpcm whole = either inLpcm (isTimeout r) _ r (marked-lpcm (λ old. bit_or old 0x02) r whole late-bit) refl
+  late_lpcm whole = either in_lpcm (is_timeout r) _ r (marked_lpcm (λ old. bit_or old 0x02) r whole late_bit) refl
 
   -- ---- a message reaches it
 
   module _ (m : List ℕ) where
     -- what holds of the record, of the measured one and of that with CMF1 judged
-    of-reached : {A : Type 0} (f : List ℕ → A) → f (measured r) ≡ f r → f (marked (judged m r) (measured r)) ≡ f (measured r) → f (reached m r) ≡ f r
+    of_reached : {A : Type 0} (f : List ℕ → A) → f (measured r) ≡ f r → f (marked (judged m r) (measured r)) ≡ f (measured r) → f (reached m r) ≡ f r
     unfolding reached
-    of-reached f e h = either f (hears m r) _ r (either f (isTimeout r) _ (measured r) (h ∙ e) e) refl
+    of_reached f e h = either f (hears m r) _ r (either f (is_timeout r) _ (measured r) (h ∙ e) e) refl
 
     pub length-reached : length (reached m r) ≡ length r
-    length-reached = of-reached length (length-measured r) (length_marked (judged m r) (measured r))
+    length-reached = of_reached length (length-measured r) (length_marked (judged m r) (measured r))
 
-    pub sound-reached : recordSound (reached m r) ≡ recordSound r
-    sound-reached = of-reached recordSound (sound-measured r) (sound-marked (judged m r) (measured r))
+    pub sound-reached : record_sound (reached m r) ≡ record_sound r
+    sound-reached = of_reached record_sound (sound-measured r) (sound-marked (judged m r) (measured r))
 
-    pub reached-spares : (p : Part) → Outside p cmf0.at cmf0.size → Outside p cmf1.at cmf1.size → Outside p lastCells.at lastCells.size
+    pub reached_spares : (p : Part) → Outside p cmf0.at cmf0.size → Outside p cmf1.at cmf1.size → Outside p last_cells.at last_cells.size
         → bytes_of p (reached m r) ≡ bytes_of p r
-    reached-spares p h i k = of-reached (bytes_of p) (measured-spares r p h k) (marked-spares (judged m r) (measured r) p i)
+    reached_spares p h i k = of_reached (bytes_of p) (measured_spares r p h k) (marked_spares (judged m r) (measured r) p i)
 
-    pub reached-lpcm : length r ≡ recordSize → inLpcm (reached m r) ≡ inLpcm r
-    reached-lpcm whole = of-reached inLpcm lpcm-measured (marked-lpcm (judged m r) (measured r) (length-measured r ∙ whole) (judged-bit m r))
+    pub reached_lpcm : length r ≡ record_size → in_lpcm (reached m r) ≡ in_lpcm r
+    reached_lpcm whole = of_reached in_lpcm lpcm_measured (marked_lpcm (judged m r) (measured r) (length-measured r ∙ whole) (judged_bit m r))
 
     -- ---- what leaves it as it is
 
     unheard : hears m r ≡ false → (reached m r ≡ r) × (answers m r ≡ Silent)
     unfolding reached answers
     unheard e = (
-      ap (λ (b : Bool). cond b (cond (isTimeout r) (marked (judged m r) (measured r)) (measured r)) r) e,
-      ap (λ (b : Bool). cond (b && not (isTimeout r)) (Sends (countedDown r (countIn m)) (joinedTo r (flagsIn m))) Silent) e,
+      ap (λ (b : Bool). cond b (cond (is_timeout r) (marked (judged m r) (measured r)) (measured r)) r) e,
+      ap (λ (b : Bool). cond (b && not (is_timeout r)) (Sends (counted_down r (count_in m)) (joined_to r (flags_in m))) Silent) e,
     )
 
     pub manager-left : manages r ≡ true → (reached m r ≡ r) × (answers m r ≡ Silent)
     unfolding hears
-    manager-left e = unheard (ap (λ (b : Bool). inLpcm r && not b && messageRight m) e ∙ ap (λ (b : Bool). b && messageRight m) (and-false (inLpcm r)))
+    manager-left e = unheard (ap (λ (b : Bool). in_lpcm r && not b && message_right m) e ∙ ap (λ (b : Bool). b && message_right m) (and-false (in_lpcm r)))
 
-    pub awake-left : inLpcm r ≡ false → (reached m r ≡ r) × (answers m r ≡ Silent)
+    pub awake_left : in_lpcm r ≡ false → (reached m r ≡ r) × (answers m r ≡ Silent)
     unfolding hears
-    awake-left e = unheard (ap (λ (b : Bool). b && not (manages r) && messageRight m) e)
+    awake_left e = unheard (ap (λ (b : Bool). b && not (manages r) && message_right m) e)
 
-    pub wrong-left : messageRight m ≡ false → (reached m r ≡ r) × (answers m r ≡ Silent)
+    pub wrong_left : message_right m ≡ false → (reached m r ≡ r) × (answers m r ≡ Silent)
     unfolding hears
-    wrong-left e =
+    wrong_left e =
         unheard
-        (ap (λ (b : Bool). inLpcm r && not (manages r) && b) e ∙ and-false (inLpcm r && not (manages r)))
+        (ap (λ (b : Bool). in_lpcm r && not (manages r) && b) e ∙ and-false (in_lpcm r && not (manages r)))
 
     -- and a timeout monitor sends nothing
-    pub timeout-silent : isTimeout r ≡ true → answers m r ≡ Silent
+    pub timeout_silent : is_timeout r ≡ true → answers m r ≡ Silent
     unfolding answers
-    timeout-silent e =
-        ap (λ (b : Bool). cond b (Sends (countedDown r (countIn m)) (joinedTo r (flagsIn m))) Silent)
+    timeout_silent e =
+        ap (λ (b : Bool). cond b (Sends (counted_down r (count_in m)) (joined_to r (flags_in m))) Silent)
         (ap (λ (b : Bool). hears m r && not b) e ∙ and-false (hears m r))

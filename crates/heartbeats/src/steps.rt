@@ -1,10 +1,10 @@
 // What one monitor makes of its turn in a heartbeat: it wakes as the manager, a message reaches it, or the time runs out.
 ghost use Rattle.std.specs.Prelude.{◌≡◌, cond, ◌&&◌, ◌+◌, ◌%◌, length};
 ghost use Rattle.std.specs.Int.Bits.{bit_and, bit_or};
-ghost use Rattle.records.specs.Record.{recordSize, cmf1, isRecord, onBytes};
+ghost use Rattle.records.specs.Record.{record_size, cmf1, is_record, on_bytes};
 ghost use Rattle.measuring.specs.Measuring.{measured};
-ghost use Rattle.messages.specs.Messages.{isPass};
-ghost use Rattle.heartbeats.specs.Steps.{manages, isManager, isTimeout, towardsA, countedDown, joinedTo, woken, wakes, hears, reached, answers, late};
+ghost use Rattle.messages.specs.Messages.{is_pass};
+ghost use Rattle.heartbeats.specs.Steps.{manages, is_manager, is_timeout, towards_a, counted_down, joined_to, woken, wakes, hears, reached, answers, late};
 ghost use Rattle.heartbeats.specs.declared.steps.Beat.TheVariants.{Silent};
 
 use measuring::measure;
@@ -37,7 +37,7 @@ fn manages(rec: &[u8]) -> bool
 
 // A manager in LPCM?
 fn is_manager(rec: &[u8]) -> bool
-    ensures { result ≡ isManager rec.now }
+    ensures { result ≡ is_manager rec.now }
 {
     if !in_lpcm(rec) {
         return false;
@@ -47,7 +47,7 @@ fn is_manager(rec: &[u8]) -> bool
 
 // A bridgeless timeout monitor in LPCM?
 fn is_timeout(rec: &[u8]) -> bool
-    ensures { result ≡ isTimeout rec.now }
+    ensures { result ≡ is_timeout rec.now }
 {
     if !in_lpcm(rec) {
         return false;
@@ -60,7 +60,7 @@ fn is_timeout(rec: &[u8]) -> bool
 
 // CMC_DIR: is it towards port A, down to monitor 1, that the manager sends?
 pub fn is_towards_a(rec: &[u8]) -> bool
-    ensures { result ≡ towardsA rec.now }
+    ensures { result ≡ towards_a rec.now }
 {
     byte_in(rec, RDCMCFG, 4) / 32 % 2 == 1
 }
@@ -90,9 +90,9 @@ fn counted_down(count: u8, passed: bool) -> u8
 
 // The monitor's own step: it measures, counts itself if it passes, and joins its flags.
 fn own_step(rec: &mut [u8], count: u8, flags: u8) -> Tally
-    requires { length rec.old ≡ recordSize }
-    ensures count_value { result.count ≡ countedDown rec.old count }
-    ensures flags_value { result.flags ≡ joinedTo rec.old flags }
+    requires { length rec.old ≡ record_size }
+    ensures count_value { result.count ≡ counted_down rec.old count }
+    ensures flags_value { result.flags ≡ joined_to rec.old flags }
     ensures rec_after { rec.new ≡ measured rec.old }
 {
     let passed = measure(rec);
@@ -106,7 +106,7 @@ fn own_step(rec: &mut [u8], count: u8, flags: u8) -> Tally
 
 // CMF1 by what a timeout monitor is left with: a pass clears both of its flags, anything else sets CMF_BTMCMP.
 fn judged(old: u8, count: u8, flags: u8) -> u8
-    ensures { result ≡ cond (isPass count flags) (bit_and old 0xFC) (bit_or old 0x01) }
+    ensures { result ≡ cond (is_pass count flags) (bit_and old 0xFC) (bit_or old 0x01) }
 {
     if count != PASS_COUNT {
         return old | 0x01;
@@ -119,8 +119,8 @@ fn judged(old: u8, count: u8, flags: u8) -> u8
 
 // The manager wakes: it measures and starts a heartbeat. Any other monitor stays silent, and so does a slice that is no record.
 pub fn wake(rec: &mut [u8]) -> Beat
-    ensures value { result ≡ cond (isRecord rec.old) (wakes rec.old) Silent }
-    ensures rec_after { rec.new ≡ cond (isRecord rec.old) (woken rec.old) rec.old }
+    ensures value { result ≡ cond (is_record rec.old) (wakes rec.old) Silent }
+    ensures rec_after { rec.new ≡ cond (is_record rec.old) (woken rec.old) rec.old }
 {
     if rec.len() != RECORD_SIZE {
         return Beat::Silent;
@@ -138,8 +138,8 @@ pub fn wake(rec: &mut [u8]) -> Beat
 
 // A message reaches the monitor, and it sends on what the answer says; a timeout monitor judges instead.
 pub fn reach(rec: &mut [u8], message: &[u8]) -> Beat
-    ensures value { result ≡ cond (isRecord rec.old) (answers message.now rec.old) Silent }
-    ensures rec_after { rec.new ≡ cond (isRecord rec.old) (reached message.now rec.old) rec.old }
+    ensures value { result ≡ cond (is_record rec.old) (answers message.now rec.old) Silent }
+    ensures rec_after { rec.new ≡ cond (is_record rec.old) (reached message.now rec.old) rec.old }
 {
     if rec.len() != RECORD_SIZE {
         return Beat::Silent;
@@ -164,8 +164,8 @@ pub fn reach(rec: &mut [u8], message: &[u8]) -> Beat
 
 // The time runs out: a timeout monitor sets CMF_BTMWD. The answer is whether it is one.
 pub fn run_out(rec: &mut [u8]) -> bool
-    ensures value { result ≡ (isRecord rec.old && isTimeout rec.old) }
-    ensures rec_after { rec.new ≡ cond (isRecord rec.old) (late rec.old) rec.old }
+    ensures value { result ≡ (is_record rec.old && is_timeout rec.old) }
+    ensures rec_after { rec.new ≡ cond (is_record rec.old) (late rec.old) rec.old }
 {
     if rec.len() != RECORD_SIZE {
         return false;

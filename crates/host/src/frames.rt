@@ -1,11 +1,11 @@
 // The frames that our host writes.
 ghost use Rattle.std.specs.Prelude.{◌≡◌, ◌⊎◌, ◌++◌, map, ◌+◌, ◌-◌, ◌*◌, ◌<◌, ◌≤◌, length, replicate};
 ghost use Rattle.laws.specs.Rows.{rows, row_at};
-ghost use Rattle.bytes.specs.Placed.{placed};
-ghost use Rattle.pec.specs.Words.{twoBytes, commandCheck};
-ghost use Rattle.wire.specs.Order.{writeData};
-ghost use Rattle.records.specs.Commands.{mostMonitors, sealSize, payloadSize, frameLength};
-ghost use Rattle.host.specs.Frames.{headSize, sealed, body, valueCount, judged, built, bufferAfter};
+ghost use Rattle.laying.specs.Placed.{placed};
+ghost use Rattle.pec.specs.Words.{two_bytes, command_check};
+ghost use Rattle.wire.specs.Order.{write_data};
+ghost use Rattle.records.specs.Commands.{most_monitors, seal_size, payload_size, frame_length};
+ghost use Rattle.host.specs.Frames.{head_size, sealed, body, value_count, judged, built, buffer_after};
 
 use crate::chain::is_chain;
 use records::Command;
@@ -29,8 +29,8 @@ const MOST_FILLER: usize = records::PAYLOAD_SIZE * records::MOST_MONITORS;
 
 // The value bytes that a command wants.
 fn value_count(command: Command, n: usize) -> usize
-    requires { n ≤ mostMonitors }
-    ensures { result ≡ valueCount command n }
+    requires { n ≤ most_monitors }
+    ensures { result ≡ value_count command n }
 {
     match command {
         Command::Reads(_) => 0,
@@ -65,13 +65,13 @@ fn judge(command: Command, n: usize, given: usize, room: usize) -> Built
 
 // The command and its check, at the buffer's start.
 fn put_head(buffer: &mut [u8], code: u16)
-    requires { headSize ≤ length buffer.old }
-    ensures { buffer.new ≡ placed 0 (twoBytes code ++ commandCheck code) buffer.old }
+    requires { head_size ≤ length buffer.old }
+    ensures { buffer.new ≡ placed 0 (two_bytes code ++ command_check code) buffer.old }
 {
     let command = check_words::two_bytes(code);
-    bytes::put(buffer, 0, &command);
+    laying::put(buffer, 0, &command);
     let check = check_words::command_check(code);
-    bytes::put(buffer, 2, &check);
+    laying::put(buffer, 2, &check);
 }
 
 // Six bytes of a slice.
@@ -92,25 +92,25 @@ fn two_of(two: &[u8]) -> [u8; 2]
 
 // A monitor's data bytes, six or two, and the seal over them with the counter 0.
 fn put_sealed(buffer: &mut [u8], at: usize, own: &[u8])
-    requires { ((length own.now ≡ 6) ⊎ (length own.now ≡ 2)) × (at + (length own.now + sealSize) ≤ length buffer.old) }
+    requires { ((length own.now ≡ 6) ⊎ (length own.now ≡ 2)) × (at + (length own.now + seal_size) ≤ length buffer.old) }
     ensures { buffer.new ≡ placed at (sealed own.now) buffer.old }
 {
     if own.len() == 6 {
         let six = six_of(own);
         let payload = check_words::sealed(&six, 0);
-        bytes::put(buffer, at, &payload);
+        laying::put(buffer, at, &payload);
     } else {
         let two = two_of(own);
         let payload = check_words::sealed_two(&two, 0);
-        bytes::put(buffer, at, &payload);
+        laying::put(buffer, at, &payload);
     }
 }
 
 // The payload at place i of a write that has so many data bytes for each monitor. The values are nearest monitor first; the farthest monitor's
 // payload is sent first.
 fn put_payload(buffer: &mut [u8], size: usize, n: usize, values: &[u8], i: usize)
-    requires { (i < n) × (n ≤ mostMonitors) × ((size ≡ 6) ⊎ (size ≡ 2)) × (length values.now ≡ size * n) × (headSize + (size + sealSize) * n ≤ length buffer.old) }
-    ensures { buffer.new ≡ placed (headSize + i * (size + sealSize)) (sealed (row_at size (n - (i + 1)) values.now)) buffer.old }
+    requires { (i < n) × (n ≤ most_monitors) × ((size ≡ 6) ⊎ (size ≡ 2)) × (length values.now ≡ size * n) × (head_size + (size + seal_size) * n ≤ length buffer.old) }
+    ensures { buffer.new ≡ placed (head_size + i * (size + seal_size)) (sealed (row_at size (n - (i + 1)) values.now)) buffer.old }
 {
     let from = (n - (i + 1)) * size;
     let to = from + size;
@@ -120,8 +120,8 @@ fn put_payload(buffer: &mut [u8], size: usize, n: usize, values: &[u8], i: usize
 
 // The payloads of a write.
 fn put_payloads(buffer: &mut [u8], size: usize, n: usize, values: &[u8])
-    requires { (n ≤ mostMonitors) × ((size ≡ 6) ⊎ (size ≡ 2)) × (length values.now ≡ size * n) × (headSize + (size + sealSize) * n ≤ length buffer.old) }
-    ensures { buffer.new ≡ placed headSize (writeData (map sealed (rows size n values.now))) buffer.old }
+    requires { (n ≤ most_monitors) × ((size ≡ 6) ⊎ (size ≡ 2)) × (length values.now ≡ size * n) × (head_size + (size + seal_size) * n ≤ length buffer.old) }
+    ensures { buffer.new ≡ placed head_size (write_data (map sealed (rows size n values.now))) buffer.old }
 {
     let mut i = 0;
     while i < n {
@@ -132,17 +132,17 @@ fn put_payloads(buffer: &mut [u8], size: usize, n: usize, values: &[u8])
 
 // What a reply is clocked over.
 fn put_filler(buffer: &mut [u8], size: usize)
-    requires { (size ≤ payloadSize * mostMonitors) × (headSize + size ≤ length buffer.old) }
-    ensures { buffer.new ≡ placed headSize (replicate size 0xFF) buffer.old }
+    requires { (size ≤ payload_size * most_monitors) × (head_size + size ≤ length buffer.old) }
+    ensures { buffer.new ≡ placed head_size (replicate size 0xFF) buffer.old }
 {
     let filler = [FILLER; MOST_FILLER];
-    bytes::put(buffer, HEAD_SIZE, &filler[..size]);
+    laying::put(buffer, HEAD_SIZE, &filler[..size]);
 }
 
 // What follows the command and its check.
 fn put_body(buffer: &mut [u8], command: Command, n: usize, values: &[u8])
-    requires { (n ≤ mostMonitors) × (length values.now ≡ valueCount command n) × (frameLength command n ≤ length buffer.old) }
-    ensures { buffer.new ≡ placed headSize (body command n values.now) buffer.old }
+    requires { (n ≤ most_monitors) × (length values.now ≡ value_count command n) × (frame_length command n ≤ length buffer.old) }
+    ensures { buffer.new ≡ placed head_size (body command n values.now) buffer.old }
 {
     match command {
         Command::Reads(_) => put_filler(buffer, records::PAYLOAD_SIZE * n),
@@ -158,7 +158,7 @@ fn put_body(buffer: &mut [u8], command: Command, n: usize, values: &[u8])
 // Builds the frame for a code, n monitors and values, at the start of a buffer. A refusal changes nothing.
 pub fn build(code: u16, n: usize, values: &[u8], buffer: &mut [u8]) -> Built
     ensures value { result ≡ built code n values.now (length buffer.old) }
-    ensures buffer_after { buffer.new ≡ bufferAfter code n values.now buffer.old }
+    ensures buffer_after { buffer.new ≡ buffer_after code n values.now buffer.old }
 {
     let command = records::command_of(code);
     let built = judge(command, n, values.len(), buffer.len());

@@ -4,10 +4,10 @@ use Rattle.std.specs.Prelude.{List, [], ◌∷◌, ℕ, ◌-◌}
 use Rattle.refusals.specs.Order.{Row, decide}
 use Rattle.judging.specs.declared.places.Placed.{Placed}
 use Rattle.judging.specs.declared.places.Placed.TheVariants.{Nowhere, At}
-use Rattle.judging.specs.Refusals.{tableRow, positionRow}
+use Rattle.judging.specs.Refusals.{table_row, position_row}
 
-unfoldable pub placeRefusals : List ℕ → ℕ → List Row
-placeRefusals table position = tableRow table ∷ positionRow table position ∷ []
+unfoldable pub place_refusals : List ℕ → ℕ → List Row
+place_refusals table position = table_row table ∷ position_row table position ∷ []
 
 unfoldable pub placed : List ℕ → ℕ → Placed
-placed table position = decide (placeRefusals table position) Nowhere (At (position - 1))
+placed table position = decide (place_refusals table position) Nowhere (At (position - 1))

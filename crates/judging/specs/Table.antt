@@ -4,29 +4,29 @@ use Rattle.std.specs.Prelude.{Bool, ◌&&◌, List, ◌++◌, ◌⊎◌, ℕ, �
 use Rattle.laws.specs.Counts.{all}
 use Rattle.laws.specs.Rows.{rows, row_at}
 use Rattle.records.specs.declared.record.Part.{Part}
-use Rattle.records.specs.Record.{recordSize, recordSound}
-use Rattle.records.specs.Commands.{mostMonitors}
+use Rattle.records.specs.Record.{record_size, record_sound}
+use Rattle.records.specs.Commands.{most_monitors}
 
 -- how many records a table holds
 unfoldable pub monitors : List ℕ → ℕ
-monitors table = length table / recordSize
+monitors table = length table / record_size
 
 -- n whole records, and no more than a chain has
-unfoldable pub wholeTable : ℕ → List ℕ → Bool
-wholeTable n table = leb n mostMonitors && eqb (length table) (n * recordSize)
+unfoldable pub whole_table : ℕ → List ℕ → Bool
+whole_table n table = leb n most_monitors && eqb (length table) (n * record_size)
 
 -- whole records, 1 to 32 of them, each of them sound
 unfoldable pub sound : List ℕ → Bool
 sound table =
-    eqb (length table) (monitors table * recordSize) && leb 1 (monitors table) && leb (monitors table) mostMonitors
-    && all recordSound (rows recordSize (monitors table) table)
+    eqb (length table) (monitors table * record_size) && leb 1 (monitors table) && leb (monitors table) most_monitors
+    && all record_sound (rows record_size (monitors table) table)
 
 -- ---- one monitor of it
 
 -- the table with the record at k, counted from 0, as f makes it, and every other as it was
-abbrev pub changedAt : ℕ → (List ℕ → List ℕ) → List ℕ → List ℕ
-changedAt k f table = take (k * recordSize) table ++ f (row_at recordSize k table) ++ drop (k * recordSize + recordSize) table
+abbrev pub changed_at : ℕ → (List ℕ → List ℕ) → List ℕ → List ℕ
+changed_at k f table = take (k * record_size) table ++ f (row_at record_size k table) ++ drop (k * record_size + record_size) table
 
 -- byte i of the table is none of a part of the record at k
 abbrev pub Beside : Part → ℕ → ℕ → Type 0
-Beside p k i = (i < k * recordSize + p.at) ⊎ (k * recordSize + p.at + p.size ≤ i)
+Beside p k i = (i < k * record_size + p.at) ⊎ (k * record_size + p.at + p.size ≤ i)

@@ -1,8 +1,8 @@
 // Refusals 1 to 5, by what both engines know of a frame.
 ghost use Rattle.std.specs.Prelude.{◌≡◌, take};
 ghost use Rattle.pec.specs.Words.{word_at};
-ghost use Rattle.judging.specs.Refusals.{commandIn};
-ghost use Rattle.judging.specs.Heads.{headJudged};
+ghost use Rattle.judging.specs.Refusals.{command_in};
+ghost use Rattle.judging.specs.Heads.{head_judged};
 
 use records::{Command, MOST_MONITORS};
 use refusals::Refusal;
@@ -25,7 +25,7 @@ fn code_in(frame: &[u8]) -> u16
 
 // The command of a frame.
 pub fn command_in(frame: &[u8]) -> Command
-    ensures { result ≡ commandIn frame.now }
+    ensures { result ≡ command_in frame.now }
 {
     records::command_of(code_in(frame))
 }
@@ -43,7 +43,7 @@ fn head_of(frame: &[u8]) -> &[u8]
 // What the refusals say of a frame that begins with these bytes, where so many came in all, for a chain of n monitors: n is 0 where
 // the table is not sound.
 pub fn judge_head(frame: &[u8], bytes: usize, n: usize) -> Judged
-    ensures { result ≡ headJudged frame.now bytes n }
+    ensures { result ≡ head_judged frame.now bytes n }
 {
     if n < 1 {
         return Judged::Bad(Refusal::TableNotSound);

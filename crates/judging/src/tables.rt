@@ -2,15 +2,15 @@
 ghost use Rattle.std.specs.Prelude.{◌≡◌, cond, ◌*◌, ◌≤◌, length};
 ghost use Rattle.laws.specs.Counts.{all};
 ghost use Rattle.laws.specs.Rows.{rows};
-ghost use Rattle.records.specs.Record.{recordSize, recordSound};
-ghost use Rattle.judging.specs.Table.{monitors, wholeTable, sound};
-ghost use Rattle.records.specs.Commands.{mostMonitors};
+ghost use Rattle.records.specs.Record.{record_size, record_sound};
+ghost use Rattle.judging.specs.Table.{monitors, whole_table, sound};
+ghost use Rattle.records.specs.Commands.{most_monitors};
 
 use records::{MOST_MONITORS, RECORD_SIZE};
 
 // Does the table hold n whole records, and no more than a chain has?
 pub fn whole_table(table: &[u8], n: usize) -> bool
-    ensures { result ≡ wholeTable n table.now }
+    ensures { result ≡ whole_table n table.now }
 {
     if n > MOST_MONITORS {
         return false;
@@ -20,8 +20,8 @@ pub fn whole_table(table: &[u8], n: usize) -> bool
 
 // Are the first n records sound?
 fn all_sound(table: &[u8], n: usize) -> bool
-    requires { (n * recordSize ≤ length table.now) × (n ≤ mostMonitors) }
-    ensures { result ≡ all recordSound (rows recordSize n table.now) }
+    requires { (n * record_size ≤ length table.now) × (n ≤ most_monitors) }
+    ensures { result ≡ all record_sound (rows record_size n table.now) }
 {
     let mut k = 0;
     while k < n {

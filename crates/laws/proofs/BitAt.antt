@@ -11,27 +11,27 @@ use lib.Bits.{bit_and, bit_or, and_step, and_shr, or_shr, shifted_even}
 use lib.Pow.{pow-add, pow-lt, shl-shr}
 use borrow.Author.Tests.{ltb-true, ltb-false}
 use Rattle.laws.specs.Bits.{◌⊕◌, odd, bit_at}
-use Rattle.laws.proofs.Xor.{xor-zero, xor-div, xor-rem, odd-xor}
+use Rattle.laws.proofs.Xor.{xor-zero, xor-div, xor_rem, odd-xor}
 use Rattle.laws.proofs.Counts.{and-false}
 use Rattle.laws.proofs.Or.{last_or}
 
 min-below : (x y : ℕ) → x < 2 → y < 2 → min x y < 2
 min-below x y hx hy = omega arith
 
-last-and : (a b : ℕ) → bit_and a b % 2 ≡ min (a % 2) (b % 2)
-last-and a b =
+last_and : (a b : ℕ) → bit_and a b % 2 ≡ min (a % 2) (b % 2)
+last_and a b =
     ap (λ (n : ℕ). n % 2) (and_step a b)
     ∙ digits_mod (bit_and (a / 2) (b / 2)) (min-below (a % 2) (b % 2) (mod-lt a (omega arith)) (mod-lt b (omega arith)))
 
 -- two digits: the greater is 1 where either is, the lesser where both are
-either-one : (x y : ℕ) → x < 2 → y < 2 → eqb (max x y) 1 ≡ eqb x 1 || eqb y 1
-either-one zero zero hx hy = refl
-either-one zero (suc zero) hx hy = refl
-either-one (suc zero) zero hx hy = refl
-either-one (suc zero) (suc zero) hx hy = refl
-either-one (suc (suc x)) y hx hy = absurd (omega arith)
-either-one zero (suc (suc y)) hx hy = absurd (omega arith)
-either-one (suc zero) (suc (suc y)) hx hy = absurd (omega arith)
+either_one : (x y : ℕ) → x < 2 → y < 2 → eqb (max x y) 1 ≡ eqb x 1 || eqb y 1
+either_one zero zero hx hy = refl
+either_one zero (suc zero) hx hy = refl
+either_one (suc zero) zero hx hy = refl
+either_one (suc zero) (suc zero) hx hy = refl
+either_one (suc (suc x)) y hx hy = absurd (omega arith)
+either_one zero (suc (suc y)) hx hy = absurd (omega arith)
+either_one (suc zero) (suc (suc y)) hx hy = absurd (omega arith)
 
 both_one : (x y : ℕ) → x < 2 → y < 2 → eqb (min x y) 1 ≡ eqb x 1 && eqb y 1
 both_one zero zero hx hy = refl
@@ -42,28 +42,28 @@ both_one (suc (suc x)) y hx hy = absurd (omega arith)
 both_one zero (suc (suc y)) hx hy = absurd (omega arith)
 both_one (suc zero) (suc (suc y)) hx hy = absurd (omega arith)
 
-or-true : (b : Bool) → b || true ≡ true
-or-true true = refl
-or-true false = refl
+or_true : (b : Bool) → b || true ≡ true
+or_true true = refl
+or_true false = refl
 
 module _ (k a b : ℕ) where
-  pub or-bits : bit_at k (bit_or a b) ≡ bit_at k a || bit_at k b
+  pub or_bits : bit_at k (bit_or a b) ≡ bit_at k a || bit_at k b
   unfolding bit_at odd
-  or-bits =
+  or_bits =
       ap (λ (n : ℕ). eqb n 1) (ap (λ (n : ℕ). n % 2) (or_shr a b k) ∙ last_or (a / 2 ^ k) (b / 2 ^ k))
-      ∙ either-one (a / 2 ^ k % 2) (b / 2 ^ k % 2) (mod-lt (a / 2 ^ k) (omega arith)) (mod-lt (b / 2 ^ k) (omega arith))
+      ∙ either_one (a / 2 ^ k % 2) (b / 2 ^ k % 2) (mod-lt (a / 2 ^ k) (omega arith)) (mod-lt (b / 2 ^ k) (omega arith))
 
-  pub and-bits : bit_at k (bit_and a b) ≡ bit_at k a && bit_at k b
+  pub and_bits : bit_at k (bit_and a b) ≡ bit_at k a && bit_at k b
   unfolding bit_at odd
-  and-bits =
-      ap (λ (n : ℕ). eqb n 1) (ap (λ (n : ℕ). n % 2) (and_shr a b k) ∙ last-and (a / 2 ^ k) (b / 2 ^ k))
+  and_bits =
+      ap (λ (n : ℕ). eqb n 1) (ap (λ (n : ℕ). n % 2) (and_shr a b k) ∙ last_and (a / 2 ^ k) (b / 2 ^ k))
       ∙ both_one (a / 2 ^ k % 2) (b / 2 ^ k % 2) (mod-lt (a / 2 ^ k) (omega arith)) (mod-lt (b / 2 ^ k) (omega arith))
 
   pub bit-or : bit_at k b ≡ true → bit_at k (bit_or a b) ≡ true
-  bit-or e = or-bits ∙ ap (λ (t : Bool). bit_at k a || t) e ∙ or-true (bit_at k a)
+  bit-or e = or_bits ∙ ap (λ (t : Bool). bit_at k a || t) e ∙ or_true (bit_at k a)
 
   pub bit-and : bit_at k b ≡ false → bit_at k (bit_and a b) ≡ false
-  bit-and e = and-bits ∙ ap (λ (t : Bool). bit_at k a && t) e ∙ and-false (bit_at k a)
+  bit-and e = and_bits ∙ ap (λ (t : Bool). bit_at k a && t) e ∙ and-false (bit_at k a)
 
 -- ---- the flip of a bit
 
@@ -73,9 +73,9 @@ xor-false true = refl
 xor-false false = refl
 
 -- a power of 2 has no other bit
-lone-bit : (j k : ℕ) → (j ≡ k → ⊥) → odd (2 ^ k / 2 ^ j) ≡ false
+lone_bit : (j k : ℕ) → (j ≡ k → ⊥) → odd (2 ^ k / 2 ^ j) ≡ false
 unfolding odd
-lone-bit j k apart = by (ltb k j) refl
+lone_bit j k apart = by (ltb k j) refl
   where
     above : k < j → eqb (2 ^ k / 2 ^ j % 2) 1 ≡ false
     above h = ap (λ (n : ℕ). eqb (n % 2) 1) (div-eq_of_lt (pow-lt h))
@@ -94,18 +94,18 @@ lone-bit j k apart = by (ltb k j) refl
     by true e = above (ltb-true k j e)
     by false e = below (ltb-false k j e)
 
-pub bit-flip : (j k n : ℕ) → (j ≡ k → ⊥) → bit_at j (n ⊕ 2 ^ k) ≡ bit_at j n
+pub bit_flip : (j k n : ℕ) → (j ≡ k → ⊥) → bit_at j (n ⊕ 2 ^ k) ≡ bit_at j n
 unfolding bit_at
-bit-flip j k n apart =
-    ap odd (xor-div n (2 ^ k) j) ∙ odd-xor (n / 2 ^ j) (2 ^ k / 2 ^ j) ∙ ap (xor (odd (n / 2 ^ j))) (lone-bit j k apart) ∙ xor-false (odd (n / 2 ^ j))
+bit_flip j k n apart =
+    ap odd (xor-div n (2 ^ k) j) ∙ odd-xor (n / 2 ^ j) (2 ^ k / 2 ^ j) ∙ ap (xor (odd (n / 2 ^ j))) (lone_bit j k apart) ∙ xor-false (odd (n / 2 ^ j))
 
 -- what lies below a place is left by a flip at it or above, what lies at it or above by a flip below
-pub low-flip : (j k n : ℕ) → j ≤ k → (n ⊕ 2 ^ k) % 2 ^ j ≡ n % 2 ^ j
-low-flip j k n h =
+pub low_flip : (j k n : ℕ) → j ≤ k → (n ⊕ 2 ^ k) % 2 ^ j ≡ n % 2 ^ j
+low_flip j k n h =
     let there : (k - j) + j ≡ k = omega arith in
-    xor-rem n (2 ^ k) j
+    xor_rem n (2 ^ k) j
     ∙ ap (λ (m : ℕ). (n % 2 ^ j) ⊕ m) (ap (λ (m : ℕ). 2 ^ m % 2 ^ j) (sym there) ∙ ap (λ (m : ℕ). m % 2 ^ j) (pow-add 2 (k - j) j) ∙ mul-mod_left (2 ^ (k - j)) (2 ^ j))
     ∙ xor-zero (n % 2 ^ j)
 
-pub high-flip : (j k n : ℕ) → k < j → (n ⊕ 2 ^ k) / 2 ^ j ≡ n / 2 ^ j
-high-flip j k n h = xor-div n (2 ^ k) j ∙ ap (λ (m : ℕ). (n / 2 ^ j) ⊕ m) (div-eq_of_lt (pow-lt h)) ∙ xor-zero (n / 2 ^ j)
+pub high_flip : (j k n : ℕ) → k < j → (n ⊕ 2 ^ k) / 2 ^ j ≡ n / 2 ^ j
+high_flip j k n h = xor-div n (2 ^ k) j ∙ ap (λ (m : ℕ). (n / 2 ^ j) ⊕ m) (div-eq_of_lt (pow-lt h)) ∙ xor-zero (n / 2 ^ j)

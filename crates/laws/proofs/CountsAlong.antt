@@ -30,8 +30,8 @@ module _ {A B : Type 0} (f : A → B → Bool) (a : A) (b : B) where
       ap₂ ◌+◌ (ap (λ (t : Bool). cond t 1 0) (h 0 (omega arith))) (count-second g xs ys (omega arith) (λ k l. h (suc k) (omega arith)))
 
 -- no more than the first list has
-pub count-along-most : {A B : Type 0} (f : A → B → Bool) (xs : List A) (ys : List B) → count (λ t. t) (along f xs ys) ≤ length xs
+pub count-along_most : {A B : Type 0} (f : A → B → Bool) (xs : List A) (ys : List B) → count (λ t. t) (along f xs ys) ≤ length xs
 unfolding count along
-count-along-most f [] ys = lit≤ tt
-count-along-most f (x ∷ xs) [] = omega arith
-count-along-most f (x ∷ xs) (y ∷ ys) = omega (arith, at_most_one (f x y), count-along-most f xs ys)
+count-along_most f [] ys = lit≤ tt
+count-along_most f (x ∷ xs) [] = omega arith
+count-along_most f (x ∷ xs) (y ∷ ys) = omega (arith, at_most_one (f x y), count-along_most f xs ys)

@@ -20,26 +20,26 @@ module _ {A : Type 0} where
     pub size : length l ≡ length l₀
 
   module _ (p : ℕ) (l₀ : List A) where
-    pub filling-start : Filling p l₀ l₀ 0 []
+    pub filling_start : Filling p l₀ l₀ 0 []
     unfolding joined
-    filling-start = record { so_far = ap (λ (m : ℕ). drop m l₀) (sym (zero-mul p)); each = tt; count = refl; size = refl }
+    filling_start = record { so_far = ap (λ (m : ℕ). drop m l₀) (sym (zero-mul p)); each = tt; count = refl; size = refl }
 
     module _ {l : List A} {k : ℕ} {rows : List (List A)} (f : Filling p l₀ l k rows) where
       done-length : length (joined rows) ≡ k * p
       done-length = length-joined p rows f.each ∙ ap (λ (n : ℕ). n * p) f.count
 
       -- what is not done yet is as it was
-      pub filling-rest : drop (k * p) l ≡ drop (k * p) l₀
-      filling-rest = ap (drop (k * p)) f.so_far ∙ drop_at (joined rows) (drop (k * p) l₀) (k * p) done-length
+      pub filling_rest : drop (k * p) l ≡ drop (k * p) l₀
+      filling_rest = ap (drop (k * p)) f.so_far ∙ drop_at (joined rows) (drop (k * p) l₀) (k * p) done-length
 
-      pub filling-row : row_at p k l ≡ row_at p k l₀
+      pub filling_row : row_at p k l ≡ row_at p k l₀
       unfolding row_at
-      filling-row = ap (take p) filling-rest
+      filling_row = ap (take p) filling_rest
 
       -- one row more
-      pub filling-more : {l' : List A} (new : List A) → k * p + p ≤ length l₀ → length new ≡ p
+      pub filling_more : {l' : List A} (new : List A) → k * p + p ≤ length l₀ → length new ≡ p
           → l' ≡ take (k * p) l ++ new ++ drop (k * p + p) l → Filling p l₀ l' (k + 1) (rows ++ new ∷ [])
-      filling-more {l'} new h n e =
+      filling_more {l'} new h n e =
           record {
             so_far = whole;
             each = every_append p rows (new ∷ []) f.each (n, tt);
@@ -58,5 +58,5 @@ module _ {A : Type 0} where
               e
               ∙ ap₂ (λ (x y : List A). x ++ new ++ y)
               (ap (take (k * p)) f.so_far ∙ take_at (joined rows) (drop (k * p) l₀) (k * p) done-length)
-              (sym (drop-drop p (k * p) l) ∙ ap (drop p) filling-rest ∙ drop-drop p (k * p) l₀ ∙ ap (λ (m : ℕ). drop m l₀) (sym next))
+              (sym (drop-drop p (k * p) l) ∙ ap (drop p) filling_rest ∙ drop-drop p (k * p) l₀ ∙ ap (λ (m : ℕ). drop m l₀) (sym next))
               ∙ ap (λ (x : List A). x ++ drop ((k + 1) * p) l₀) (sym (joined_snoc rows new))

@@ -15,6 +15,6 @@ module _ {A : Type 0} where
       let size : k * p + p - k * p ≡ p = omega arith in
       ap (λ (n : ℕ). take n (drop (k * p) xs)) size
 
-  pub part-back : (a p : ℕ) (xs ys : List A) → put_mid a (a + p - a) xs ys ≡ take a xs ++ ys ++ drop (a + p) xs
-  part-back a p xs ys =
+  pub part_back : (a p : ℕ) (xs ys : List A) → put_mid a (a + p - a) xs ys ≡ take a xs ++ ys ++ drop (a + p) xs
+  part_back a p xs ys =
       sym (append_assoc (take a xs) ys (post_of a (a + p - a) xs)) ∙ ap (λ (zs : List A). take a xs ++ ys ++ zs) (Post-is a (a + p) xs (omega arith))

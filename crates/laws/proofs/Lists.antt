@@ -26,23 +26,23 @@ module _ {ℓ} {A : Type ℓ} where
   get_d_any (x ∷ xs) (suc k) c d h = get_d_any xs k c d (omega arith)
 
   -- a list padded with what is given for the places that it does not have reads the same
-  pub getD-padded : (xs : List A) (n k : ℕ) (d : A) → get_or (xs ++ replicate n d) k d ≡ get_or xs k d
-  getD-padded [] zero k d = refl
-  getD-padded [] (suc n) zero d = refl
-  getD-padded [] (suc n) (suc k) d = getD-padded [] n k d
-  getD-padded (x ∷ xs) n zero d = refl
-  getD-padded (x ∷ xs) n (suc k) d = getD-padded xs n k d
+  pub get_d_padded : (xs : List A) (n k : ℕ) (d : A) → get_or (xs ++ replicate n d) k d ≡ get_or xs k d
+  get_d_padded [] zero k d = refl
+  get_d_padded [] (suc n) zero d = refl
+  get_d_padded [] (suc n) (suc k) d = get_d_padded [] n k d
+  get_d_padded (x ∷ xs) n zero d = refl
+  get_d_padded (x ∷ xs) n (suc k) d = get_d_padded xs n k d
 
   -- ---- a reverse
 
   -- one element more: it is the last of the reverse, and the places before it are those of the rest
-  reverse-place : (x : A) (xs : List A) (k : ℕ) (d : A) → k < suc (length xs) → Dec (k < length xs)
+  reverse_place : (x : A) (xs : List A) (k : ℕ) (d : A) → k < suc (length xs) → Dec (k < length xs)
       → (k < length xs → get_or (reverse xs) k d ≡ get_or xs (length xs - suc k) d)
       → get_or (reverse xs ++ x ∷ []) k d ≡ get_or (x ∷ xs) (suc (length xs) - suc k) d
-  reverse-place x xs k d h (yes b) rest =
+  reverse_place x xs k d h (yes b) rest =
       let e : suc (length xs - suc k) ≡ suc (length xs) - suc k = omega arith in
       get_or-append (reverse xs) (x ∷ []) d k (rw length-reverse b) ∙ rest b ∙ ap (λ (n : ℕ). get_or (x ∷ xs) n d) e
-  reverse-place x xs k d h (no b) rest =
+  reverse_place x xs k d h (no b) rest =
       let l : length xs ≡ k = omega arith in
       let e : 0 ≡ suc (length xs) - suc k = omega arith in
       get_or_at (reverse xs) x [] d k (length-reverse xs ∙ l) ∙ ap (λ (n : ℕ). get_or (x ∷ xs) n d) e
@@ -51,7 +51,7 @@ module _ {ℓ} {A : Type ℓ} where
   pub get_d_reverse : (xs : List A) (k : ℕ) (d : A) → k < length xs → get_or (reverse xs) k d ≡ get_or xs (length xs - suc k) d
   get_d_reverse [] k d h = absurd (omega arith)
   get_d_reverse (x ∷ xs) k d h =
-      ap (λ (l : List A). get_or l k d) (reverse-cons x xs) ∙ reverse-place x xs k d h (dec_lt k (length xs)) (λ b. get_d_reverse xs k d b)
+      ap (λ (l : List A). get_or l k d) (reverse-cons x xs) ∙ reverse_place x xs k d h (dec_lt k (length xs)) (λ b. get_d_reverse xs k d b)
 
   -- a store at k is a store into the reverse, at k counted from the end
   pub set-reverse : (xs : List A) (k : ℕ) (a : A) → k < length xs → set (reverse xs) (length xs - suc k) a ≡ reverse (set xs k a)
@@ -71,21 +71,21 @@ module _ {ℓ} {A : Type ℓ} where
       ∙ sym (reverse-cons x (set xs k a))
 
   -- the reverse of a list that is cut
-  pub reverse-cut : (m : ℕ) (xs : List A) → reverse xs ≡ reverse (drop m xs) ++ reverse (take m xs)
-  reverse-cut m xs = ap reverse (sym (take-append-drop m xs)) ∙ reverse-append (take m xs) (drop m xs)
+  pub reverse_cut : (m : ℕ) (xs : List A) → reverse xs ≡ reverse (drop m xs) ++ reverse (take m xs)
+  reverse_cut m xs = ap reverse (sym (take-append-drop m xs)) ∙ reverse-append (take m xs) (drop m xs)
 
-  reverse-cut-length : (m n : ℕ) (xs : List A) → length xs ≡ m + n → length (reverse (drop m xs)) ≡ n
-  reverse-cut-length m n xs e = rw (length-reverse, length-drop) (omega arith)
+  reverse_cut_length : (m n : ℕ) (xs : List A) → length xs ≡ m + n → length (reverse (drop m xs)) ≡ n
+  reverse_cut_length m n xs e = rw (length-reverse, length-drop) (omega arith)
 
   -- the first n of the reverse of m + n elements
   pub take-reverse : (m n : ℕ) (xs : List A) → length xs ≡ m + n → take n (reverse xs) ≡ reverse (drop m xs)
   take-reverse m n xs e =
-      ap (take n) (reverse-cut m xs) ∙ take_at (reverse (drop m xs)) (reverse (take m xs)) n (reverse-cut-length m n xs e)
+      ap (take n) (reverse_cut m xs) ∙ take_at (reverse (drop m xs)) (reverse (take m xs)) n (reverse_cut_length m n xs e)
 
   -- and what stands behind them
   pub drop-reverse : (m n : ℕ) (xs : List A) → length xs ≡ m + n → drop n (reverse xs) ≡ reverse (take m xs)
   drop-reverse m n xs e =
-      ap (drop n) (reverse-cut m xs) ∙ drop_at (reverse (drop m xs)) (reverse (take m xs)) n (reverse-cut-length m n xs e)
+      ap (drop n) (reverse_cut m xs) ∙ drop_at (reverse (drop m xs)) (reverse (take m xs)) n (reverse_cut_length m n xs e)
 
 module _ {ℓ κ} {A : Type ℓ} {B : Type κ} (f : A → B) where
   -- ---- a `map`

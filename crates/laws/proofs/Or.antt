@@ -18,8 +18,8 @@ last_or a b =
     ap (λ (n : ℕ). n % 2) (or_step a b)
     ∙ digits_mod (bit_or (a / 2) (b / 2)) (max-below (a % 2) (b % 2) (mod-lt a (omega arith)) (mod-lt b (omega arith)))
 
-pub or-again : (a b : ℕ) → bit_or a (bit_or a b) ≡ bit_or a b
-or-again a =
+pub or_again : (a b : ℕ) → bit_or a (bit_or a b) ≡ bit_or a b
+or_again a =
     bin_ind (λ (n : ℕ). (b : ℕ) → bit_or n (bit_or n b) ≡ bit_or n b) (λ b. refl)
     (λ n ih b.
     or_step n (bit_or n b)
@@ -28,12 +28,12 @@ or-again a =
     a
 
 -- and from the other side
-pub or-once-more : (a b : ℕ) → bit_or (bit_or a b) b ≡ bit_or a b
-or-once-more a b = or_comm (bit_or a b) b ∙ ap (bit_or b) (or_comm a b) ∙ or-again b a ∙ or_comm b a
+pub or_once_more : (a b : ℕ) → bit_or (bit_or a b) b ≡ bit_or a b
+or_once_more a b = or_comm (bit_or a b) b ∙ ap (bit_or b) (or_comm a b) ∙ or_again b a ∙ or_comm b a
 
 -- nothing set, so nothing set on either side
-pub or-none : (a b : ℕ) → bit_or a b ≡ 0 → a ≡ 0
-or-none a b e = sym (or_zero_l a) ∙ or_comm 0 a ∙ ap (bit_or a) (sym e) ∙ or-again a b ∙ e
+pub or_none : (a b : ℕ) → bit_or a b ≡ 0 → a ≡ 0
+or_none a b e = sym (or_zero_l a) ∙ or_comm 0 a ∙ ap (bit_or a) (sym e) ∙ or_again a b ∙ e
 
 -- of three
 max_assoc : (x y z : ℕ) → max (max x y) z ≡ max x (max y z)

@@ -14,8 +14,8 @@ use Rattle.laws.proofs.Lists.{drop-take, take-reverse, drop-reverse, map-take, m
 
 -- ---- numbers
 
-one_more : (p k : ℕ) → suc k * p ≡ p + k * p
-one_more p k = suc-mul k p ∙ add_comm (k * p) p
+one_more_lem : (p k : ℕ) → suc k * p ≡ p + k * p
+one_more_lem p k = suc-mul k p ∙ add_comm (k * p) p
 
 -- row k of n rows ends within the m elements that hold them all
 pub row_fits : (p : ℕ) {k n m : ℕ} → k < n → n * p ≤ m → k * p + p ≤ m
@@ -36,7 +36,7 @@ module _ {A : Type 0} where
   length-rows p (suc n) xs = ap suc (length-rows p n (drop p xs))
 
   drop-rows-suc : (p k : ℕ) (xs : List A) → drop (k * p) (drop p xs) ≡ drop (suc k * p) xs
-  drop-rows-suc p k xs = drop-drop (k * p) p xs ∙ ap (λ (m : ℕ). drop m xs) (sym (one_more p k))
+  drop-rows-suc p k xs = drop-drop (k * p) p xs ∙ ap (λ (m : ℕ). drop m xs) (sym (one_more_lem p k))
 
   -- the first row
   pub row_zero : (p : ℕ) (xs : List A) → row_at p 0 xs ≡ take p xs
@@ -56,14 +56,14 @@ module _ {A : Type 0} where
   row-at p (suc n) xs (suc k) d h = row-at p n (drop p xs) k d (omega arith) ∙ sym (row-suc p k xs)
 
   -- the element at i of the row at k
-  pub row-element : (p k : ℕ) (xs : List A) (i : ℕ) (d : A) → i < p → get_or (row_at p k xs) i d ≡ get_or xs (k * p + i) d
+  pub row_element : (p k : ℕ) (xs : List A) (i : ℕ) (d : A) → i < p → get_or (row_at p k xs) i d ≡ get_or xs (k * p + i) d
   unfolding row_at
-  row-element p k xs i d h = get_or-take p (drop (k * p) xs) i d h ∙ get_or-drop (k * p) xs i d
+  row_element p k xs i d h = get_or-take p (drop (k * p) xs) i d h ∙ get_or-drop (k * p) xs i d
 
   -- a row of a front
-  pub row-front : (p k : ℕ) (xs ys : List A) → k * p + p ≤ length xs → row_at p k (xs ++ ys) ≡ row_at p k xs
+  pub row_front : (p k : ℕ) (xs ys : List A) → k * p + p ≤ length xs → row_at p k (xs ++ ys) ≡ row_at p k xs
   unfolding row_at
-  row-front p k xs ys fits =
+  row_front p k xs ys fits =
       ap (take p) (drop-append-le (k * p) xs ys (omega arith)) ∙ take-append-le p (drop (k * p) xs) ys (rw length-drop (omega arith))
 
   -- ---- how long a row is
@@ -74,32 +74,32 @@ module _ {A : Type 0} where
   length-row p k xs = length-take p (drop (k * p) xs) ∙ ap (min p) (length-drop (k * p) xs)
 
   -- a row of a list that has all n
-  pub length-row-at : (p n : ℕ) (xs : List A) (k : ℕ) → k < n → n * p ≤ length xs → length (row_at p k xs) ≡ p
-  length-row-at p n xs k h fits = let room : k * p + p ≤ length xs = row_fits p h fits in length-row p k xs ∙ omega arith
+  pub length_row-at : (p n : ℕ) (xs : List A) (k : ℕ) → k < n → n * p ≤ length xs → length (row_at p k xs) ≡ p
+  length_row-at p n xs k h fits = let room : k * p + p ≤ length xs = row_fits p h fits in length-row p k xs ∙ omega arith
 
   -- the same of what stands at k among the rows
-  pub rows-lengths : (p n : ℕ) (xs : List A) (k : ℕ) (d : List A) → k < n → n * p ≤ length xs → length (get_or (rows p n xs) k d) ≡ p
-  rows-lengths p n xs k d h fits = ap length (row-at p n xs k d h) ∙ length-row-at p n xs k h fits
+  pub rows_lengths : (p n : ℕ) (xs : List A) (k : ℕ) (d : List A) → k < n → n * p ≤ length xs → length (get_or (rows p n xs) k d) ≡ p
+  rows_lengths p n xs k d h fits = ap length (row-at p n xs k d h) ∙ length_row-at p n xs k h fits
 
   -- ---- parts laid end to end
 
   -- two runs of parts
-  pub joined-append : (rs ss : List (List A)) → joined (rs ++ ss) ≡ joined rs ++ joined ss
+  pub joined_append : (rs ss : List (List A)) → joined (rs ++ ss) ≡ joined rs ++ joined ss
   unfolding joined
-  joined-append [] ss = refl
-  joined-append (r ∷ rs) ss = ap (λ (l : List A). r ++ l) (joined-append rs ss) ∙ sym (append_assoc r (joined rs) (joined ss))
+  joined_append [] ss = refl
+  joined_append (r ∷ rs) ss = ap (λ (l : List A). r ++ l) (joined_append rs ss) ∙ sym (append_assoc r (joined rs) (joined ss))
 
   -- one part more at the end
   pub joined_snoc : (rs : List (List A)) (r : List A) → joined (rs ++ r ∷ []) ≡ joined rs ++ r
   unfolding joined
-  joined_snoc rs r = joined-append rs (r ∷ []) ∙ ap (λ (l : List A). joined rs ++ l) (append-nil r)
+  joined_snoc rs r = joined_append rs (r ∷ []) ∙ ap (λ (l : List A). joined rs ++ l) (append-nil r)
 
   -- how long they are together
   pub length-joined : (p : ℕ) (rs : List (List A)) → Every p rs → length (joined rs) ≡ length rs * p
   unfolding joined
   length-joined p [] e = sym (zero-mul p)
   length-joined p (r ∷ rs) e =
-      length-append r (joined rs) ∙ ap₂ ◌+◌ e.0 (length-joined p rs e.1) ∙ sym (one_more p (length rs))
+      length-append r (joined rs) ∙ ap₂ ◌+◌ e.0 (length-joined p rs e.1) ∙ sym (one_more_lem p (length rs))
 
   -- the rows of any list make up its front
   pub joined-take : (p n : ℕ) (xs : List A) → joined (rows p n xs) ≡ take (n * p) xs
@@ -108,29 +108,29 @@ module _ {A : Type 0} where
   joined-take p (suc n) xs =
       ap (λ (l : List A). take p xs ++ l) (joined-take p n (drop p xs))
       ∙ sym (take-add p (n * p) xs)
-      ∙ ap (λ (m : ℕ). take m xs) (sym (one_more p n))
+      ∙ ap (λ (m : ℕ). take m xs) (sym (one_more_lem p n))
 
   -- the rows of a list of just so many elements make up all of it
   pub joined-rows : (p n : ℕ) (xs : List A) → length xs ≡ n * p → joined (rows p n xs) ≡ xs
   joined-rows p n xs e = joined-take p n xs ∙ take_all (n * p) xs (omega arith)
 
   -- the first part of a list is its first row
-  pub rows-cons : (p n : ℕ) (r xs : List A) → length r ≡ p → rows p (suc n) (r ++ xs) ≡ r ∷ rows p n xs
+  pub rows_cons : (p n : ℕ) (r xs : List A) → length r ≡ p → rows p (suc n) (r ++ xs) ≡ r ∷ rows p n xs
   unfolding rows
-  rows-cons p n r xs e = ap₂ ◌∷◌ (take_at r xs p e) (ap (rows p n) (drop_at r xs p e))
+  rows_cons p n r xs e = ap₂ ◌∷◌ (take_at r xs p e) (ap (rows p n) (drop_at r xs p e))
 
   -- parts laid end to end and cut again, whatever stands behind them
-  pub rows-joined-append : (p : ℕ) (rs : List (List A)) (ys : List A) → Every p rs → rows p (length rs) (joined rs ++ ys) ≡ rs
+  pub rows-joined_append : (p : ℕ) (rs : List (List A)) (ys : List A) → Every p rs → rows p (length rs) (joined rs ++ ys) ≡ rs
   unfolding rows joined
-  rows-joined-append p [] ys e = refl
-  rows-joined-append p (r ∷ rs) ys e =
+  rows-joined_append p [] ys e = refl
+  rows-joined_append p (r ∷ rs) ys e =
       ap (rows p (suc (length rs))) (append_assoc r (joined rs) ys)
-      ∙ rows-cons p (length rs) r (joined rs ++ ys) e.0
-      ∙ ap (λ (ss : List (List A)). r ∷ ss) (rows-joined-append p rs ys e.1)
+      ∙ rows_cons p (length rs) r (joined rs ++ ys) e.0
+      ∙ ap (λ (ss : List (List A)). r ∷ ss) (rows-joined_append p rs ys e.1)
 
   -- parts laid end to end and cut again
   pub rows-joined : (p : ℕ) (rs : List (List A)) → Every p rs → rows p (length rs) (joined rs) ≡ rs
-  rows-joined p rs e = ap (rows p (length rs)) (sym (append-nil (joined rs))) ∙ rows-joined-append p rs [] e
+  rows-joined p rs e = ap (rows p (length rs)) (sym (append-nil (joined rs))) ∙ rows-joined_append p rs [] e
 
   -- the row at k of parts laid end to end is the part at k
   pub row-joined : (p : ℕ) (rs : List (List A)) (k : ℕ) (d : List A) → Every p rs → k < length rs → row_at p k (joined rs) ≡ get_or rs k d
@@ -138,26 +138,26 @@ module _ {A : Type 0} where
       sym (row-at p (length rs) (joined rs) k d h) ∙ ap (λ (l : List (List A)). get_or l k d) (rows-joined p rs e)
 
   -- the element at i of the part at k, where the parts are laid end to end
-  pub joined-element : (p : ℕ) (rs : List (List A)) (k i : ℕ) (c : List A) (d : A) → Every p rs → k < length rs → i < p
+  pub joined_element : (p : ℕ) (rs : List (List A)) (k i : ℕ) (c : List A) (d : A) → Every p rs → k < length rs → i < p
       → get_or (joined rs) (k * p + i) d ≡ get_or (get_or rs k c) i d
-  joined-element p rs k i c d e h hi =
-      sym (row-element p k (joined rs) i d hi) ∙ ap (λ (r : List A). get_or r i d) (row-joined p rs k c e h)
+  joined_element p rs k i c d e h hi =
+      sym (row_element p k (joined rs) i d hi) ∙ ap (λ (r : List A). get_or r i d) (row-joined p rs k c e h)
 
   -- ---- parts that all have p elements
 
   -- rows of a list that has them all
-  pub every-rows : (p n : ℕ) (xs : List A) → n * p ≤ length xs → Every p (rows p n xs)
+  pub every_rows : (p n : ℕ) (xs : List A) → n * p ≤ length xs → Every p (rows p n xs)
   unfolding rows
-  every-rows p zero xs fits = tt
-  every-rows p (suc n) xs fits =
-      let fits' : p + n * p ≤ length xs = rw (one_more p n) at fits in
-      (length-take-le p xs (omega arith), every-rows p n (drop p xs) (rw length-drop (omega arith)))
+  every_rows p zero xs fits = tt
+  every_rows p (suc n) xs fits =
+      let fits' : p + n * p ≤ length xs = rw (one_more_lem p n) at fits in
+      (length-take-le p xs (omega arith), every_rows p n (drop p xs) (rw length-drop (omega arith)))
 
   -- the part at k
-  pub every-at : (p : ℕ) (rs : List (List A)) (k : ℕ) (d : List A) → Every p rs → k < length rs → length (get_or rs k d) ≡ p
-  every-at p [] k d e h = absurd (omega arith)
-  every-at p (r ∷ rs) zero d e h = e.0
-  every-at p (r ∷ rs) (suc k) d e h = every-at p rs k d e.1 (omega arith)
+  pub every_at : (p : ℕ) (rs : List (List A)) (k : ℕ) (d : List A) → Every p rs → k < length rs → length (get_or rs k d) ≡ p
+  every_at p [] k d e h = absurd (omega arith)
+  every_at p (r ∷ rs) zero d e h = e.0
+  every_at p (r ∷ rs) (suc k) d e h = every_at p rs k d e.1 (omega arith)
 
   -- from the part at each k
   pub every_of : (p : ℕ) (rs : List (List A)) (d : List A) → ((k : ℕ) → k < length rs → length (get_or rs k d) ≡ p) → Every p rs
@@ -170,10 +170,10 @@ module _ {A : Type 0} where
   every_append p (r ∷ rs) ss e f = (e.0, every_append p rs ss e.1 f)
 
   -- parts in reverse
-  pub every-reverse : (p : ℕ) (rs : List (List A)) → Every p rs → Every p (reverse rs)
-  every-reverse p [] e = tt
-  every-reverse p (r ∷ rs) e =
-      subst (Every p) (sym (reverse-cons r rs)) (every_append p (reverse rs) (r ∷ []) (every-reverse p rs e.1) (e.0, tt))
+  pub every_reverse : (p : ℕ) (rs : List (List A)) → Every p rs → Every p (reverse rs)
+  every_reverse p [] e = tt
+  every_reverse p (r ∷ rs) e =
+      subst (Every p) (sym (reverse-cons r rs)) (every_append p (reverse rs) (r ∷ []) (every_reverse p rs e.1) (e.0, tt))
 
   -- one part replaced
   pub every_set : (p : ℕ) (rs : List (List A)) (k : ℕ) (r : List A) → Every p rs → length r ≡ p → Every p (set rs k r)
@@ -182,9 +182,9 @@ module _ {A : Type 0} where
   every_set p (q ∷ rs) (suc k) r e l = (e.0, every_set p rs k r e.1 l)
 
   -- one part n times
-  pub every-replicate : (p n : ℕ) (r : List A) → length r ≡ p → Every p (replicate n r)
-  every-replicate p zero r l = tt
-  every-replicate p (suc n) r l = (l, every-replicate p n r l)
+  pub every_replicate : (p n : ℕ) (r : List A) → length r ≡ p → Every p (replicate n r)
+  every_replicate p zero r l = tt
+  every_replicate p (suc n) r l = (l, every_replicate p n r l)
 
   -- ---- more rows, and a front
 
@@ -218,7 +218,7 @@ module _ {A : Type 0} where
   unfolding rows
   rows_take p zero xs = refl
   rows_take p (suc n) xs =
-      ap (λ (m : ℕ). rows p (suc n) (take m xs)) (one_more p n)
+      ap (λ (m : ℕ). rows p (suc n) (take m xs)) (one_more_lem p n)
       ∙ ap₂ ◌∷◌ (take-take p (p + n * p) xs (omega arith)) (ap (rows p n) (drop-take p (n * p) xs) ∙ rows_take p n (drop p xs))
 
   -- lists that agree there have the same rows
@@ -226,14 +226,14 @@ module _ {A : Type 0} where
   rows_same p n xs ys e = sym (rows_take p n xs) ∙ ap (rows p n) e ∙ rows_take p n ys
 
   -- what stands behind the rows does not count
-  pub rows-front : (p n : ℕ) (xs ys : List A) → n * p ≤ length xs → rows p n (xs ++ ys) ≡ rows p n xs
-  rows-front p n xs ys fits = rows_same p n (xs ++ ys) xs (take-append-le (n * p) xs ys fits)
+  pub rows_front : (p n : ℕ) (xs ys : List A) → n * p ≤ length xs → rows p n (xs ++ ys) ≡ rows p n xs
+  rows_front p n xs ys fits = rows_same p n (xs ++ ys) xs (take-append-le (n * p) xs ys fits)
 
   -- where there is nothing to cut each row is empty
-  pub rows-nil : (p n : ℕ) → rows p n [] ≡ replicate {A = List A} n []
+  pub rows_nil : (p n : ℕ) → rows p n [] ≡ replicate {A = List A} n []
   unfolding rows
-  rows-nil p zero = refl
-  rows-nil p (suc n) = ap₂ ◌∷◌ (take-nil p) (ap (rows p n) (drop-nil p) ∙ rows-nil p n)
+  rows_nil p zero = refl
+  rows_nil p (suc n) = ap₂ ◌∷◌ (take-nil p) (ap (rows p n) (drop-nil p) ∙ rows_nil p n)
 
   -- n parts that are p times a, end to end
   pub joined-replicate : (p n : ℕ) (a : A) → joined (replicate n (replicate p a)) ≡ replicate (n * p) a
@@ -242,14 +242,14 @@ module _ {A : Type 0} where
   joined-replicate p (suc n) a =
       ap (λ (l : List A). replicate p a ++ l) (joined-replicate p n a)
       ∙ replicate-append-replicate p (n * p) a
-      ∙ ap (λ (m : ℕ). replicate m a) (sym (one_more p n))
+      ∙ ap (λ (m : ℕ). replicate m a) (sym (one_more_lem p n))
 
   -- the rows of n * p times a
   pub rows-replicate : (p n : ℕ) (a : A) → rows p n (replicate (n * p) a) ≡ replicate n (replicate p a)
   rows-replicate p n a =
       let parts : List (List A) = replicate n (replicate p a) in
       ap₂ (rows p) (sym (length-replicate n (replicate p a))) (sym (joined-replicate p n a))
-      ∙ rows-joined p parts (every-replicate p n (replicate p a) (length-replicate p a))
+      ∙ rows-joined p parts (every_replicate p n (replicate p a) (length-replicate p a))
 
   -- ---- the other way round
 
@@ -276,12 +276,12 @@ module _ {A : Type 0} where
   -- ---- one row replaced
 
   -- where it is not the first, the first row is as it was
-  splice-suc : (p k : ℕ) (xs r : List A)
+  splice_suc : (p k : ℕ) (xs r : List A)
       → take (suc k * p) xs ++ r ++ drop (suc k * p + p) xs ≡ take p xs ++ (take (k * p) (drop p xs) ++ r ++ drop (k * p + p) (drop p xs))
-  splice-suc p k xs r =
-      let e : p + (k * p + p) ≡ suc k * p + p = omega (arith, one_more p k) in
+  splice_suc p k xs r =
+      let e : p + (k * p + p) ≡ suc k * p + p = omega (arith, one_more_lem p k) in
       ap₂ (λ (a b : List A). a ++ r ++ b)
-      (ap (λ (m : ℕ). take m xs) (one_more p k) ∙ take-add p (k * p) xs)
+      (ap (λ (m : ℕ). take m xs) (one_more_lem p k) ∙ take-add p (k * p) xs)
       (ap (λ (m : ℕ). drop m xs) (sym e) ∙ sym (drop-drop (k * p + p) p xs))
       ∙ simp append_assoc
 
@@ -293,11 +293,11 @@ module _ {A : Type 0} where
   rows-set p (suc n) xs zero r h fits l =
       ap (λ (m : ℕ). rows p (suc n) (take m xs ++ r ++ drop (m + p) xs)) (zero-mul p)
       ∙ ap (λ (m : ℕ). rows p (suc n) (r ++ drop m xs)) (zero-add p)
-      ∙ rows-cons p n r (drop p xs) l
+      ∙ rows_cons p n r (drop p xs) l
   rows-set p (suc n) xs (suc k) r h fits l =
-      let fits' : p + n * p ≤ length xs = rw (one_more p n) at fits in
-      ap (rows p (suc n)) (splice-suc p k xs r)
-      ∙ rows-cons p n (take p xs) (take (k * p) (drop p xs) ++ r ++ drop (k * p + p) (drop p xs)) (length-take-le p xs (omega arith))
+      let fits' : p + n * p ≤ length xs = rw (one_more_lem p n) at fits in
+      ap (rows p (suc n)) (splice_suc p k xs r)
+      ∙ rows_cons p n (take p xs) (take (k * p) (drop p xs) ++ r ++ drop (k * p + p) (drop p xs)) (length-take-le p xs (omega arith))
       ∙ ap (λ (rs : List (List A)). take p xs ∷ rs) (rows-set p n (drop p xs) k r (omega arith) (rw length-drop (omega arith)) l)
 
 -- ---- a function of each element, and of each part
@@ -322,9 +322,9 @@ module _ {A B : Type 0} where
   every_map p q f keeps (r ∷ rs) e = (keeps r e.0, every_map p q f keeps rs e.1)
 
   -- parts that a function makes of anything
-  pub every-image : (p : ℕ) (f : A → List B) → ((a : A) → length (f a) ≡ p) → (xs : List A) → Every p (map f xs)
-  every-image p f each [] = tt
-  every-image p f each (x ∷ xs) = (each x, every-image p f each xs)
+  pub every_image : (p : ℕ) (f : A → List B) → ((a : A) → length (f a) ≡ p) → (xs : List A) → Every p (map f xs)
+  every_image p f each [] = tt
+  every_image p f each (x ∷ xs) = (each x, every_image p f each xs)
 
 -- ---- two lists element by element
 
@@ -346,19 +346,19 @@ module _ {A B C : Type 0} (f : A → B → C) where
   along-at (x ∷ xs) (y ∷ ys) (suc k) a b c hx hy = along-at xs ys k a b c (omega arith) (omega arith)
 
   -- two lists each, the first two of one length
-  pub along-append : (xs xs' : List A) (ys ys' : List B) → length xs ≡ length ys
+  pub along_append : (xs xs' : List A) (ys ys' : List B) → length xs ≡ length ys
       → along f (xs ++ xs') (ys ++ ys') ≡ along f xs ys ++ along f xs' ys'
   unfolding along
-  along-append [] xs' [] ys' e = refl
-  along-append [] xs' (y ∷ ys) ys' e = absurd (omega arith)
-  along-append (x ∷ xs) xs' [] ys' e = absurd (omega arith)
-  along-append (x ∷ xs) xs' (y ∷ ys) ys' e = ap (λ (r : List C). f x y ∷ r) (along-append xs xs' ys ys' (omega arith))
+  along_append [] xs' [] ys' e = refl
+  along_append [] xs' (y ∷ ys) ys' e = absurd (omega arith)
+  along_append (x ∷ xs) xs' [] ys' e = absurd (omega arith)
+  along_append (x ∷ xs) xs' (y ∷ ys) ys' e = ap (λ (r : List C). f x y ∷ r) (along_append xs xs' ys ys' (omega arith))
 
   -- one element more at the end of each
-  pub along-snoc : (xs : List A) (x : A) (ys : List B) (y : B) → length xs ≡ length ys
+  pub along_snoc : (xs : List A) (x : A) (ys : List B) (y : B) → length xs ≡ length ys
       → along f (xs ++ x ∷ []) (ys ++ y ∷ []) ≡ along f xs ys ++ f x y ∷ []
   unfolding along
-  along-snoc xs x ys y e = along-append xs (x ∷ []) ys (y ∷ []) e
+  along_snoc xs x ys y e = along_append xs (x ∷ []) ys (y ∷ []) e
 
   -- both in reverse
   pub along-reverse : (xs : List A) (ys : List B) → length xs ≡ length ys → along f (reverse xs) (reverse ys) ≡ reverse (along f xs ys)
@@ -368,14 +368,14 @@ module _ {A B C : Type 0} (f : A → B → C) where
   along-reverse (x ∷ xs) (y ∷ ys) e =
       let e' : length xs ≡ length ys = omega arith in
       ap₂ (along f) (reverse-cons x xs) (reverse-cons y ys)
-      ∙ along-snoc (reverse xs) x (reverse ys) y (length-reverse xs ∙ e' ∙ sym (length-reverse ys))
+      ∙ along_snoc (reverse xs) x (reverse ys) y (length-reverse xs ∙ e' ∙ sym (length-reverse ys))
       ∙ ap (λ (r : List C). r ++ f x y ∷ []) (along-reverse xs ys e')
       ∙ sym (reverse-cons (f x y) (along f xs ys))
 
-  along-nil : (xs : List A) → along f xs [] ≡ []
+  along_nil : (xs : List A) → along f xs [] ≡ []
   unfolding along
-  along-nil [] = refl
-  along-nil (x ∷ xs) = refl
+  along_nil [] = refl
+  along_nil (x ∷ xs) = refl
 
   -- the first n of each
   pub along-take : (n : ℕ) (xs : List A) (ys : List B) → along f (take n xs) (take n ys) ≡ take n (along f xs ys)
@@ -390,33 +390,33 @@ module _ {A B C : Type 0} (f : A → B → C) where
   unfolding along
   along-drop zero xs ys = refl
   along-drop (suc n) [] ys = refl
-  along-drop (suc n) (x ∷ xs) [] = along-nil (drop n xs)
+  along-drop (suc n) (x ∷ xs) [] = along_nil (drop n xs)
   along-drop (suc n) (x ∷ xs) (y ∷ ys) = along-drop n xs ys
 
   -- where the function does not look at the second list's elements, only how many they are counts
-  pub along-blind : ((x : A) (y z : B) → f x y ≡ f x z) → (xs : List A) (ys zs : List B) → length ys ≡ length zs → along f xs ys ≡ along f xs zs
+  pub along_blind : ((x : A) (y z : B) → f x y ≡ f x z) → (xs : List A) (ys zs : List B) → length ys ≡ length zs → along f xs ys ≡ along f xs zs
   unfolding along
-  along-blind same [] ys zs e = refl
-  along-blind same (x ∷ xs) [] [] e = refl
-  along-blind same (x ∷ xs) [] (z ∷ zs) e = absurd (omega arith)
-  along-blind same (x ∷ xs) (y ∷ ys) [] e = absurd (omega arith)
-  along-blind same (x ∷ xs) (y ∷ ys) (z ∷ zs) e = ap₂ ◌∷◌ (same x y z) (along-blind same xs ys zs (omega arith))
+  along_blind same [] ys zs e = refl
+  along_blind same (x ∷ xs) [] [] e = refl
+  along_blind same (x ∷ xs) [] (z ∷ zs) e = absurd (omega arith)
+  along_blind same (x ∷ xs) (y ∷ ys) [] e = absurd (omega arith)
+  along_blind same (x ∷ xs) (y ∷ ys) (z ∷ zs) e = ap₂ ◌∷◌ (same x y z) (along_blind same xs ys zs (omega arith))
 
 module _ {A B C : Type 0} where
   -- parts that a function makes of any two
-  pub every-along : (p : ℕ) (f : A → B → List C) → ((a : A) (b : B) → length (f a b) ≡ p) → (xs : List A) (ys : List B) → Every p (along f xs ys)
+  pub every_along : (p : ℕ) (f : A → B → List C) → ((a : A) (b : B) → length (f a b) ≡ p) → (xs : List A) (ys : List B) → Every p (along f xs ys)
   unfolding along
-  every-along p f each [] ys = tt
-  every-along p f each (x ∷ xs) [] = tt
-  every-along p f each (x ∷ xs) (y ∷ ys) = (each x y, every-along p f each xs ys)
+  every_along p f each [] ys = tt
+  every_along p f each (x ∷ xs) [] = tt
+  every_along p f each (x ∷ xs) (y ∷ ys) = (each x y, every_along p f each xs ys)
 
   -- parts of q elements that a function makes of anything and parts of p
-  pub every-along-parts : (p q : ℕ) (f : A → List B → List C) → ((a : A) (r : List B) → length r ≡ p → length (f a r) ≡ q)
+  pub every_along_parts : (p q : ℕ) (f : A → List B → List C) → ((a : A) (r : List B) → length r ≡ p → length (f a r) ≡ q)
       → (xs : List A) (rs : List (List B)) → Every p rs → Every q (along f xs rs)
   unfolding along
-  every-along-parts p q f keeps [] rs e = tt
-  every-along-parts p q f keeps (x ∷ xs) [] e = tt
-  every-along-parts p q f keeps (x ∷ xs) (r ∷ rs) e = (keeps x r e.0, every-along-parts p q f keeps xs rs e.1)
+  every_along_parts p q f keeps [] rs e = tt
+  every_along_parts p q f keeps (x ∷ xs) [] e = tt
+  every_along_parts p q f keeps (x ∷ xs) (r ∷ rs) e = (keeps x r e.0, every_along_parts p q f keeps xs rs e.1)
 
 -- two functions that agree wherever the second list's parts have p elements
 pub along-same : {A B C : Type 0} (f g : A → List B → C) (p : ℕ) → ((a : A) (r : List B) → length r ≡ p → f a r ≡ g a r)

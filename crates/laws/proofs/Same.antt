@@ -14,15 +14,15 @@ unfolding same
 same_self [] = refl
 same_self (x ∷ xs) = ap₂ ◌&&◌ (eq-eqb x x refl) (same_self xs)
 
-pub are-same : {xs ys : List ℕ} → xs ≡ ys → same xs ys ≡ true
-are-same {xs} e = ap (same xs) (sym e) ∙ same_self xs
+pub are_same : {xs ys : List ℕ} → xs ≡ ys → same xs ys ≡ true
+are_same {xs} e = ap (same xs) (sym e) ∙ same_self xs
 
-pub same-are : (xs ys : List ℕ) → same xs ys ≡ true → xs ≡ ys
+pub same_are : (xs ys : List ℕ) → same xs ys ≡ true → xs ≡ ys
 unfolding same
-same-are [] [] e = refl
-same-are [] (y ∷ ys) e = let z : ◌≡◌ {A = ℕ} 0 1 = cc in absurd (omega arith)
-same-are (x ∷ xs) [] e = let z : ◌≡◌ {A = ℕ} 0 1 = cc in absurd (omega arith)
-same-are (x ∷ xs) (y ∷ ys) e = by (eqb x y) refl e (same-are xs ys)
+same_are [] [] e = refl
+same_are [] (y ∷ ys) e = let z : ◌≡◌ {A = ℕ} 0 1 = cc in absurd (omega arith)
+same_are (x ∷ xs) [] e = let z : ◌≡◌ {A = ℕ} 0 1 = cc in absurd (omega arith)
+same_are (x ∷ xs) (y ∷ ys) e = by (eqb x y) refl e (same_are xs ys)
   where
     by : (b : Bool) → eqb x y ≡ b → b && same xs ys ≡ true → (same xs ys ≡ true → xs ≡ ys) → x ∷ xs ≡ y ∷ ys
     by true first e rest = ap₂ ◌∷◌ (eqb-true x y first) (rest e)
@@ -30,4 +30,4 @@ same-are (x ∷ xs) (y ∷ ys) e = by (eqb x y) refl e (same-are xs ys)
 
 -- so where it fails they are not
 pub not_same : (xs ys : List ℕ) → same xs ys ≡ false → xs ≡ ys → ⊥
-not_same xs ys e p = let there = are-same p in let z : ◌≡◌ {A = ℕ} 0 1 = cc in omega arith
+not_same xs ys e p = let there = are_same p in let z : ◌≡◌ {A = ℕ} 0 1 = cc in omega arith

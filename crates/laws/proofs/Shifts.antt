@@ -14,7 +14,7 @@ pub up_fits : (w k n : ℕ) {r : ℕ} → w + k ≤ n → r < 2 ^ w → r * 2 ^ 
 up_fits w k n h hr = lt_of_lt_of_le (shl_lt w k hr) (pow_mono h)
 
 -- and k bits behind it
-pub join-below : (w k : ℕ) {a b : ℕ} → a < 2 ^ w → b < 2 ^ k → a * 2 ^ k + b < 2 ^ (w + k)
-join-below w k {a} {b} ha hb =
+pub join_below : (w k : ℕ) {a b : ℕ} → a < 2 ^ w → b < 2 ^ k → a * 2 ^ k + b < 2 ^ (w + k)
+join_below w k {a} {b} ha hb =
     subst⁻¹ (λ (x : ℕ). a * 2 ^ k + b < x) (pow-add 2 w k)
     ((div-lt_iff_lt-mul (pow_pos k)).0 (subst⁻¹ (λ (x : ℕ). x < 2 ^ w) (high a k hb) ha))

@@ -53,8 +53,8 @@ drop-table f (suc h) i (suc m) l =
     drop-table f h (suc i) m (omega arith) ∙ ap (λ (j : ℕ). f j ∷ drop (suc h) (tabulate f (suc i) m)) (omega arith)
 
 -- and with one more at its end
-pub table-snoc : (f : ℕ → ℕ) (i m : ℕ) → tabulate f i (suc m) ≡ tabulate f i m ++ f (i + m) ∷ []
+pub table_snoc : (f : ℕ → ℕ) (i m : ℕ) → tabulate f i (suc m) ≡ tabulate f i m ++ f (i + m) ∷ []
 unfolding tabulate
-table-snoc f i zero = ap (λ (j : ℕ). f j ∷ []) (omega arith)
-table-snoc f i (suc m) =
-    ap (λ (ks : List ℕ). f i ∷ ks) (table-snoc f (suc i) m ∙ ap (λ (j : ℕ). tabulate f (suc i) m ++ f j ∷ []) (omega arith))
+table_snoc f i zero = ap (λ (j : ℕ). f j ∷ []) (omega arith)
+table_snoc f i (suc m) =
+    ap (λ (ks : List ℕ). f i ∷ ks) (table_snoc f (suc i) m ∙ ap (λ (j : ℕ). tabulate f (suc i) m ++ f j ∷ []) (omega arith))

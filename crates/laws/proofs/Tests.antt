@@ -19,7 +19,7 @@ pub both_first : (a b : Bool) → a && b ≡ true → a ≡ true
 both_first true b h = refl
 both_first false b h = h
 
-pub both-second : (a b : Bool) → a && b ≡ true → b ≡ true
-both-second true b h = h
-both-second false true h = refl
-both-second false false h = h
+pub both_second : (a b : Bool) → a && b ≡ true → b ≡ true
+both_second true b h = h
+both_second false true h = refl
+both_second false false h = h

@@ -37,27 +37,27 @@ pub xor-div : (a b k : ℕ) → (a ⊕ b) / 2 ^ k ≡ (a / 2 ^ k) ⊕ (b / 2 ^ k
 unfolding ◌⊕◌
 xor-div a b k = xor_shr a b k
 
-pub xor-rem : (a b k : ℕ) → (a ⊕ b) % 2 ^ k ≡ (a % 2 ^ k) ⊕ (b % 2 ^ k)
+pub xor_rem : (a b k : ℕ) → (a ⊕ b) % 2 ^ k ≡ (a % 2 ^ k) ⊕ (b % 2 ^ k)
 unfolding ◌⊕◌
-xor-rem a b k = xor_mod a b k
+xor_rem a b k = xor_mod a b k
 
 -- ---- the last digit, and the rest
 
-differ-lt : (x y : ℕ) → x < 2 → y < 2 → differ x y < 2
-differ-lt zero y hx hy = hy
-differ-lt (suc zero) zero hx hy = hx
-differ-lt (suc zero) (suc zero) hx hy = omega arith
-differ-lt (suc zero) (suc (suc y)) hx hy = absurd (omega arith)
-differ-lt (suc (suc x)) y hx hy = absurd (omega arith)
+differ_lt : (x y : ℕ) → x < 2 → y < 2 → differ x y < 2
+differ_lt zero y hx hy = hy
+differ_lt (suc zero) zero hx hy = hx
+differ_lt (suc zero) (suc zero) hx hy = omega arith
+differ_lt (suc zero) (suc (suc y)) hx hy = absurd (omega arith)
+differ_lt (suc (suc x)) y hx hy = absurd (omega arith)
 
-differ-assoc : (x y z : ℕ) → x < 2 → y < 2 → z < 2 → differ (differ x y) z ≡ differ x (differ y z)
-differ-assoc zero y z hx hy hz = refl
-differ-assoc (suc zero) zero z hx hy hz = refl
-differ-assoc (suc zero) (suc zero) zero hx hy hz = refl
-differ-assoc (suc zero) (suc zero) (suc zero) hx hy hz = refl
-differ-assoc (suc zero) (suc zero) (suc (suc z)) hx hy hz = absurd (omega arith)
-differ-assoc (suc zero) (suc (suc y)) z hx hy hz = absurd (omega arith)
-differ-assoc (suc (suc x)) y z hx hy hz = absurd (omega arith)
+differ_assoc : (x y z : ℕ) → x < 2 → y < 2 → z < 2 → differ (differ x y) z ≡ differ x (differ y z)
+differ_assoc zero y z hx hy hz = refl
+differ_assoc (suc zero) zero z hx hy hz = refl
+differ_assoc (suc zero) (suc zero) zero hx hy hz = refl
+differ_assoc (suc zero) (suc zero) (suc zero) hx hy hz = refl
+differ_assoc (suc zero) (suc zero) (suc (suc z)) hx hy hz = absurd (omega arith)
+differ_assoc (suc zero) (suc (suc y)) z hx hy hz = absurd (omega arith)
+differ_assoc (suc (suc x)) y z hx hy hz = absurd (omega arith)
 
 halves : (a b : ℕ) → a ⊕ b ≡ ((a / 2) ⊕ (b / 2)) * 2 + differ (a % 2) (b % 2)
 unfolding ◌⊕◌
@@ -69,7 +69,7 @@ two_pos = omega arith
 last-xor : (a b : ℕ) → (a ⊕ b) % 2 ≡ differ (a % 2) (b % 2)
 last-xor a b =
     ap (λ (n : ℕ). n % 2) (halves a b)
-    ∙ digits_mod ((a / 2) ⊕ (b / 2)) (differ-lt (a % 2) (b % 2) (mod-lt a two_pos) (mod-lt b two_pos))
+    ∙ digits_mod ((a / 2) ⊕ (b / 2)) (differ_lt (a % 2) (b % 2) (mod-lt a two_pos) (mod-lt b two_pos))
 
 pub xor_assoc : (a b c : ℕ) → a ⊕ b ⊕ c ≡ a ⊕ (b ⊕ c)
 xor_assoc a =
@@ -80,15 +80,15 @@ xor_assoc a =
     ∙ ap₂ (λ (x y : ℕ). x * 2 + y)
     (ap (λ (x : ℕ). x ⊕ (c / 2)) (xor-div n b 1) ∙ ih (b / 2) (c / 2) ∙ ap (λ (x : ℕ). (n / 2) ⊕ x) (sym (xor-div b c 1)))
     (ap (λ (x : ℕ). differ x (c % 2)) (last-xor n b)
-    ∙ differ-assoc (n % 2) (b % 2) (c % 2) (mod-lt n two_pos) (mod-lt b two_pos) (mod-lt c two_pos)
+    ∙ differ_assoc (n % 2) (b % 2) (c % 2) (mod-lt n two_pos) (mod-lt b two_pos) (mod-lt c two_pos)
     ∙ ap (differ (n % 2)) (sym (last-xor b c)))
     ∙ sym (halves n (b ⊕ c)))
     a
 
 -- ---- what follows
 
-pub xor-twice : (a b : ℕ) → a ⊕ b ⊕ b ≡ a
-xor-twice a b = xor_assoc a b b ∙ ap (λ (x : ℕ). a ⊕ x) (xor_same b) ∙ xor-zero a
+pub xor_twice : (a b : ℕ) → a ⊕ b ⊕ b ≡ a
+xor_twice a b = xor_assoc a b b ∙ ap (λ (x : ℕ). a ⊕ x) (xor_same b) ∙ xor-zero a
 
 -- (a ⊕ b) ⊕ (c ⊕ d): the two in the middle change places
 pub xor-middle : (a b c d : ℕ) → a ⊕ b ⊕ (c ⊕ d) ≡ a ⊕ c ⊕ (b ⊕ d)
@@ -98,27 +98,27 @@ xor-middle a b c d =
     ∙ sym (xor_assoc a c (b ⊕ d))
 
 -- the low k places and the rest are added apart
-pub xor-blocks : (k a b : ℕ) {r s : ℕ} → r < 2 ^ k → s < 2 ^ k → (a * 2 ^ k + r) ⊕ (b * 2 ^ k + s) ≡ (a ⊕ b) * 2 ^ k + (r ⊕ s)
+pub xor_blocks : (k a b : ℕ) {r s : ℕ} → r < 2 ^ k → s < 2 ^ k → (a * 2 ^ k + r) ⊕ (b * 2 ^ k + s) ≡ (a ⊕ b) * 2 ^ k + (r ⊕ s)
 unfolding ◌⊕◌
-xor-blocks k a b {r} {s} hr hs = xor_block k a b r s hr hs
+xor_blocks k a b {r} {s} hr hs = xor_block k a b r s hr hs
 
-pub xor-shift : (k a b : ℕ) → (a * 2 ^ k) ⊕ (b * 2 ^ k) ≡ (a ⊕ b) * 2 ^ k
-xor-shift k a b =
+pub xor_shift : (k a b : ℕ) → (a * 2 ^ k) ⊕ (b * 2 ^ k) ≡ (a ⊕ b) * 2 ^ k
+xor_shift k a b =
     ap₂ ◌⊕◌ (sym (add-zero (a * 2 ^ k))) (sym (add-zero (b * 2 ^ k)))
-    ∙ xor-blocks k a b (pow_pos k) (pow_pos k)
+    ∙ xor_blocks k a b (pow_pos k) (pow_pos k)
     ∙ ap (λ (x : ℕ). (a ⊕ b) * 2 ^ k + x) (zero_xor 0)
     ∙ add-zero ((a ⊕ b) * 2 ^ k)
 
-odd-digits : (x y : ℕ) → x < 2 → y < 2 → eqb (differ x y) 1 ≡ xor (eqb x 1) (eqb y 1)
+odd_digits : (x y : ℕ) → x < 2 → y < 2 → eqb (differ x y) 1 ≡ xor (eqb x 1) (eqb y 1)
 unfolding xor
-odd-digits zero zero hx hy = refl
-odd-digits zero (suc zero) hx hy = refl
-odd-digits zero (suc (suc y)) hx hy = absurd (omega arith)
-odd-digits (suc zero) zero hx hy = refl
-odd-digits (suc zero) (suc zero) hx hy = refl
-odd-digits (suc zero) (suc (suc y)) hx hy = absurd (omega arith)
-odd-digits (suc (suc x)) y hx hy = absurd (omega arith)
+odd_digits zero zero hx hy = refl
+odd_digits zero (suc zero) hx hy = refl
+odd_digits zero (suc (suc y)) hx hy = absurd (omega arith)
+odd_digits (suc zero) zero hx hy = refl
+odd_digits (suc zero) (suc zero) hx hy = refl
+odd_digits (suc zero) (suc (suc y)) hx hy = absurd (omega arith)
+odd_digits (suc (suc x)) y hx hy = absurd (omega arith)
 
 pub odd-xor : (a b : ℕ) → odd (a ⊕ b) ≡ xor (odd a) (odd b)
 unfolding odd
-odd-xor a b = ap (λ (n : ℕ). eqb n 1) (last-xor a b) ∙ odd-digits (a % 2) (b % 2) (mod-lt a two_pos) (mod-lt b two_pos)
+odd-xor a b = ap (λ (n : ℕ). eqb n 1) (last-xor a b) ∙ odd_digits (a % 2) (b % 2) (mod-lt a two_pos) (mod-lt b two_pos)

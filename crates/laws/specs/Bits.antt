@@ -27,21 +27,21 @@ abbrev pub Bytes : List ℕ → Type 0
 Bytes bytes = (i : ℕ) → get_or bytes i 0 < 256
 
 -- the bits of a byte string: eight for each byte, the first byte's first
-unfoldable pub bitsOfBytes : List ℕ → List Bool
-bitsOfBytes [] = []
-bitsOfBytes (b ∷ bs) = bits_of 8 b ++ bitsOfBytes bs
+unfoldable pub bits_of_bytes : List ℕ → List Bool
+bits_of_bytes [] = []
+bits_of_bytes (b ∷ bs) = bits_of 8 b ++ bits_of_bytes bs
 
 -- a byte string after the number n, as one number: the first byte stands highest
-unfoldable pub numberFrom : ℕ → List ℕ → ℕ
-numberFrom n [] = n
-numberFrom n (b ∷ bs) = numberFrom (n * 256 + b) bs
+unfoldable pub number_from : ℕ → List ℕ → ℕ
+number_from n [] = n
+number_from n (b ∷ bs) = number_from (n * 256 + b) bs
 
 -- a byte string as one number
 unfoldable pub number_of : List ℕ → ℕ
-number_of bs = numberFrom 0 bs
+number_of bs = number_from 0 bs
 
 -- two strings of bits, of one length, added place by place
-unfoldable pub xorBits : List Bool → List Bool → List Bool
-xorBits [] cs = []
-xorBits (b ∷ bs) [] = []
-xorBits (b ∷ bs) (c ∷ cs) = xor b c ∷ xorBits bs cs
+unfoldable pub xor_bits : List Bool → List Bool → List Bool
+xor_bits [] cs = []
+xor_bits (b ∷ bs) [] = []
+xor_bits (b ∷ bs) (c ∷ cs) = xor b c ∷ xor_bits bs cs

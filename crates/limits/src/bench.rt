@@ -52,7 +52,7 @@ pub(crate) fn lay(list: Bytes, at: u64, count: u64, number: u64) -> Bytes {
 // The retention of both is locked.
 pub(crate) fn two() -> Bytes {
     let mut table = [0u8; ROOM];
-    bytes::put(
+    laying::put(
         &mut table,
         0,
         b"\x21\x22\x23\x24\x25\x26\x27\x28\x29\x2a\x2b\x2c\x2d\x2e\x2f\x30\x31\x32\x33\x34\x35\x36\x37\x38\

@@ -33,7 +33,7 @@ fn came_of(c: Case, by_clock: bool, before: Bytes, sent: Bytes) -> Came {
 fn copied(list: Bytes, at: usize, of_second: bool) -> Bytes {
     let mut all = list;
     if of_second {
-        bytes::put(
+        laying::put(
             &mut all,
             at,
             b"\x99\x9a\x9b\x9c\x9d\x9e\x9f\xa0\xa1\xa2\xa3\xa4\xa5\xa6\xa7\xa8\
@@ -41,7 +41,7 @@ fn copied(list: Bytes, at: usize, of_second: bool) -> Bytes {
         );
         return all;
     }
-    bytes::put(
+    laying::put(
         &mut all,
         at,
         b"\x2d\x2e\x2f\x30\x31\x32\x33\x34\x35\x36\x37\x38\x39\x3a\x3b\x3c\

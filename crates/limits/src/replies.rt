@@ -225,7 +225,7 @@ fn answered(row: u64, a: Bytes, b: Bytes, n: usize, k: usize) -> bool {
     let reply_a = &a[0..end_a];
     let reply_b = &b[0..end_b];
     let mut part = [0xeeu8; ROOM];
-    bytes::put(
+    laying::put(
         &mut part,
         0,
         ports::part_of(reply_a, reply_b, n, k, expected),

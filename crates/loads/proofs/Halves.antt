@@ -6,84 +6,84 @@ use mathlib.Core.Path.{◌≡◌, refl, sym, ap, ◌∙◌}
 use mathlib.Core.List.{List}
 use Prim.Native.Nat.{ℕ, ◌-◌}
 use lib.IntN.{ℤ}
-use Rattle.judging.specs.Table.{changedAt}
-use Rattle.judging.proofs.Changed.{changed-twice}
+use Rattle.judging.specs.Table.{changed_at}
+use Rattle.judging.proofs.Changed.{changed_twice}
 use Rattle.cells.specs.Cells.{store, compare, load}
 use Rattle.cells.proofs.Loaded.{length-store, length-compare}
 use Rattle.cells.proofs.Repeated.{store-store, compare-compare}
 use Rattle.loads.specs.declared.loads.Loaded.{Loaded}
 use Rattle.loads.specs.declared.loads.Loaded.TheVariants.{Unloaded, Done}
-use Rattle.loads.specs.Load.{stored, tableAfterStore, compared, tableAfterCompare, tableAfterLoad}
-use Rattle.loads.proofs.Judging.{as-stored, goes_on}
+use Rattle.loads.specs.Load.{stored, table_after_store, compared, table_after_compare, table_after_load}
+use Rattle.loads.proofs.Judging.{as_stored, goes_on}
 use Rattle.loads.proofs.Refused.{table-compared, table-stored, table-loaded}
-use Rattle.judging.proofs.Place.{Place, fits, kept-place}
-use Rattle.loads.proofs.Place.{done-place, compare-done, store-place, stored-passed}
+use Rattle.judging.proofs.Place.{Place, fits, kept_place}
+use Rattle.loads.proofs.Place.{done_place, compare-done, store_place, stored-passed}
 use Rattle.loads.proofs.Keeps.{store_keeps, compare-keeps}
 
 module _ (table : List ℕ) (position : ℕ) where
   -- ---- a store and a compare
 
   module _ (codes : List ℤ) (done : stored table position codes ≡ Done) where
-    its-place : Place table position
-    its-place = store-place table position codes (stored-passed table position codes done)
+    its_place : Place table position
+    its_place = store_place table position codes (stored-passed table position codes done)
 
-    pub compare-after-store : compared (tableAfterStore table position codes) position ≡ Done
+    pub compare-after-store : compared (table_after_store table position codes) position ≡ Done
     compare-after-store =
-        compare-done (tableAfterStore table position codes) position (kept-place position (store_keeps table position its-place.its-sound codes) its-place)
+        compare-done (table_after_store table position codes) position (kept_place position (store_keeps table position its_place.its-sound codes) its_place)
 
-    pub store-and-compare : tableAfterCompare (tableAfterStore table position codes) position ≡ tableAfterLoad table position codes
+    pub store_and_compare : table_after_compare (table_after_store table position codes) position ≡ table_after_load table position codes
     unfolding load
-    store-and-compare =
-        table-compared (tableAfterStore table position codes) position compare-after-store
-        ∙ ap (changedAt (position - 1) compare) (table-stored table position codes done)
-        ∙ changed-twice (position - 1) (store codes) (length-store codes) table (fits table position its-place) compare (load codes) (λ r l. refl)
-        ∙ sym (table-loaded table position codes (as-stored table position codes ∙ done))
+    store_and_compare =
+        table-compared (table_after_store table position codes) position compare-after-store
+        ∙ ap (changed_at (position - 1) compare) (table-stored table position codes done)
+        ∙ changed_twice (position - 1) (store codes) (length-store codes) table (fits table position its_place) compare (load codes) (λ r l. refl)
+        ∙ sym (table-loaded table position codes (as_stored table position codes ∙ done))
 
   -- ---- two stores, the first done or refused: the second is judged as if it were the only one, and counts
 
-  pub second-judged : (first second : List ℤ) → stored (tableAfterStore table position first) position second ≡ stored table position second
+  pub second-judged : (first second : List ℤ) → stored (table_after_store table position first) position second ≡ stored table position second
   second-judged first second = by (stored table position first) refl
     where
-      by : (l : Loaded) → stored table position first ≡ l → stored (tableAfterStore table position first) position second ≡ stored table position second
+      by : (l : Loaded) → stored table position first ≡ l → stored (table_after_store table position first) position second ≡ stored table position second
       by (Unloaded r) e = ap (λ (t : List ℕ). stored t position second) (table-stored table position first e)
       by Done e =
-          goes_on second (tableAfterStore table position first) position (compare-after-store first e)
-          ∙ sym (goes_on second table position (compare-done table position (its-place first e)))
+          goes_on second (table_after_store table position first) position (compare-after-store first e)
+          ∙ sym (goes_on second table position (compare-done table position (its_place first e)))
 
-  pub second-counts : (first second : List ℤ) → stored table position second ≡ Done
-      → tableAfterStore (tableAfterStore table position first) position second ≡ tableAfterStore table position second
-  second-counts first second done = by (stored table position first) refl
+  pub second_counts : (first second : List ℤ) → stored table position second ≡ Done
+      → table_after_store (table_after_store table position first) position second ≡ table_after_store table position second
+  second_counts first second done = by (stored table position first) refl
     where
       by : (l : Loaded) → stored table position first ≡ l
-          → tableAfterStore (tableAfterStore table position first) position second ≡ tableAfterStore table position second
-      by (Unloaded r) e = ap (λ (t : List ℕ). tableAfterStore t position second) (table-stored table position first e)
+          → table_after_store (table_after_store table position first) position second ≡ table_after_store table position second
+      by (Unloaded r) e = ap (λ (t : List ℕ). table_after_store t position second) (table-stored table position first e)
       by Done e =
-          table-stored (tableAfterStore table position first) position second (second-judged first second ∙ done)
-          ∙ ap (changedAt (position - 1) (store second)) (table-stored table position first e)
-          ∙ changed-twice (position - 1) (store first) (length-store first) table (fits table position (its-place first e)) (store second) (store second) (store-store first second)
+          table-stored (table_after_store table position first) position second (second-judged first second ∙ done)
+          ∙ ap (changed_at (position - 1) (store second)) (table-stored table position first e)
+          ∙ changed_twice (position - 1) (store first) (length-store first) table (fits table position (its_place first e)) (store second) (store second) (store-store first second)
           ∙ sym (table-stored table position second done)
 
   -- ---- two compares, done or refused
 
-  compare-stays-done : compared table position ≡ Done → compared (tableAfterCompare table position) position ≡ Done
-  compare-stays-done e =
-      let place = done-place table position e in
-      compare-done (tableAfterCompare table position) position (kept-place position (compare-keeps table position place.its-sound) place)
+  compare_stays_done : compared table position ≡ Done → compared (table_after_compare table position) position ≡ Done
+  compare_stays_done e =
+      let place = done_place table position e in
+      compare-done (table_after_compare table position) position (kept_place position (compare-keeps table position place.its-sound) place)
 
-  pub second-compared : compared (tableAfterCompare table position) position ≡ compared table position
+  pub second-compared : compared (table_after_compare table position) position ≡ compared table position
   second-compared = by (compared table position) refl
     where
-      by : (l : Loaded) → compared table position ≡ l → compared (tableAfterCompare table position) position ≡ compared table position
+      by : (l : Loaded) → compared table position ≡ l → compared (table_after_compare table position) position ≡ compared table position
       by (Unloaded r) e = ap (λ (t : List ℕ). compared t position) (table-compared table position e)
-      by Done e = compare-stays-done e ∙ sym e
+      by Done e = compare_stays_done e ∙ sym e
 
-  pub compare-again : tableAfterCompare (tableAfterCompare table position) position ≡ tableAfterCompare table position
-  compare-again = by (compared table position) refl
+  pub compare_again : table_after_compare (table_after_compare table position) position ≡ table_after_compare table position
+  compare_again = by (compared table position) refl
     where
-      by : (l : Loaded) → compared table position ≡ l → tableAfterCompare (tableAfterCompare table position) position ≡ tableAfterCompare table position
-      by (Unloaded r) e = ap (λ (t : List ℕ). tableAfterCompare t position) (table-compared table position e)
+      by : (l : Loaded) → compared table position ≡ l → table_after_compare (table_after_compare table position) position ≡ table_after_compare table position
+      by (Unloaded r) e = ap (λ (t : List ℕ). table_after_compare t position) (table-compared table position e)
       by Done e =
-          table-compared (tableAfterCompare table position) position (compare-stays-done e)
-          ∙ ap (changedAt (position - 1) compare) (table-compared table position e)
-          ∙ changed-twice (position - 1) compare length-compare table (fits table position (done-place table position e)) compare compare compare-compare
+          table-compared (table_after_compare table position) position (compare_stays_done e)
+          ∙ ap (changed_at (position - 1) compare) (table-compared table position e)
+          ∙ changed_twice (position - 1) compare length-compare table (fits table position (done_place table position e)) compare compare compare-compare
           ∙ sym (table-compared table position e)

@@ -7,49 +7,49 @@ use lib.IntN.{ℤ}
 use lib.ListN.{length}
 use borrow.Author.Tests.{eqb-true, not-false}
 use Rattle.refusals.specs.Order.{Passed}
-use Rattle.refusals.proofs.Deciding.{has-passed}
-use Rattle.records.specs.Record.{recordSize, cellCount}
-use Rattle.records.specs.Commands.{mostMonitors}
-use Rattle.judging.specs.Places.{placeRefusals}
-use Rattle.judging.proofs.Place.{by_place, Place, place, is-placed, few, fits}
+use Rattle.refusals.proofs.Deciding.{has_passed}
+use Rattle.records.specs.Record.{record_size, cell_count}
+use Rattle.records.specs.Commands.{most_monitors}
+use Rattle.judging.specs.Places.{place_refusals}
+use Rattle.judging.proofs.Place.{by_place, Place, place, is_placed, few, fits}
 use Rattle.loads.specs.declared.loads.Loaded.TheVariants.{Unloaded, Done}
-use Rattle.loads.specs.Load.{storeRefusals, stored, compareRefusals, compared}
+use Rattle.loads.specs.Load.{store_refusals, stored, compare_refusals, compared}
 use Rattle.loads.proofs.Judging.{done-apart, compared-placed}
 
 module _ (table : List ℕ) (position : ℕ) where
-  pub compare-place : Passed (compareRefusals table position) → Place table position
-  unfolding compareRefusals placeRefusals
-  compare-place none = place table position none
+  pub compare_place : Passed (compare_refusals table position) → Place table position
+  unfolding compare_refusals place_refusals
+  compare_place none = place table position none
 
-  pub done-place : compared table position ≡ Done → Place table position
+  pub done_place : compared table position ≡ Done → Place table position
   unfolding compared
-  done-place e = compare-place (has-passed (compareRefusals table position) Unloaded Done Done done-apart e)
+  done_place e = compare_place (has_passed (compare_refusals table position) Unloaded Done Done done-apart e)
 
   pub compare-done : Place table position → compared table position ≡ Done
-  compare-done p = compared-placed table position ∙ ap (by_place Unloaded Done) (is-placed table position p)
+  compare-done p = compared-placed table position ∙ ap (by_place Unloaded Done) (is_placed table position p)
 
   -- ---- a store has it too, and sixteen codes
 
   module _ (codes : List ℤ) where
-    both-passed : Passed (storeRefusals table position codes) → Passed (compareRefusals table position)
-    unfolding storeRefusals compareRefusals
-    both-passed none = (none.0, (none.1.0, tt))
+    both_passed : Passed (store_refusals table position codes) → Passed (compare_refusals table position)
+    unfolding store_refusals compare_refusals
+    both_passed none = (none.0, (none.1.0, tt))
 
-    pub sixteen : Passed (storeRefusals table position codes) → length codes ≡ cellCount
-    unfolding storeRefusals
+    pub sixteen : Passed (store_refusals table position codes) → length codes ≡ cell_count
+    unfolding store_refusals
     sixteen none = eqb-true _ _ (not-false _ none.1.1.0)
 
-    pub store-place : Passed (storeRefusals table position codes) → Place table position
-    store-place none = compare-place (both-passed none)
+    pub store_place : Passed (store_refusals table position codes) → Place table position
+    store_place none = compare_place (both_passed none)
 
-    pub stored-passed : stored table position codes ≡ Done → Passed (storeRefusals table position codes)
+    pub stored-passed : stored table position codes ≡ Done → Passed (store_refusals table position codes)
     unfolding stored
-    stored-passed e = has-passed (storeRefusals table position codes) Unloaded Done Done done-apart e
+    stored-passed e = has_passed (store_refusals table position codes) Unloaded Done Done done-apart e
 
     -- what is needed to store in the record
     pub stored-first : stored table position codes ≡ Done → 1 ≤ position
-    stored-first e = (store-place (stored-passed e)).first
+    stored-first e = (store_place (stored-passed e)).first
 
-    pub stored-ready : stored table position codes ≡ Done
-        → (position - 1 < mostMonitors) × ((position - 1) * recordSize + recordSize ≤ length table) × (length codes ≡ cellCount)
-    stored-ready e = let p = store-place (stored-passed e) in (few table position p, fits table position p, sixteen (stored-passed e))
+    pub stored_ready : stored table position codes ≡ Done
+        → (position - 1 < most_monitors) × ((position - 1) * record_size + record_size ≤ length table) × (length codes ≡ cell_count)
+    stored_ready e = let p = store_place (stored-passed e) in (few table position p, fits table position p, sixteen (stored-passed e))

@@ -8,11 +8,11 @@ use lib.IntN.{ℤ}
 use Rattle.refusals.specs.declared.Refusal.{Refusal}
 use Rattle.refusals.specs.Order.{Row, decide}
 use Rattle.refusals.proofs.Deciding.{decide-map}
-use Rattle.judging.specs.Table.{changedAt}
+use Rattle.judging.specs.Table.{changed_at}
 use Rattle.cells.specs.Cells.{store, compare, load}
 use Rattle.loads.specs.declared.loads.Loaded.{Loaded}
 use Rattle.loads.specs.declared.loads.Loaded.TheVariants.{Unloaded, Done}
-use Rattle.loads.specs.Load.{storeRefusals, stored, tableAfterStore, compareRefusals, compared, tableAfterCompare, loadRefusals, loaded, tableAfterLoad}
+use Rattle.loads.specs.Load.{store_refusals, stored, table_after_store, compare_refusals, compared, table_after_compare, load_refusals, loaded, table_after_load}
 
 -- the table, by the outcome
 abbrev pub left : List ℕ → List ℕ → Loaded → List ℕ
@@ -23,26 +23,26 @@ by-outcome : (rows : List Row) (table changed : List ℕ) {l : Loaded} → decid
 by-outcome rows table changed e = sym (decide-map (left table changed) rows Unloaded Done) ∙ ap (left table changed) e
 
 module _ (table : List ℕ) (position : ℕ) where
-  pub table-compared : {l : Loaded} → compared table position ≡ l → tableAfterCompare table position ≡ left table (changedAt (position - 1) compare table) l
-  unfolding compared tableAfterCompare
-  table-compared e = by-outcome (compareRefusals table position) table (changedAt (position - 1) compare table) e
+  pub table-compared : {l : Loaded} → compared table position ≡ l → table_after_compare table position ≡ left table (changed_at (position - 1) compare table) l
+  unfolding compared table_after_compare
+  table-compared e = by-outcome (compare_refusals table position) table (changed_at (position - 1) compare table) e
 
-  pub refused-compare : (r : Refusal) → compared table position ≡ Unloaded r → tableAfterCompare table position ≡ table
+  pub refused-compare : (r : Refusal) → compared table position ≡ Unloaded r → table_after_compare table position ≡ table
   refused-compare r e = table-compared e
 
   module _ (codes : List ℤ) where
     pub table-stored : {l : Loaded} → stored table position codes ≡ l
-        → tableAfterStore table position codes ≡ left table (changedAt (position - 1) (store codes) table) l
-    unfolding stored tableAfterStore
-    table-stored e = by-outcome (storeRefusals table position codes) table (changedAt (position - 1) (store codes) table) e
+        → table_after_store table position codes ≡ left table (changed_at (position - 1) (store codes) table) l
+    unfolding stored table_after_store
+    table-stored e = by-outcome (store_refusals table position codes) table (changed_at (position - 1) (store codes) table) e
 
-    pub refused-store : (r : Refusal) → stored table position codes ≡ Unloaded r → tableAfterStore table position codes ≡ table
+    pub refused-store : (r : Refusal) → stored table position codes ≡ Unloaded r → table_after_store table position codes ≡ table
     refused-store r e = table-stored e
 
     pub table-loaded : {l : Loaded} → loaded table position codes ≡ l
-        → tableAfterLoad table position codes ≡ left table (changedAt (position - 1) (load codes) table) l
-    unfolding loaded tableAfterLoad
-    table-loaded e = by-outcome (loadRefusals table position codes) table (changedAt (position - 1) (load codes) table) e
+        → table_after_load table position codes ≡ left table (changed_at (position - 1) (load codes) table) l
+    unfolding loaded table_after_load
+    table-loaded e = by-outcome (load_refusals table position codes) table (changed_at (position - 1) (load codes) table) e
 
-    pub refused-load : (r : Refusal) → loaded table position codes ≡ Unloaded r → tableAfterLoad table position codes ≡ table
+    pub refused-load : (r : Refusal) → loaded table position codes ≡ Unloaded r → table_after_load table position codes ≡ table
     refused-load r e = table-loaded e

@@ -5,52 +5,52 @@ use Rattle.std.specs.Prelude.{not, List, [], ◌∷◌, ℕ, ◌-◌, eqb, ℤ, 
 use Rattle.laws.specs.Counts.{all}
 use Rattle.refusals.specs.declared.Refusal.TheVariants.{CountWrong, CodeCleared}
 use Rattle.refusals.specs.Order.{Row, ◌gives◌, decide}
-use Rattle.records.specs.Record.{cellCount}
-use Rattle.judging.specs.Table.{changedAt}
-use Rattle.judging.specs.Refusals.{tableRow, positionRow}
+use Rattle.records.specs.Record.{cell_count}
+use Rattle.judging.specs.Table.{changed_at}
+use Rattle.judging.specs.Refusals.{table_row, position_row}
 use Rattle.loads.specs.declared.loads.Loaded.{Loaded}
 use Rattle.loads.specs.declared.loads.Loaded.TheVariants.{Unloaded, Done}
-use Rattle.cells.specs.Cells.{isCleared, store, compare, load}
+use Rattle.cells.specs.Cells.{is_cleared, store, compare, load}
 
 -- ---- the refusals, each by what it asks of, after 1 and 7, of the table and of the position
 
 -- 8: of how many codes
-abbrev pub countRow : List ℤ → Row
-countRow codes = not (eqb (length codes) cellCount) gives CountWrong
+abbrev pub count_row : List ℤ → Row
+count_row codes = not (eqb (length codes) cell_count) gives CountWrong
 
 -- 9: of the codes
-abbrev pub clearedRow : List ℤ → Row
-clearedRow codes = not (all (λ code. not (isCleared code)) codes) gives CodeCleared
+abbrev pub cleared_row : List ℤ → Row
+cleared_row codes = not (all (λ code. not (is_cleared code)) codes) gives CodeCleared
 
 -- ---- store
 
-unfoldable pub storeRefusals : List ℕ → ℕ → List ℤ → List Row
-storeRefusals table position codes = tableRow table ∷ positionRow table position ∷ countRow codes ∷ clearedRow codes ∷ []
+unfoldable pub store_refusals : List ℕ → ℕ → List ℤ → List Row
+store_refusals table position codes = table_row table ∷ position_row table position ∷ count_row codes ∷ cleared_row codes ∷ []
 
 unfoldable pub stored : List ℕ → ℕ → List ℤ → Loaded
-stored table position codes = decide (storeRefusals table position codes) Unloaded Done
+stored table position codes = decide (store_refusals table position codes) Unloaded Done
 
-unfoldable pub tableAfterStore : List ℕ → ℕ → List ℤ → List ℕ
-tableAfterStore table position codes = decide (storeRefusals table position codes) (λ n. table) (changedAt (position - 1) (store codes) table)
+unfoldable pub table_after_store : List ℕ → ℕ → List ℤ → List ℕ
+table_after_store table position codes = decide (store_refusals table position codes) (λ n. table) (changed_at (position - 1) (store codes) table)
 
 -- ---- compare
 
-unfoldable pub compareRefusals : List ℕ → ℕ → List Row
-compareRefusals table position = tableRow table ∷ positionRow table position ∷ []
+unfoldable pub compare_refusals : List ℕ → ℕ → List Row
+compare_refusals table position = table_row table ∷ position_row table position ∷ []
 
 unfoldable pub compared : List ℕ → ℕ → Loaded
-compared table position = decide (compareRefusals table position) Unloaded Done
+compared table position = decide (compare_refusals table position) Unloaded Done
 
-unfoldable pub tableAfterCompare : List ℕ → ℕ → List ℕ
-tableAfterCompare table position = decide (compareRefusals table position) (λ n. table) (changedAt (position - 1) compare table)
+unfoldable pub table_after_compare : List ℕ → ℕ → List ℕ
+table_after_compare table position = decide (compare_refusals table position) (λ n. table) (changed_at (position - 1) compare table)
 
 -- ---- load
 
-unfoldable pub loadRefusals : List ℕ → ℕ → List ℤ → List Row
-loadRefusals table position codes = tableRow table ∷ positionRow table position ∷ countRow codes ∷ clearedRow codes ∷ []
+unfoldable pub load_refusals : List ℕ → ℕ → List ℤ → List Row
+load_refusals table position codes = table_row table ∷ position_row table position ∷ count_row codes ∷ cleared_row codes ∷ []
 
 unfoldable pub loaded : List ℕ → ℕ → List ℤ → Loaded
-loaded table position codes = decide (loadRefusals table position codes) Unloaded Done
+loaded table position codes = decide (load_refusals table position codes) Unloaded Done
 
-unfoldable pub tableAfterLoad : List ℕ → ℕ → List ℤ → List ℕ
-tableAfterLoad table position codes = decide (loadRefusals table position codes) (λ n. table) (changedAt (position - 1) (load codes) table)
+unfoldable pub table_after_load : List ℕ → ℕ → List ℤ → List ℕ
+table_after_load table position codes = decide (load_refusals table position codes) (λ n. table) (changed_at (position - 1) (load codes) table)

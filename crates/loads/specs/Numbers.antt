@@ -5,6 +5,6 @@ use Rattle.refusals.specs.Numbers.{number_of}
 use Rattle.loads.specs.declared.loads.Loaded.{Loaded}
 use Rattle.loads.specs.declared.loads.Loaded.TheVariants.{Unloaded, Done}
 
-abbrev pub loadNumber : Loaded → ℕ
-loadNumber (Unloaded r) = number_of r
-loadNumber Done = 0
+abbrev pub load_number : Loaded → ℕ
+load_number (Unloaded r) = number_of r
+load_number Done = 0

@@ -1,7 +1,7 @@
 // The refusals of a store, a compare and a load, in the paper's order.
 ghost use Rattle.std.specs.Prelude.{◌≡◌, not};
 ghost use Rattle.laws.specs.Counts.{all};
-ghost use Rattle.cells.specs.Cells.{isCleared};
+ghost use Rattle.cells.specs.Cells.{is_cleared};
 ghost use Rattle.loads.specs.Load.{stored, compared};
 
 use crate::loads::Loaded;
@@ -14,7 +14,7 @@ const CLEARED: i16 = -32768;
 
 // Is one of the codes that of a cleared cell?
 fn any_cleared(codes: &[i16]) -> bool
-    ensures { result ≡ not (all (λ code. not (isCleared code)) codes.now) }
+    ensures { result ≡ not (all (λ code. not (is_cleared code)) codes.now) }
 {
     let mut i = 0;
     while i < codes.len() {

@@ -10,23 +10,23 @@ use lib.Signed.{mag}
 use mir.Syntax.{w32, w64}
 use mir.Val.{SFits, bool_byte}
 
-mag-sub : (a b : ℕ) → mag (sub_ℕ a b) ≤ a + b
-mag-sub a b = by (ltb a b)
+mag_sub : (a b : ℕ) → mag (sub_ℕ a b) ≤ a + b
+mag_sub a b = by (ltb a b)
   where
     by : (less : Bool) → mag (cond less (negsuc (b - suc a)) (pos (a - b))) ≤ a + b
     by true = omega arith
     by false = omega arith
 
-mag-difference : (x y : ℤ) → mag (x -ℤ y) ≤ mag x + mag y + 2
-mag-difference (pos a) (pos zero) = omega arith
-mag-difference (pos a) (pos (suc b)) = omega (arith, mag-sub a (suc b))
-mag-difference (pos a) (negsuc b) = omega arith
-mag-difference (negsuc a) (pos zero) = omega (arith, mag-sub 0 (suc a))
-mag-difference (negsuc a) (pos (suc b)) = omega arith
-mag-difference (negsuc a) (negsuc b) = omega (arith, mag-sub (suc b) (suc a))
+mag_difference : (x y : ℤ) → mag (x -ℤ y) ≤ mag x + mag y + 2
+mag_difference (pos a) (pos zero) = omega arith
+mag_difference (pos a) (pos (suc b)) = omega (arith, mag_sub a (suc b))
+mag_difference (pos a) (negsuc b) = omega arith
+mag_difference (negsuc a) (pos zero) = omega (arith, mag_sub 0 (suc a))
+mag_difference (negsuc a) (pos (suc b)) = omega arith
+mag_difference (negsuc a) (negsuc b) = omega (arith, mag_sub (suc b) (suc a))
 
-pub difference-fits : (x y : ℤ) → SFits w32 x → SFits w32 y → SFits w64 (x -ℤ y)
-difference-fits x y f g = omega (arith, mag-difference x y)
+pub difference_fits : (x y : ℤ) → SFits w32 x → SFits w32 y → SFits w64 (x -ℤ y)
+difference_fits x y f g = omega (arith, mag_difference x y)
 
 pub four-kinds : (a b c d : Bool) → bool_byte a + bool_byte b * 2 + bool_byte c * 4 + bool_byte d * 8 ≡ cond a 0x01 0 + cond b 0x02 0 + cond c 0x04 0 + cond d 0x08 0
 four-kinds true true true true = refl

@@ -1,8 +1,8 @@
 // One monitor's measurement in LPCM: what its cells violate, and what its record then is.
 ghost use Rattle.std.specs.Prelude.{◌≡◌, cond, ◌&&◌, ◌*◌, pos};
-ghost use Rattle.records.specs.Record.{cellCount, cells, lastCells, isRecord};
+ghost use Rattle.records.specs.Record.{cell_count, cells, last_cells, is_record};
 ghost use Rattle.cells.specs.Cells.{code_in};
-ghost use Rattle.measuring.specs.Measuring.{cdv, masked, kinds, kindsIn, pending, found, measured, passes};
+ghost use Rattle.measuring.specs.Measuring.{cdv, masked, kinds, kinds_in, pending, found, measured, passes};
 
 use cells::code_in;
 use monitor::remember;
@@ -44,7 +44,7 @@ fn kinds(code: ResultCode, last: ResultCode, low: ResultCode, high: ResultCode, 
 
 // Those of a cell: none where it is left out.
 fn kinds_of(rec: &[u8], c: usize, low: ResultCode, high: ResultCode, step: i64) -> u8
-    ensures { result ≡ cond (masked rec.now c) 0 (kinds (code_in cells rec.now c).0 (code_in lastCells rec.now c).0 low.0 high.0 step) }
+    ensures { result ≡ cond (masked rec.now c) 0 (kinds (code_in cells rec.now c).0 (code_in last_cells rec.now c).0 low.0 high.0 step) }
 {
     if is_masked(rec, c) {
         return 0;
@@ -60,7 +60,7 @@ fn kinds_of(rec: &[u8], c: usize, low: ResultCode, high: ResultCode, step: i64) 
 
 // Those of all cells.
 fn kinds_in(rec: &[u8]) -> u8
-    ensures { result ≡ kindsIn rec.now cellCount }
+    ensures { result ≡ kinds_in rec.now cell_count }
 {
     let low = codes_of(lower_threshold(rec, RDCMCELLT));
     let high = codes_of(upper_threshold(rec, RDCMCELLT));
@@ -96,8 +96,8 @@ fn found(rec: &[u8]) -> u8
 // Measures: what is found joins CMF0, and the cells become the last measurement. The answer is whether the monitor passes. A slice that is no
 // record stays as it is, and the answer is false.
 pub fn measure(rec: &mut [u8]) -> bool
-    ensures value { result ≡ (isRecord rec.old && passes rec.old) }
-    ensures rec_after { rec.new ≡ cond (isRecord rec.old) (measured rec.old) rec.old }
+    ensures value { result ≡ (is_record rec.old && passes rec.old) }
+    ensures rec_after { rec.new ≡ cond (is_record rec.old) (measured rec.old) rec.old }
 {
     if rec.len() != RECORD_SIZE {
         return false;

@@ -7,14 +7,14 @@ use Prim.Native.Nat.{ℕ}
 use lib.Dec.{eqb}
 use lib.ListN.{length, take, get_or}
 use native.Mathlib.Omega.{arith}
-use Rattle.laws.specs.Bits.{◌⊕◌, odd, bits_of, bitsOfBytes}
+use Rattle.laws.specs.Bits.{◌⊕◌, odd, bits_of, bits_of_bytes}
 use Rattle.laws.specs.Counts.{same}
 use Rattle.pec.specs.Remainder.{once, step, remainder}
-use Rattle.pec.specs.Words.{twoBytes, pec15, commandCheck}
-use Rattle.messages.specs.Messages.{messageHead}
+use Rattle.pec.specs.Words.{two_bytes, pec15, command_check}
+use Rattle.messages.specs.Messages.{message_head}
 
-pub head : messageHead ≡ 0x00 ∷ 0x43 ∷ 0x47 ∷ 0xB2 ∷ []
-unfolding messageHead twoBytes commandCheck pec15 remainder step once bitsOfBytes bits_of odd ◌⊕◌ xor
+pub head : message_head ≡ 0x00 ∷ 0x43 ∷ 0x47 ∷ 0xB2 ∷ []
+unfolding message_head two_bytes command_check pec15 remainder step once bits_of_bytes bits_of odd ◌⊕◌ xor
 head = refl
 
 last-true : (b : Bool) → b && true ≡ b
@@ -22,7 +22,7 @@ last-true true = refl
 last-true false = refl
 
 -- the test of four bytes, one by one
-pub four-tests : (a b c d : ℕ) → same (a ∷ b ∷ c ∷ d ∷ []) messageHead ≡ eqb a 0x00 && (eqb b 0x43 && (eqb c 0x47 && eqb d 0xB2))
+pub four-tests : (a b c d : ℕ) → same (a ∷ b ∷ c ∷ d ∷ []) message_head ≡ eqb a 0x00 && (eqb b 0x43 && (eqb c 0x47 && eqb d 0xB2))
 unfolding same
 four-tests a b c d =
     ap (same (a ∷ b ∷ c ∷ d ∷ [])) head ∙ ap (λ (t : Bool). eqb a 0x00 && (eqb b 0x43 && (eqb c 0x47 && t))) (last-true (eqb d 0xB2))

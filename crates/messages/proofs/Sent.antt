@@ -8,36 +8,36 @@ use lib.Dec.{eqb}
 use lib.ListN.{length, take, drop}
 use borrow.Author.Tests.{eq-eqb, eqb-true}
 use Rattle.laws.specs.Counts.{same}
-use Rattle.laws.proofs.Same.{are-same, same-are}
-use Rattle.laws.proofs.Tests.{both_first, both-second}
-use Rattle.pec.specs.Words.{twoBytes, seal, sealedRight}
+use Rattle.laws.proofs.Same.{are_same, same_are}
+use Rattle.laws.proofs.Tests.{both_first, both_second}
+use Rattle.pec.specs.Words.{two_bytes, seal, sealed_right}
 use Rattle.pec.proofs.CheckWords.{own-right}
-use Rattle.messages.specs.Messages.{messageHead, messageSize, message, countIn, flagsIn, messageRight}
+use Rattle.messages.specs.Messages.{message_head, message_size, message, count_in, flags_in, message_right}
 use Rattle.messages.proofs.Heads.{head}
 
 -- ---- a right message's parts
 
 module _ (bytes : List ℕ) where
-  pub right-long : messageRight bytes ≡ true → length bytes ≡ messageSize
-  unfolding messageRight
+  pub right-long : message_right bytes ≡ true → length bytes ≡ message_size
+  unfolding message_right
   right-long h =
-      let tests = both_first (eqb (length bytes) messageSize && same (take 4 bytes) messageHead) (sealedRight 2 (drop 4 bytes)) h in
-      eqb-true (length bytes) messageSize (both_first (eqb (length bytes) messageSize) (same (take 4 bytes) messageHead) tests)
+      let tests = both_first (eqb (length bytes) message_size && same (take 4 bytes) message_head) (sealed_right 2 (drop 4 bytes)) h in
+      eqb-true (length bytes) message_size (both_first (eqb (length bytes) message_size) (same (take 4 bytes) message_head) tests)
 
-  pub right-head : messageRight bytes ≡ true → take 4 bytes ≡ messageHead
-  unfolding messageRight
+  pub right-head : message_right bytes ≡ true → take 4 bytes ≡ message_head
+  unfolding message_right
   right-head h =
-      let tests = both_first (eqb (length bytes) messageSize && same (take 4 bytes) messageHead) (sealedRight 2 (drop 4 bytes)) h in
-      same-are (take 4 bytes) messageHead (both-second (eqb (length bytes) messageSize) (same (take 4 bytes) messageHead) tests)
+      let tests = both_first (eqb (length bytes) message_size && same (take 4 bytes) message_head) (sealed_right 2 (drop 4 bytes)) h in
+      same_are (take 4 bytes) message_head (both_second (eqb (length bytes) message_size) (same (take 4 bytes) message_head) tests)
 
-  pub right-own : messageRight bytes ≡ true → sealedRight 2 (drop 4 bytes) ≡ true
-  unfolding messageRight
-  right-own h = both-second (eqb (length bytes) messageSize && same (take 4 bytes) messageHead) (sealedRight 2 (drop 4 bytes)) h
+  pub right-own : message_right bytes ≡ true → sealed_right 2 (drop 4 bytes) ≡ true
+  unfolding message_right
+  right-own h = both_second (eqb (length bytes) message_size && same (take 4 bytes) message_head) (sealed_right 2 (drop 4 bytes)) h
 
   -- and it is right where they are
-  pub right-of-parts : length bytes ≡ messageSize → take 4 bytes ≡ messageHead → sealedRight 2 (drop 4 bytes) ≡ true → messageRight bytes ≡ true
-  unfolding messageRight
-  right-of-parts e h s = ap₂ ◌&&◌ (ap₂ ◌&&◌ (eq-eqb (length bytes) messageSize e) (are-same h)) s
+  pub right_of_parts : length bytes ≡ message_size → take 4 bytes ≡ message_head → sealed_right 2 (drop 4 bytes) ≡ true → message_right bytes ≡ true
+  unfolding message_right
+  right_of_parts e h s = ap₂ ◌&&◌ (ap₂ ◌&&◌ (eq-eqb (length bytes) message_size e) (are_same h)) s
 
 -- ---- one that is sent
 
@@ -49,19 +49,19 @@ module _ (count flags : ℕ) where
   unfolding message
   message-bytes = ap (λ (l : List ℕ). l ++ (count ∷ flags ∷ []) ++ seal (count ∷ flags ∷ []) 0) head
 
-  pub message-long : length (message count flags) ≡ messageSize
-  unfolding seal twoBytes
+  pub message-long : length (message count flags) ≡ message_size
+  unfolding seal two_bytes
   message-long = ap length message-bytes
 
-  pub message-right : messageRight (message count flags) ≡ true
+  pub message-right : message_right (message count flags) ≡ true
   message-right =
-      right-of-parts (message count flags) message-long (ap (take 4) message-bytes ∙ sym head)
-      (ap (λ (l : List ℕ). sealedRight 2 (drop 4 l)) message-bytes ∙ own-right (count ∷ flags ∷ []) 0 2 refl)
+      right_of_parts (message count flags) message-long (ap (take 4) message-bytes ∙ sym head)
+      (ap (λ (l : List ℕ). sealed_right 2 (drop 4 l)) message-bytes ∙ own-right (count ∷ flags ∷ []) 0 2 refl)
 
-  pub message-count : countIn (message count flags) ≡ count
-  unfolding countIn
-  message-count = ap countIn message-bytes
+  pub message-count : count_in (message count flags) ≡ count
+  unfolding count_in
+  message-count = ap count_in message-bytes
 
-  pub message-flags : flagsIn (message count flags) ≡ flags
-  unfolding flagsIn
-  message-flags = ap flagsIn message-bytes
+  pub message-flags : flags_in (message count flags) ≡ flags
+  unfolding flags_in
+  message-flags = ap flags_in message-bytes

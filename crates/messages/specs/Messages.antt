@@ -2,36 +2,36 @@
 -- Assumes nothing.
 use Rattle.std.specs.Prelude.{Bool, ◌&&◌, List, [], ◌∷◌, ◌++◌, ℕ, eqb, length, take, drop, get_or}
 use Rattle.laws.specs.Counts.{same}
-use Rattle.pec.specs.Words.{twoBytes, commandCheck, seal, sealedRight}
+use Rattle.pec.specs.Words.{two_bytes, command_check, seal, sealed_right}
 
 -- the code that the monitors send, CMHB, and its check: 00 43 47 B2
 abbrev pub cmhb : ℕ
 cmhb = 0x0043
 
-unfoldable pub messageHead : List ℕ
-messageHead = twoBytes cmhb ++ commandCheck cmhb
+unfoldable pub message_head : List ℕ
+message_head = two_bytes cmhb ++ command_check cmhb
 
 -- the bytes of a message: its head, the count, the flags, and the two that seal these
-abbrev pub messageSize : ℕ
-messageSize = 8
+abbrev pub message_size : ℕ
+message_size = 8
 
 -- as it is sent, with the counter 0
 unfoldable pub message : ℕ → ℕ → List ℕ
-message count flags = messageHead ++ (count ∷ flags ∷ []) ++ seal (count ∷ flags ∷ []) 0
+message count flags = message_head ++ (count ∷ flags ∷ []) ++ seal (count ∷ flags ∷ []) 0
 
-unfoldable pub countIn : List ℕ → ℕ
-countIn bytes = get_or bytes 4 0
+unfoldable pub count_in : List ℕ → ℕ
+count_in bytes = get_or bytes 4 0
 
-unfoldable pub flagsIn : List ℕ → ℕ
-flagsIn bytes = get_or bytes 5 0
+unfoldable pub flags_in : List ℕ → ℕ
+flags_in bytes = get_or bytes 5 0
 
 -- it is right: eight bytes, in command, command check and data check, over the six counter bits as they stand
-unfoldable pub messageRight : List ℕ → Bool
-messageRight bytes = eqb (length bytes) messageSize && same (take 4 bytes) messageHead && sealedRight 2 (drop 4 bytes)
+unfoldable pub message_right : List ℕ → Bool
+message_right bytes = eqb (length bytes) message_size && same (take 4 bytes) message_head && sealed_right 2 (drop 4 bytes)
 
 -- the final pass value: the count 42 (hex), to which all that passed have counted it down, and no flag
-abbrev pub passCount : ℕ
-passCount = 0x42
+abbrev pub pass_count : ℕ
+pass_count = 0x42
 
-unfoldable pub isPass : ℕ → ℕ → Bool
-isPass count flags = eqb count passCount && eqb flags 0
+unfoldable pub is_pass : ℕ → ℕ → Bool
+is_pass count flags = eqb count pass_count && eqb flags 0

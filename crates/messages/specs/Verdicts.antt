@@ -6,25 +6,25 @@ use Rattle.refusals.specs.declared.Refusal.TheVariants.{LengthWrong}
 use Rattle.refusals.specs.Order.{Row, ◌gives◌, decide}
 use Rattle.messages.specs.declared.verdicts.Verdict.{Verdict}
 use Rattle.messages.specs.declared.verdicts.Verdict.TheVariants.{Refused, Passed, Failed, Damaged, TimedOut}
-use Rattle.messages.specs.Messages.{messageSize, countIn, flagsIn, messageRight, passCount, isPass}
+use Rattle.messages.specs.Messages.{message_size, count_in, flags_in, message_right, pass_count, is_pass}
 
-unfoldable pub verdictRefusals : List ℕ → Bool → List Row
-verdictRefusals bytes ranOut = (not (eqb (length bytes) messageSize || (ranOut && eqb (length bytes) 0)) gives LengthWrong) ∷ []
+unfoldable pub verdict_refusals : List ℕ → Bool → List Row
+verdict_refusals bytes ran_out = (not (eqb (length bytes) message_size || (ran_out && eqb (length bytes) 0)) gives LengthWrong) ∷ []
 
 -- the time that ran out goes before all, and damage before what a message says
-unfoldable pub verdictOf : List ℕ → Bool → Verdict
-verdictOf bytes ranOut =
-    cond ranOut TimedOut
-    (cond (not (messageRight bytes)) Damaged (cond (isPass (countIn bytes) (flagsIn bytes)) Passed (Failed (countIn bytes) (flagsIn bytes))))
+unfoldable pub verdict_of : List ℕ → Bool → Verdict
+verdict_of bytes ran_out =
+    cond ran_out TimedOut
+    (cond (not (message_right bytes)) Damaged (cond (is_pass (count_in bytes) (flags_in bytes)) Passed (Failed (count_in bytes) (flags_in bytes))))
 
 unfoldable pub verdict : List ℕ → Bool → Verdict
-verdict bytes ranOut = decide (verdictRefusals bytes ranOut) Refused (verdictOf bytes ranOut)
+verdict bytes ran_out = decide (verdict_refusals bytes ran_out) Refused (verdict_of bytes ran_out)
 
 -- what each verdict says of the bytes and the time, in words that do not go by the order of the tests
 abbrev pub Says : List ℕ → Bool → Verdict → Type 0
-Says bytes ranOut (Refused r) = (r ≡ LengthWrong) × (length bytes ≡ messageSize → ⊥) × ((ranOut ≡ true) × (length bytes ≡ 0) → ⊥)
-Says bytes ranOut Passed = (ranOut ≡ false) × (messageRight bytes ≡ true) × (countIn bytes ≡ passCount) × (flagsIn bytes ≡ 0)
-Says bytes ranOut (Failed c f) =
-    (ranOut ≡ false) × (messageRight bytes ≡ true) × (countIn bytes ≡ c) × (flagsIn bytes ≡ f) × ((c ≡ passCount) × (f ≡ 0) → ⊥)
-Says bytes ranOut Damaged = (ranOut ≡ false) × (length bytes ≡ messageSize) × (messageRight bytes ≡ false)
-Says bytes ranOut TimedOut = (ranOut ≡ true) × ((length bytes ≡ messageSize) ⊎ (length bytes ≡ 0))
+Says bytes ran_out (Refused r) = (r ≡ LengthWrong) × (length bytes ≡ message_size → ⊥) × ((ran_out ≡ true) × (length bytes ≡ 0) → ⊥)
+Says bytes ran_out Passed = (ran_out ≡ false) × (message_right bytes ≡ true) × (count_in bytes ≡ pass_count) × (flags_in bytes ≡ 0)
+Says bytes ran_out (Failed c f) =
+    (ran_out ≡ false) × (message_right bytes ≡ true) × (count_in bytes ≡ c) × (flags_in bytes ≡ f) × ((c ≡ pass_count) × (f ≡ 0) → ⊥)
+Says bytes ran_out Damaged = (ran_out ≡ false) × (length bytes ≡ message_size) × (message_right bytes ≡ false)
+Says bytes ran_out TimedOut = (ran_out ≡ true) × ((length bytes ≡ message_size) ⊎ (length bytes ≡ 0))

@@ -1,7 +1,7 @@
 // A heartbeat's eight bytes: the monitors' command, the count, the flags, and the two that seal these.
 ghost use Rattle.std.specs.Prelude.{◌≡◌, [], ◌∷◌};
 ghost use Rattle.laws.specs.Counts.{same};
-ghost use Rattle.messages.specs.Messages.{messageHead, message, messageRight};
+ghost use Rattle.messages.specs.Messages.{message_head, message, message_right};
 
 use check_words::{four_right, sealed_two};
 
@@ -22,7 +22,7 @@ pub fn message(count: u8, flags: u8) -> [u8; 8]
 
 // Are four bytes this head?
 fn head_right(a: u8, b: u8, c: u8, d: u8) -> bool
-    ensures { result ≡ same (a ∷ b ∷ c ∷ d ∷ []) messageHead }
+    ensures { result ≡ same (a ∷ b ∷ c ∷ d ∷ []) message_head }
 {
     if a != HEAD[0] {
         return false;
@@ -38,7 +38,7 @@ fn head_right(a: u8, b: u8, c: u8, d: u8) -> bool
 
 // Is a message right in length, command, command check and data check, over the six counter bits as they stand?
 pub fn message_right(bytes: &[u8]) -> bool
-    ensures { result ≡ messageRight bytes.now }
+    ensures { result ≡ message_right bytes.now }
 {
     if bytes.len() != MESSAGE_SIZE {
         return false;

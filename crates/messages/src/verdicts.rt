@@ -1,7 +1,7 @@
 // The host's verdict on what came to it of a heartbeat.
 ghost use Rattle.std.specs.Prelude.{◌≡◌, length};
-ghost use Rattle.messages.specs.Messages.{messageSize};
-ghost use Rattle.messages.specs.Verdicts.{verdictOf, verdict};
+ghost use Rattle.messages.specs.Messages.{message_size};
+ghost use Rattle.messages.specs.Verdicts.{verdict_of, verdict};
 
 use crate::messages::{MESSAGE_SIZE, message_right};
 use refusals::Refusal;
@@ -21,8 +21,8 @@ const PASS_COUNT: u8 = 0x42;
 
 // Of eight bytes.
 fn of_eight(bytes: &[u8], ran_out: bool) -> Verdict
-    requires { length bytes.now ≡ messageSize }
-    ensures { result ≡ verdictOf bytes.now ran_out }
+    requires { length bytes.now ≡ message_size }
+    ensures { result ≡ verdict_of bytes.now ran_out_lem }
 {
     if ran_out {
         return Verdict::TimedOut;
@@ -49,7 +49,7 @@ fn of_eight(bytes: &[u8], ran_out: bool) -> Verdict
 
 // How did a heartbeat end, by the bytes that came and whether the time ran out?
 pub fn verdict_on(bytes: &[u8], ran_out: bool) -> Verdict
-    ensures { result ≡ verdict bytes.now ran_out }
+    ensures { result ≡ verdict bytes.now ran_out_lem }
 {
     if bytes.len() == MESSAGE_SIZE {
         return of_eight(bytes, ran_out);

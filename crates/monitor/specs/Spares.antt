@@ -8,24 +8,24 @@ use Rattle.records.specs.declared.commands.Command.{Command}
 use Rattle.records.specs.declared.commands.Command.TheVariants.{Reads, Writes, Bares, Unlisted}
 use Rattle.records.specs.declared.commands.Write.{Write}
 use Rattle.records.specs.declared.record.Part.{Part}
-use Rattle.records.specs.Record.{cells, counter, unlocked, snapshot, statusBits, cmf1, lastCells, Outside}
-use Rattle.records.specs.Commands.{dataSize}
-use Rattle.writes.specs.Writes.{rulesOf}
+use Rattle.records.specs.Record.{cells, counter, unlocked, snapshot, status_bits, cmf1, last_cells, Outside}
+use Rattle.records.specs.Commands.{data_size}
+use Rattle.writes.specs.Writes.{rules_of}
 
 -- ---- a command's own parts
 
-abbrev pub sentTo : Write → Part
-sentTo c = record { at = (rulesOf c).at; size = dataSize c }
+abbrev pub sent_to : Write → Part
+sent_to c = record { at = (rules_of c).at; size = data_size c }
 
 abbrev pub parts_of : Bare → List Part
-parts_of Mute = statusBits ∷ []
-parts_of Unmute = statusBits ∷ []
+parts_of Mute = status_bits ∷ []
+parts_of Unmute = status_bits ∷ []
 parts_of Rstcc = counter ∷ []
 parts_of Ulrr = unlocked ∷ []
 parts_of Clrcell = cells ∷ []
-parts_of Snap = statusBits ∷ snapshot ∷ []
-parts_of Unsnap = statusBits ∷ []
-parts_of Cmen = cmf1 ∷ lastCells ∷ []
+parts_of Snap = status_bits ∷ snapshot ∷ []
+parts_of Unsnap = status_bits ∷ []
+parts_of Cmen = cmf1 ∷ last_cells ∷ []
 parts_of Cmdis = cmf1 ∷ []
 
 -- ---- what it spares
@@ -42,7 +42,7 @@ ApartFrom p (q ∷ qs) = Apart p q × ApartFrom p qs
 -- a part that has no byte of what a command may change
 abbrev pub Spares : Command → Part → Type 0
 Spares (Reads q) p = Apart p unlocked
-Spares (Writes c) p = Apart p unlocked × (Apart p counter × Apart p (sentTo c))
+Spares (Writes c) p = Apart p unlocked × (Apart p counter × Apart p (sent_to c))
 Spares (Bares c) p = Apart p unlocked × (Apart p counter × ApartFrom p (parts_of c))
 Spares Unlisted p = Unit {0}
 
@@ -54,6 +54,6 @@ EndBefore (q ∷ qs) n = (q.at + q.size ≤ n) × EndBefore qs n
 -- a command's own parts end before a place
 abbrev pub Before : Command → ℕ → Type 0
 Before (Reads q) n = Unit {0}
-Before (Writes c) n = (sentTo c).at + (sentTo c).size ≤ n
+Before (Writes c) n = (sent_to c).at + (sent_to c).size ≤ n
 Before (Bares c) n = EndBefore (parts_of c) n
 Before Unlisted n = Unit {0}

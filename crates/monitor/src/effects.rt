@@ -1,8 +1,8 @@
 // What a bare command does to one monitor's record.
 ghost use Rattle.std.specs.Prelude.{◌≡◌, cond, length, get_or, set, ◌+◌, ◌≤◌};
 ghost use Rattle.std.specs.Int.Bits.{bit_and};
-ghost use Rattle.records.specs.Record.{cells, statusBits, lastCells, recordSize, bytes_of, anew, isRecord};
-ghost use Rattle.monitor.specs.Effects.{cellsTo, done};
+ghost use Rattle.records.specs.Record.{cells, status_bits, last_cells, record_size, bytes_of, anew, is_record};
+ghost use Rattle.monitor.specs.Effects.{cells_to, done};
 
 use records::{
     Bare, CELLS, CELLS_SIZE, CMF1, COUNTER, LAST_CELLS, RECORD_SIZE, SNAPSHOT, STATUS_BITS,
@@ -11,7 +11,7 @@ use records::{
 
 // The code -32768 in every cell, low byte first.
 fn clear_cells(rec: &mut [u8])
-    requires { length rec.old ≡ recordSize }
+    requires { length rec.old ≡ record_size }
     ensures { rec.new ≡ done Bare.Clrcell rec.old }
 {
     let mut i = 0;
@@ -23,7 +23,7 @@ fn clear_cells(rec: &mut [u8])
 
 // The live cells, and no copy of them.
 fn clrcell(rec: &mut [u8])
-    requires { length rec.old ≡ recordSize }
+    requires { length rec.old ≡ record_size }
     ensures { rec.new ≡ done Bare.Clrcell rec.old }
 {
     clear_cells(rec);
@@ -31,7 +31,7 @@ fn clrcell(rec: &mut [u8])
 
 // The cells are copied to a part of as many bytes behind them.
 fn copy_cells(rec: &mut [u8], to: usize)
-    requires { (length rec.old ≡ recordSize) × (cells.at + cells.size ≤ to) × (to + cells.size ≤ recordSize) }
+    requires { (length rec.old ≡ record_size) × (cells.at + cells.size ≤ to) × (to + cells.size ≤ record_size) }
     ensures { rec.new ≡ anew (λ i old. get_or (bytes_of cells rec.old) i 0) to cells.size rec.old }
 {
     let mut i = 0;
@@ -43,7 +43,7 @@ fn copy_cells(rec: &mut [u8], to: usize)
 
 // The cells are copied and SNAP_ST is set. A snapshot that is on keeps its copy.
 fn snap(rec: &mut [u8])
-    requires { length rec.old ≡ recordSize }
+    requires { length rec.old ≡ record_size }
     ensures { rec.new ≡ done Bare.Snap rec.old }
 {
     let on = is_snapped(rec);
@@ -56,8 +56,8 @@ fn snap(rec: &mut [u8])
 
 // A snapshot ends: the copy stays, and is no longer shown.
 fn unsnap(rec: &mut [u8])
-    requires { length rec.old ≡ recordSize }
-    ensures { rec.new ≡ set rec.old statusBits.at (bit_and (get_or rec.old statusBits.at 0) 0xDF) }
+    requires { length rec.old ≡ record_size }
+    ensures { rec.new ≡ set rec.old status_bits.at (bit_and (get_or rec.old status_bits.at 0) 0xDF) }
 {
     rec[STATUS_BITS] = rec[STATUS_BITS] & 0xdf;
 }
@@ -65,7 +65,7 @@ fn unsnap(rec: &mut [u8])
 // LPCM begins: the cells are copied as the last measurement, and CMC_EN is set with the two flags of a timeout monitor. A monitor that is in
 // LPCM keeps its last measurement, so that enabling it twice hides no jump.
 fn cmen(rec: &mut [u8])
-    requires { length rec.old ≡ recordSize }
+    requires { length rec.old ≡ record_size }
     ensures { rec.new ≡ done Bare.Cmen rec.old }
 {
     let already = in_lpcm(rec);
@@ -78,7 +78,7 @@ fn cmen(rec: &mut [u8])
 
 // A measurement in LPCM: the cells are copied as the last. A slice that is no record stays as it is.
 pub fn remember(rec: &mut [u8])
-    ensures { rec.new ≡ cond (isRecord rec.old) (cellsTo lastCells rec.old) rec.old }
+    ensures { rec.new ≡ cond (is_record rec.old) (cells_to last_cells rec.old) rec.old }
 {
     if rec.len() == RECORD_SIZE {
         copy_cells(rec, LAST_CELLS);
@@ -87,7 +87,7 @@ pub fn remember(rec: &mut [u8])
 
 // What a bare command does beyond what every command does, command by command.
 fn do_bare(what: Bare, rec: &mut [u8])
-    requires { length rec.old ≡ recordSize }
+    requires { length rec.old ≡ record_size }
     ensures { rec.new ≡ done what rec.old }
 {
     match what {
@@ -105,7 +105,7 @@ fn do_bare(what: Bare, rec: &mut [u8])
 
 // The same, of a slice of any length: one that is no record stays as it is.
 pub fn carry_out(what: Bare, rec: &mut [u8])
-    ensures { rec.new ≡ cond (isRecord rec.old) (done what rec.old) rec.old }
+    ensures { rec.new ≡ cond (is_record rec.old) (done what rec.old) rec.old }
 {
     if rec.len() == RECORD_SIZE {
         do_bare(what, rec);

@@ -258,7 +258,7 @@ fn step(table: &mut Table, counts: [u64; 2], what: u64) -> u64 {
         4 => verdict(bench::hops(table, b, (a == 1) as u8, (a != 1) as u8)),
         5 => message(LEAVES, bench::beat(table)) as u64,
         6 => {
-            bytes::put(table, 0, &[0; records::RECORD_SIZE]);
+            laying::put(table, 0, &[0; records::RECORD_SIZE]);
             0
         }
         _ => {

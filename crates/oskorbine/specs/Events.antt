@@ -6,5 +6,5 @@ use Rattle.priorities.specs.declared.outputs.Events.{Events}
 
 -- bit 0 thermal shutdown, 1 a measurement that pauses discharge, 2 configuration B being written, 3 a PWM group being written; the other
 -- bits are not looked at
-unfoldable pub eventsIn : ℕ → Events
-eventsIn bits = record { shutdown = bit_at 0 bits; measurement = bit_at 1 bits; wrcfgb = bit_at 2 bits; wrpwm = bit_at 3 bits }
+unfoldable pub events_in : ℕ → Events
+events_in bits = record { shutdown = bit_at 0 bits; measurement = bit_at 1 bits; wrcfgb = bit_at 2 bits; wrpwm = bit_at 3 bits }

@@ -1,7 +1,7 @@
 // What comes of a frame and of a load, as one number.
 ghost use Rattle.std.specs.Prelude.{◌≡◌};
 ghost use Rattle.packing.specs.Packed.{packed, Fit};
-ghost use Rattle.oskorbine.specs.Answers.{frameParts, loadParts};
+ghost use Rattle.oskorbine.specs.Answers.{frame_parts, load_parts};
 
 use chain::Answer;
 use loads::Loaded;
@@ -9,8 +9,8 @@ use packing::{accepted, pack, refused};
 
 // What comes of a frame, or of a release.
 pub(crate) fn frame_answer(answer: Answer) -> u32
-    requires { Fit (frameParts answer) }
-    ensures { result ≡ packed (frameParts answer) }
+    requires { Fit (frame_parts answer) }
+    ensures { result ≡ packed (frame_parts answer) }
 {
     match answer {
         Answer::Refused(refusal) => refused(refusal),
@@ -20,7 +20,7 @@ pub(crate) fn frame_answer(answer: Answer) -> u32
 
 // What comes of a store, a compare or a load.
 pub(crate) fn load_answer(loaded: Loaded) -> u32
-    ensures { result ≡ packed (loadParts loaded) }
+    ensures { result ≡ packed (load_parts loaded) }
 {
     pack(loads::load_number(loaded), 0, 0)
 }

@@ -1,20 +1,20 @@
 // A heartbeat in a lent table, positions counted from 1: a manager wakes, a message reaches a monitor, the whole of it, and the time runs out.
 ghost use Rattle.std.specs.Prelude.{◌≡◌, length};
 ghost use Rattle.passing.specs.Operations.{
-  wokenAt,
-  tableAfterWake,
-  outAfterWake,
-  relayedAt,
-  tableAfterRelay,
-  outAfterRelay,
+  woken_at,
+  table_after_wake,
+  out_after_wake,
+  relayed_at,
+  table_after_relay,
+  out_after_relay,
   beaten,
-  tableAfterBeat,
-  outAfterBeat,
-  timedOut,
-  tableAfterTimeOut,
+  table_after_beat,
+  out_after_beat,
+  timed_out,
+  table_after_time_out,
 };
 ghost use Rattle.packing.specs.Packed.{packed};
-ghost use Rattle.oskorbine.specs.Answers.{sentParts, relayedParts, timedParts};
+ghost use Rattle.oskorbine.specs.Answers.{sent_parts, relayed_parts, timed_parts};
 
 use messages::MESSAGE_SIZE;
 use packing::{accepted, refused};
@@ -22,7 +22,7 @@ use passing::{Relayed, Sent, TimedOut};
 
 // 1 for port A, 2 for port B, with the bytes of a message.
 fn sent_answer(sent: Sent) -> u32
-    ensures { result ≡ packed (sentParts sent) }
+    ensures { result ≡ packed (sent_parts sent) }
 {
     match sent {
         Sent::Unsent(refusal) => refused(refusal),
@@ -34,7 +34,7 @@ fn sent_answer(sent: Sent) -> u32
 
 // 1 where it is sent on, with the bytes of a message.
 fn relayed_answer(relayed: Relayed) -> u32
-    ensures { result ≡ packed (relayedParts relayed) }
+    ensures { result ≡ packed (relayed_parts relayed) }
 {
     match relayed {
         Relayed::Unrelayed(refusal) => refused(refusal),
@@ -45,7 +45,7 @@ fn relayed_answer(relayed: Relayed) -> u32
 
 // 1 at a timeout monitor in LPCM.
 fn timed_answer(timed: TimedOut) -> u32
-    ensures { result ≡ packed (timedParts timed) }
+    ensures { result ≡ packed (timed_parts timed) }
 {
     match timed {
         TimedOut::Untimed(refusal) => refused(refusal),
@@ -57,9 +57,9 @@ fn timed_answer(timed: TimedOut) -> u32
 // The manager at a position wakes.
 #[unsafe(no_mangle)]
 pub extern "C" fn osk_wake(table: &mut [u8], position: usize, out: &mut [u8]) -> u32
-    ensures value { result ≡ packed (sentParts (wokenAt table.old position (length out.old))) }
-    ensures table_after { table.new ≡ tableAfterWake table.old position (length out.old) }
-    ensures out_after { out.new ≡ outAfterWake table.old position out.old }
+    ensures value { result ≡ packed (sent_parts (woken_at table.old position (length out.old))) }
+    ensures table_after { table.new ≡ table_after_wake table.old position (length out.old) }
+    ensures out_after { out.new ≡ out_after_wake table.old position out.old }
 {
     sent_answer(passing::wake(table, position, out))
 }
@@ -72,9 +72,9 @@ pub extern "C" fn osk_relay(
     message: &[u8],
     out: &mut [u8],
 ) -> u32
-    ensures value { result ≡ packed (relayedParts (relayedAt table.old position message.now (length out.old))) }
-    ensures table_after { table.new ≡ tableAfterRelay table.old position message.now (length out.old) }
-    ensures out_after { out.new ≡ outAfterRelay table.old position message.now out.old }
+    ensures value { result ≡ packed (relayed_parts (relayed_at table.old position message.now (length out.old))) }
+    ensures table_after { table.new ≡ table_after_relay table.old position message.now (length out.old) }
+    ensures out_after { out.new ≡ out_after_relay table.old position message.now out.old }
 {
     relayed_answer(passing::relay(table, position, message, out))
 }
@@ -82,9 +82,9 @@ pub extern "C" fn osk_relay(
 // A whole heartbeat.
 #[unsafe(no_mangle)]
 pub extern "C" fn osk_heartbeat(table: &mut [u8], position: usize, out: &mut [u8]) -> u32
-    ensures value { result ≡ packed (sentParts (beaten table.old position (length out.old))) }
-    ensures table_after { table.new ≡ tableAfterBeat table.old position (length out.old) }
-    ensures out_after { out.new ≡ outAfterBeat table.old position out.old }
+    ensures value { result ≡ packed (sent_parts (beaten table.old position (length out.old))) }
+    ensures table_after { table.new ≡ table_after_beat table.old position (length out.old) }
+    ensures out_after { out.new ≡ out_after_beat table.old position out.old }
 {
     sent_answer(passing::heartbeat(table, position, out))
 }
@@ -92,8 +92,8 @@ pub extern "C" fn osk_heartbeat(table: &mut [u8], position: usize, out: &mut [u8
 // The time runs out at the monitor in a position.
 #[unsafe(no_mangle)]
 pub extern "C" fn osk_time_out(table: &mut [u8], position: usize) -> u32
-    ensures value { result ≡ packed (timedParts (timedOut table.old position)) }
-    ensures table_after { table.new ≡ tableAfterTimeOut table.old position }
+    ensures value { result ≡ packed (timed_parts (timed_out table.old position)) }
+    ensures table_after { table.new ≡ table_after_time_out table.old position }
 {
     timed_answer(passing::time_out(table, position))
 }

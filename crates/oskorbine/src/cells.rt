@@ -2,22 +2,22 @@
 ghost use Rattle.std.specs.Prelude.{◌≡◌};
 ghost use Rattle.loads.specs.Load.{
   stored,
-  tableAfterStore,
+  table_after_store,
   compared,
-  tableAfterCompare,
+  table_after_compare,
   loaded,
-  tableAfterLoad,
+  table_after_load,
 };
 ghost use Rattle.packing.specs.Packed.{packed};
-ghost use Rattle.oskorbine.specs.Answers.{loadParts};
+ghost use Rattle.oskorbine.specs.Answers.{load_parts};
 
 use crate::answers::load_answer;
 
 // Stores sixteen codes.
 #[unsafe(no_mangle)]
 pub extern "C" fn osk_store(table: &mut [u8], position: usize, codes: &[i16]) -> u32
-    ensures value { result ≡ packed (loadParts (stored table.old position codes.now)) }
-    ensures table_after { table.new ≡ tableAfterStore table.old position codes.now }
+    ensures value { result ≡ packed (load_parts (stored table.old position codes.now)) }
+    ensures table_after { table.new ≡ table_after_store table.old position codes.now }
 {
     load_answer(loads::store(table, position, codes))
 }
@@ -25,8 +25,8 @@ pub extern "C" fn osk_store(table: &mut [u8], position: usize, codes: &[i16]) ->
 // Compares the stored cells with the thresholds.
 #[unsafe(no_mangle)]
 pub extern "C" fn osk_compare(table: &mut [u8], position: usize) -> u32
-    ensures value { result ≡ packed (loadParts (compared table.old position)) }
-    ensures table_after { table.new ≡ tableAfterCompare table.old position }
+    ensures value { result ≡ packed (load_parts (compared table.old position)) }
+    ensures table_after { table.new ≡ table_after_compare table.old position }
 {
     load_answer(loads::compare(table, position))
 }
@@ -34,8 +34,8 @@ pub extern "C" fn osk_compare(table: &mut [u8], position: usize) -> u32
 // Loads sixteen codes.
 #[unsafe(no_mangle)]
 pub extern "C" fn osk_load(table: &mut [u8], position: usize, codes: &[i16]) -> u32
-    ensures value { result ≡ packed (loadParts (loaded table.old position codes.now)) }
-    ensures table_after { table.new ≡ tableAfterLoad table.old position codes.now }
+    ensures value { result ≡ packed (load_parts (loaded table.old position codes.now)) }
+    ensures table_after { table.new ≡ table_after_load table.old position codes.now }
 {
     load_answer(loads::load(table, position, codes))
 }

@@ -1,9 +1,9 @@
 // The discharge outputs of one monitor in a lent table, its position counted from 1.
 ghost use Rattle.std.specs.Prelude.{◌≡◌, length};
-ghost use Rattle.discharge.specs.Question.{discharged, outputsAfter};
-ghost use Rattle.oskorbine.specs.Events.{eventsIn};
+ghost use Rattle.discharge.specs.Question.{discharged, outputs_after};
+ghost use Rattle.oskorbine.specs.Events.{events_in};
 ghost use Rattle.packing.specs.Packed.{packed};
-ghost use Rattle.oskorbine.specs.Answers.{dischargedParts};
+ghost use Rattle.oskorbine.specs.Answers.{discharged_parts};
 
 use discharge::{Discharged, discharge};
 use packing::{accepted, refused};
@@ -11,7 +11,7 @@ use priorities::Events;
 
 // What goes on, as bits 0 to 3 of a byte say; its other bits are not looked at.
 fn events_in(bits: u8) -> Events
-    ensures { result ≡ eventsIn bits }
+    ensures { result ≡ events_in bits }
 {
     Events {
         shutdown: bits % 2 == 1,
@@ -30,8 +30,8 @@ pub extern "C" fn osk_discharge(
     phase: u8,
     out: &mut [u8],
 ) -> u32
-    ensures value { result ≡ packed (dischargedParts (discharged table.now position (eventsIn events) phase (length out.old))) }
-    ensures out_after { out.new ≡ outputsAfter table.now position (eventsIn events) phase out.old }
+    ensures value { result ≡ packed (discharged_parts (discharged table.now position (events_in events) phase (length out.old))) }
+    ensures out_after { out.new ≡ outputs_after table.now position (events_in events) phase out.old }
 {
     match discharge(table, position, events_in(events), phase, out) {
         Discharged::Refused(refusal) => refused(refusal),

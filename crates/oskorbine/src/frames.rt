@@ -1,17 +1,17 @@
 // A chain of monitors in a lent table: a whole frame.
 ghost use Rattle.std.specs.Prelude.{◌≡◌, length};
-ghost use Rattle.chain.specs.Frame.{answer, tableAfter, replyAfter};
+ghost use Rattle.chain.specs.Frame.{answer, table_after, reply_after};
 ghost use Rattle.packing.specs.Packed.{packed};
-ghost use Rattle.oskorbine.specs.Answers.{frameParts};
+ghost use Rattle.oskorbine.specs.Answers.{frame_parts};
 
 use crate::answers::frame_answer;
 
 // Handles a frame: how many monitors took it, and the length of the reply.
 #[unsafe(no_mangle)]
 pub extern "C" fn osk_frame(table: &mut [u8], frame: &[u8], reply: &mut [u8]) -> u32
-    ensures value { result ≡ packed (frameParts (answer table.old frame.now (length reply.old))) }
-    ensures table_after { table.new ≡ tableAfter table.old frame.now (length reply.old) }
-    ensures reply_after { reply.new ≡ replyAfter table.old frame.now reply.old }
+    ensures value { result ≡ packed (frame_parts (answer table.old frame.now (length reply.old))) }
+    ensures table_after { table.new ≡ table_after table.old frame.now (length reply.old) }
+    ensures reply_after { reply.new ≡ reply_after table.old frame.now reply.old }
 {
     frame_answer(chain::handle(table, frame, reply))
 }

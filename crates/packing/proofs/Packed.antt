@@ -9,9 +9,9 @@ use Rattle.refusals.specs.Numbers.{number_of}
 use Rattle.packing.specs.Packed.{Parts, packed, apart, Fit, refused, accepted}
 
 module _ (p : Parts) (fit : Fit p) where
-  pub number-back : packed p % 256 ≡ p.number
+  pub number_back : packed p % 256 ≡ p.number
   unfolding packed
-  number-back = omega (arith, fit.number_fits)
+  number_back = omega (arith, fit.number_fits)
 
   pub first_back : packed p / 256 % 256 ≡ p.first
   unfolding packed
@@ -23,19 +23,19 @@ module _ (p : Parts) (fit : Fit p) where
 
   pub apart-packed : apart (packed p) ≡ p
   unfolding apart
-  apart-packed i = record { number = number-back i; first = first_back i; second = second_back i }
+  apart-packed i = record { number = number_back i; first = first_back i; second = second_back i }
 
   pub packed-fits : packed p < 2 ^ 32
   unfolding packed
   packed-fits = omega (arith, fit.number_fits, fit.first_fits, fit.second_fits)
 
 -- what is packed of an outcome that was told to be so
-pub as-told : {A : Type 0} (parts : A → Parts) {r : ℕ} {v w : A} → r ≡ packed (parts v) → w ≡ v → r ≡ packed (parts w)
-as-told parts e here = e ∙ ap (λ x. packed (parts x)) (sym here)
+pub as_told : {A : Type 0} (parts : A → Parts) {r : ℕ} {v w : A} → r ≡ packed (parts v) → w ≡ v → r ≡ packed (parts w)
+as_told parts e here = e ∙ ap (λ x. packed (parts x)) (sym here)
 
 -- and it fits where the outcome does
-pub fits-as-told : {A : Type 0} (parts : A → Parts) {v w : A} → w ≡ v → Fit (parts w) → Fit (parts v)
-fits-as-told parts here = subst (λ x. Fit (parts x)) here
+pub fits_as_told : {A : Type 0} (parts : A → Parts) {v w : A} → w ≡ v → Fit (parts w) → Fit (parts v)
+fits_as_told parts here = subst (λ x. Fit (parts x)) here
 
 -- ---- what fits
 
@@ -44,16 +44,16 @@ pub accepted-fits : (first second : ℕ) → first < 256 → second < 65536 → 
 accepted-fits first second f s = record { number_fits = omega arith; first_fits = f; second_fits = s }
 
 pub refused-fits : (r : Refusal) → Fit (refused r)
-refused-fits r = record { number_fits = at-most-ten r; first_fits = omega arith; second_fits = omega arith }
+refused-fits r = record { number_fits = at_most_ten r; first_fits = omega arith; second_fits = omega arith }
   where
-    at-most-ten : (r : Refusal) → number_of r < 256
-    at-most-ten TableNotSound = omega arith
-    at-most-ten FrameShort = omega arith
-    at-most-ten CommandWrong = omega arith
-    at-most-ten CodeNotListed = omega arith
-    at-most-ten LengthWrong = omega arith
-    at-most-ten NoRoom = omega arith
-    at-most-ten PositionWrong = omega arith
-    at-most-ten CountWrong = omega arith
-    at-most-ten CodeCleared = omega arith
-    at-most-ten BothDamaged = omega arith
+    at_most_ten : (r : Refusal) → number_of r < 256
+    at_most_ten TableNotSound = omega arith
+    at_most_ten FrameShort = omega arith
+    at_most_ten CommandWrong = omega arith
+    at_most_ten CodeNotListed = omega arith
+    at_most_ten LengthWrong = omega arith
+    at_most_ten NoRoom = omega arith
+    at_most_ten PositionWrong = omega arith
+    at_most_ten CountWrong = omega arith
+    at_most_ten CodeCleared = omega arith
+    at_most_ten BothDamaged = omega arith

@@ -4,27 +4,27 @@ use mathlib.Core.Path.{◌≡◌, sym, ap, ap₂, ◌∙◌}
 use mathlib.Core.List.{List, []}
 use Prim.Native.Nat.{ℕ}
 use Rattle.laws.specs.Rows.{row_at}
-use Rattle.records.specs.Record.{recordSize}
+use Rattle.records.specs.Record.{record_size}
 use Rattle.messages.specs.Messages.{message}
 use Rattle.heartbeats.specs.declared.steps.Beat.{Beat}
 use Rattle.heartbeats.specs.declared.steps.Beat.TheVariants.{Silent, Sends}
 use Rattle.heartbeats.specs.Steps.{wakes}
-use Rattle.passing.specs.Hops.{bytesSent, wakeSends, wakeLeaves, sentAlong, leftAlong}
+use Rattle.passing.specs.Hops.{bytes_sent, wake_sends, wake_leaves, sent_along, left_along}
 use Rattle.passing.proofs.Silent.{none-along}
 
-module _ (ks : List ℕ) (k : ℕ) (table : List ℕ) {beat : Beat} {next : List ℕ} (e : beat ≡ wakes (row_at recordSize k table)) (l : next ≡ wakeLeaves k table) where
-  its-bytes : bytesSent beat ≡ wakeSends k table
-  unfolding wakeSends
-  its-bytes = ap bytesSent e
+module _ (ks : List ℕ) (k : ℕ) (table : List ℕ) {beat : Beat} {next : List ℕ} (e : beat ≡ wakes (row_at record_size k table)) (l : next ≡ wake_leaves k table) where
+  its-bytes : bytes_sent beat ≡ wake_sends k table
+  unfolding wake_sends
+  its-bytes = ap bytes_sent e
 
-  pub silent-beat : beat ≡ Silent → ([] ≡ sentAlong ks (wakeSends k table) (wakeLeaves k table)) × (next ≡ leftAlong ks (wakeSends k table) (wakeLeaves k table))
-  silent-beat s =
+  pub silent_beat : beat ≡ Silent → ([] ≡ sent_along ks (wake_sends k table) (wake_leaves k table)) × (next ≡ left_along ks (wake_sends k table) (wake_leaves k table))
+  silent_beat s =
       let none = none-along ks next in
-      let sent = ap bytesSent (sym s) ∙ its-bytes in
-      (sym none.0 ∙ ap₂ (sentAlong ks) sent l, sym none.1 ∙ ap₂ (leftAlong ks) sent l)
+      let sent = ap bytes_sent (sym s) ∙ its-bytes in
+      (sym none.0 ∙ ap₂ (sent_along ks) sent l, sym none.1 ∙ ap₂ (left_along ks) sent l)
 
-  pub message-beat : {c f : ℕ} → beat ≡ Sends c f → {end after : List ℕ} → end ≡ sentAlong ks (message c f) next → after ≡ leftAlong ks (message c f) next
-      → (end ≡ sentAlong ks (wakeSends k table) (wakeLeaves k table)) × (after ≡ leftAlong ks (wakeSends k table) (wakeLeaves k table))
-  message-beat s came left =
-      let sent = ap bytesSent (sym s) ∙ its-bytes in
-      (came ∙ ap₂ (sentAlong ks) sent l, left ∙ ap₂ (leftAlong ks) sent l)
+  pub message_beat : {c f : ℕ} → beat ≡ Sends c f → {end after : List ℕ} → end ≡ sent_along ks (message c f) next → after ≡ left_along ks (message c f) next
+      → (end ≡ sent_along ks (wake_sends k table) (wake_leaves k table)) × (after ≡ left_along ks (wake_sends k table) (wake_leaves k table))
+  message_beat s came left =
+      let sent = ap bytes_sent (sym s) ∙ its-bytes in
+      (came ∙ ap₂ (sent_along ks) sent l, left ∙ ap₂ (left_along ks) sent l)

@@ -10,94 +10,94 @@ use lib.ListN.{length}
 use Rattle.laws.specs.Rows.{row_at}
 use Rattle.refusals.specs.declared.Refusal.{Refusal}
 use Rattle.refusals.specs.Order.{Row, decide}
-use Rattle.records.specs.Record.{recordSize}
-use Rattle.records.specs.Commands.{mostMonitors}
+use Rattle.records.specs.Record.{record_size}
+use Rattle.records.specs.Commands.{most_monitors}
 use Rattle.judging.specs.declared.places.Placed.TheVariants.{Nowhere, At}
-use Rattle.judging.specs.Table.{monitors, changedAt}
-use Rattle.judging.specs.Places.{placeRefusals, placed}
-use Rattle.judging.proofs.Soundness.{is-sound}
+use Rattle.judging.specs.Table.{monitors, changed_at}
+use Rattle.judging.specs.Places.{place_refusals, placed}
+use Rattle.judging.proofs.Soundness.{is_sound}
 use Rattle.judging.proofs.Place.{Place, there, few, fits}
 use Rattle.heartbeats.specs.declared.steps.Beat.{Beat}
-use Rattle.heartbeats.specs.Steps.{isTimeout, towardsA, answers, late}
+use Rattle.heartbeats.specs.Steps.{is_timeout, towards_a, answers, late}
 use Rattle.passing.specs.declared.operations.Sent.{Sent}
 use Rattle.passing.specs.declared.operations.Sent.TheVariants.{Unsent, Nothing, TowardsA, TowardsB}
 use Rattle.passing.specs.declared.operations.Relayed.{Relayed}
 use Rattle.passing.specs.declared.operations.Relayed.TheVariants.{Unrelayed, Stopped, SentOn}
 use Rattle.passing.specs.declared.operations.TimedOut.{TimedOut}
 use Rattle.passing.specs.declared.operations.TimedOut.TheVariants.{Untimed, NoTimeoutMonitor, RanOut}
-use Rattle.passing.specs.Hops.{bytesSent, wakeSends, wakeLeaves, hopSends, hopLeaves, way, sentAlong, leftAlong, beatSends, beatLeaves}
+use Rattle.passing.specs.Hops.{bytes_sent, wake_sends, wake_leaves, hop_sends, hop_leaves, way, sent_along, left_along, beat_sends, beat_leaves}
 use Rattle.passing.specs.Operations.{
-  handedOut,
-  sentTowards,
-  wakeRefusals,
-  relayRefusals,
-  relayedAt,
-  tableAfterRelay,
-  outAfterRelay,
-  timeOutRefusals,
-  timedOut,
-  tableAfterTimeOut,
+  handed_out,
+  sent_towards,
+  wake_refusals,
+  relay_refusals,
+  relayed_at,
+  table_after_relay,
+  out_after_relay,
+  time_out_refusals,
+  timed_out,
+  table_after_time_out,
 }
-use Rattle.passing.proofs.Judged.{refused-so, accepted-so, index-so, wake-place, relay-place}
+use Rattle.passing.proofs.Judged.{refused_so, accepted_so, index_so, wake_place, relay_place}
 
 -- ---- the record at its place, as the code counts it, from 0
 
 module _ (table : List ℕ) (position room : ℕ) {k : ℕ} where
-  lies : Place table position → k ≡ position - 1 → (k < mostMonitors) × (k * recordSize + recordSize ≤ length table)
-  lies p e = subst⁻¹ (λ (j : ℕ). (j < mostMonitors) × (j * recordSize + recordSize ≤ length table)) e (few table position p, fits table position p)
+  lies : Place table position → k ≡ position - 1 → (k < most_monitors) × (k * record_size + record_size ≤ length table)
+  lies p e = subst⁻¹ (λ (j : ℕ). (j < most_monitors) × (j * record_size + record_size ≤ length table)) e (few table position p, fits table position p)
 
-  pub wake-lies : decide (wakeRefusals table position room) Nowhere (At (position - 1)) ≡ At k → (k < mostMonitors) × (k * recordSize + recordSize ≤ length table)
-  wake-lies e = lies (wake-place table position room e).0 (index-so (wakeRefusals table position room) (position - 1) e)
+  pub wake_lies : decide (wake_refusals table position room) Nowhere (At (position - 1)) ≡ At k → (k < most_monitors) × (k * record_size + record_size ≤ length table)
+  wake_lies e = lies (wake_place table position room e).0 (index_so (wake_refusals table position room) (position - 1) e)
 
-  pub relay-lies : (bytes : ℕ) → decide (relayRefusals table position bytes room) Nowhere (At (position - 1)) ≡ At k
-      → (k < mostMonitors) × (k * recordSize + recordSize ≤ length table)
-  relay-lies bytes e = lies (relay-place table position room bytes e).0 (index-so (relayRefusals table position bytes room) (position - 1) e)
+  pub relay_lies : (bytes : ℕ) → decide (relay_refusals table position bytes room) Nowhere (At (position - 1)) ≡ At k
+      → (k < most_monitors) × (k * record_size + record_size ≤ length table)
+  relay_lies bytes e = lies (relay_place table position room bytes e).0 (index_so (relay_refusals table position bytes room) (position - 1) e)
 
   -- among all the monitors
-  pub wake-among : decide (wakeRefusals table position room) Nowhere (At (position - 1)) ≡ At k
-      → (k < monitors table) × (monitors table ≤ mostMonitors) × (length table ≡ monitors table * recordSize)
-  wake-among e =
-      let p = (wake-place table position room e).0 in
-      let s = is-sound table p.its-sound in
-      (subst⁻¹ (λ (j : ℕ). j < monitors table) (index-so (wakeRefusals table position room) (position - 1) e) (there table position p), s.few, s.whole)
+  pub wake_among : decide (wake_refusals table position room) Nowhere (At (position - 1)) ≡ At k
+      → (k < monitors table) × (monitors table ≤ most_monitors) × (length table ≡ monitors table * record_size)
+  wake_among e =
+      let p = (wake_place table position room e).0 in
+      let s = is_sound table p.its-sound in
+      (subst⁻¹ (λ (j : ℕ). j < monitors table) (index_so (wake_refusals table position room) (position - 1) e) (there table position p), s.few, s.whole)
 
 -- ---- whether something was sent, by the bytes
 
 module _ {some : Bool} (bytes : List ℕ) (s : some ≡ not (eqb (length bytes) 0)) where
-  by_bytes : {A : Type 0} (nothing something : A) → cond (not some) nothing something ≡ cond (eqb (length bytes) 0) nothing something
-  by_bytes nothing something = ap (λ (b : Bool). cond b nothing something) (ap not s ∙ not-not (eqb (length bytes) 0))
+  by_bytes_lem : {A : Type 0} (nothing something : A) → cond (not some) nothing something ≡ cond (eqb (length bytes) 0) nothing something
+  by_bytes_lem nothing something = ap (λ (b : Bool). cond b nothing something) (ap not s ∙ not-not (eqb (length bytes) 0))
 
-  by-record : (r : List ℕ) {to-a : Bool} → to-a ≡ towardsA r → {sent : Sent} → sent ≡ cond (not some) Nothing (cond to-a TowardsA TowardsB) → sent ≡ sentTowards r bytes
-  unfolding sentTowards
-  by-record r a e =
+  by_record : (r : List ℕ) {to-a : Bool} → to-a ≡ towards_a r → {sent : Sent} → sent ≡ cond (not some) Nothing (cond to-a TowardsA TowardsB) → sent ≡ sent_towards r bytes
+  unfolding sent_towards
+  by_record r a e =
       e
       ∙ ap (λ (b : Bool). cond (not some) Nothing (cond b TowardsA TowardsB)) a
-      ∙ by_bytes Nothing (cond (towardsA r) TowardsA TowardsB)
+      ∙ by_bytes_lem Nothing (cond (towards_a r) TowardsA TowardsB)
 
 -- ---- what comes of it
 
 module _ (rows : List Row) (j : ℕ) where
   done_at : {k : ℕ} → decide rows Nowhere (At j) ≡ At k → {A : Type 0} (refused : Refusal → A) (f : ℕ → A) {x : A} → x ≡ f k → x ≡ decide rows refused (f j)
-  done_at e refused f h = h ∙ ap f (index-so rows j e) ∙ sym (accepted-so rows j refused (f j) e)
+  done_at e refused f h = h ∙ ap f (index_so rows j e) ∙ sym (accepted_so rows j refused (f j) e)
 
   module _ (table out : List ℕ) (sends leaves : ℕ → List ℕ → List ℕ) {A : Type 0} (refused : Refusal → A) (answer : List ℕ → List ℕ → A) where
     -- the answer, the table and the buffer
     abbrev Comes : A → List ℕ → List ℕ → Type 0
     Comes x after out-after =
-        (x ≡ decide rows refused (answer (row_at recordSize j table) (sends j table)))
-        × ((after ≡ decide rows (λ r. table) (leaves j table)) × (out-after ≡ decide rows (λ r. out) (handedOut (sends j table) out)))
+        (x ≡ decide rows refused (answer (row_at record_size j table) (sends j table)))
+        × ((after ≡ decide rows (λ r. table) (leaves j table)) × (out-after ≡ decide rows (λ r. out) (handed_out (sends j table) out)))
 
-    all-stays : {r : Refusal} → decide rows Nowhere (At j) ≡ Nowhere r → Comes (refused r) table out
-    all-stays e = (sym (refused-so rows j refused _ e), (sym (refused-so rows j (λ r. table) _ e), sym (refused-so rows j (λ r. out) _ e)))
+    all_stays : {r : Refusal} → decide rows Nowhere (At j) ≡ Nowhere r → Comes (refused r) table out
+    all_stays e = (sym (refused_so rows j refused _ e), (sym (refused_so rows j (λ r. table) _ e), sym (refused_so rows j (λ r. out) _ e)))
 
     all_done : {k : ℕ} → decide rows Nowhere (At j) ≡ At k → {bytes : List ℕ} → bytes ≡ sends k table
-        → {x : A} → x ≡ answer (row_at recordSize k table) bytes → {after : List ℕ} → after ≡ leaves k table → {out-after : List ℕ} → out-after ≡ handedOut bytes out
+        → {x : A} → x ≡ answer (row_at record_size k table) bytes → {after : List ℕ} → after ≡ leaves k table → {out-after : List ℕ} → out-after ≡ handed_out bytes out
         → Comes x after out-after
     all_done {k} e {bytes} b h l o = (
-      done_at e refused (λ (i : ℕ). answer (row_at recordSize i table) (sends i table)) (h ∙ ap (answer (row_at recordSize k table)) b),
+      done_at e refused (λ (i : ℕ). answer (row_at record_size i table) (sends i table)) (h ∙ ap (answer (row_at record_size k table)) b),
       (
         done_at e (λ r. table) (λ (i : ℕ). leaves i table) l,
-        done_at e (λ r. out) (λ (i : ℕ). handedOut (sends i table) out) (o ∙ ap (λ (bs : List ℕ). handedOut bs out) b),
+        done_at e (λ r. out) (λ (i : ℕ). handed_out (sends i table) out) (o ∙ ap (λ (bs : List ℕ). handed_out bs out) b),
       ),
     )
 
@@ -105,28 +105,28 @@ module _ (rows : List Row) (j : ℕ) where
 
 module _ (table : List ℕ) (position : ℕ) (out : List ℕ) (sends leaves : ℕ → List ℕ → List ℕ) where
   abbrev woken-rows : List Row
-  woken-rows = wakeRefusals table position (length out)
+  woken-rows = wake_refusals table position (length out)
 
-  pub unsent-so : {r : Refusal} → decide woken-rows Nowhere (At (position - 1)) ≡ Nowhere r
-      → Comes woken-rows (position - 1) table out sends leaves Unsent sentTowards (Unsent r) table out
-  unsent-so e = all-stays woken-rows (position - 1) table out sends leaves Unsent sentTowards e
+  pub unsent_so : {r : Refusal} → decide woken-rows Nowhere (At (position - 1)) ≡ Nowhere r
+      → Comes woken-rows (position - 1) table out sends leaves Unsent sent_towards (Unsent r) table out
+  unsent_so e = all_stays woken-rows (position - 1) table out sends leaves Unsent sent_towards e
 
-  pub sent-so : {k : ℕ} → decide woken-rows Nowhere (At (position - 1)) ≡ At k → {bytes : List ℕ} → bytes ≡ sends k table
-      → {some : Bool} → some ≡ not (eqb (length bytes) 0) → {to-a : Bool} → to-a ≡ towardsA (row_at recordSize k table)
+  pub sent_so : {k : ℕ} → decide woken-rows Nowhere (At (position - 1)) ≡ At k → {bytes : List ℕ} → bytes ≡ sends k table
+      → {some : Bool} → some ≡ not (eqb (length bytes) 0) → {to-a : Bool} → to-a ≡ towards_a (row_at record_size k table)
       → {x : Sent} → x ≡ cond (not some) Nothing (cond to-a TowardsA TowardsB) → {after : List ℕ} → after ≡ leaves k table
-      → {out-after : List ℕ} → out-after ≡ handedOut bytes out → Comes woken-rows (position - 1) table out sends leaves Unsent sentTowards x after out-after
-  sent-so {k} e {bytes} b s a h l o =
-      all_done woken-rows (position - 1) table out sends leaves Unsent sentTowards e b (by-record bytes s (row_at recordSize k table) a h) l o
+      → {out-after : List ℕ} → out-after ≡ handed_out bytes out → Comes woken-rows (position - 1) table out sends leaves Unsent sent_towards x after out-after
+  sent_so {k} e {bytes} b s a h l o =
+      all_done woken-rows (position - 1) table out sends leaves Unsent sent_towards e b (by_record bytes s (row_at record_size k table) a h) l o
 
 -- the way of a whole heartbeat is the one that the record of the manager has
-module _ (k : ℕ) (table : List ℕ) {to-a : Bool} (a : to-a ≡ towardsA (row_at recordSize k table)) {bytes : List ℕ} where
-  pub sent-all-along : bytes ≡ sentAlong (way to-a (monitors table) k) (wakeSends k table) (wakeLeaves k table) → bytes ≡ beatSends k table
-  unfolding beatSends
-  sent-all-along e = e ∙ ap (λ (d : Bool). sentAlong (way d (monitors table) k) (wakeSends k table) (wakeLeaves k table)) a
+module _ (k : ℕ) (table : List ℕ) {to-a : Bool} (a : to-a ≡ towards_a (row_at record_size k table)) {bytes : List ℕ} where
+  pub sent_all-along : bytes ≡ sent_along (way to-a (monitors table) k) (wake_sends k table) (wake_leaves k table) → bytes ≡ beat_sends k table
+  unfolding beat_sends
+  sent_all-along e = e ∙ ap (λ (d : Bool). sent_along (way d (monitors table) k) (wake_sends k table) (wake_leaves k table)) a
 
-  pub left-all-along : bytes ≡ leftAlong (way to-a (monitors table) k) (wakeSends k table) (wakeLeaves k table) → bytes ≡ beatLeaves k table
-  unfolding beatLeaves
-  left-all-along e = e ∙ ap (λ (d : Bool). leftAlong (way d (monitors table) k) (wakeSends k table) (wakeLeaves k table)) a
+  pub left-all-along : bytes ≡ left_along (way to-a (monitors table) k) (wake_sends k table) (wake_leaves k table) → bytes ≡ beat_leaves k table
+  unfolding beat_leaves
+  left-all-along e = e ∙ ap (λ (d : Bool). left_along (way d (monitors table) k) (wake_sends k table) (wake_leaves k table)) a
 
 -- ---- of a message that reaches a monitor: by the bytes that it sends on
 
@@ -135,43 +135,43 @@ relayed-by r bytes = cond (eqb (length bytes) 0) Stopped SentOn
 
 module _ (table : List ℕ) (position : ℕ) (message out : List ℕ) where
   abbrev relayed-rows : List Row
-  relayed-rows = relayRefusals table position (length message) (length out)
+  relayed-rows = relay_refusals table position (length message) (length out)
 
   abbrev RelayComes : Relayed → List ℕ → List ℕ → Type 0
   RelayComes x after out-after =
-      (x ≡ relayedAt table position message (length out))
-      × ((after ≡ tableAfterRelay table position message (length out)) × (out-after ≡ outAfterRelay table position message out))
+      (x ≡ relayed_at table position message (length out))
+      × ((after ≡ table_after_relay table position message (length out)) × (out-after ≡ out_after_relay table position message out))
 
-  pub relay-stays : {r : Refusal} → decide relayed-rows Nowhere (At (position - 1)) ≡ Nowhere r → RelayComes (Unrelayed r) table out
-  unfolding relayedAt tableAfterRelay outAfterRelay
-  relay-stays e =
-      all-stays relayed-rows (position - 1) table out (λ i t. hopSends i message t) (λ i t. hopLeaves i message t) Unrelayed relayed-by e
+  pub relay_stays : {r : Refusal} → decide relayed-rows Nowhere (At (position - 1)) ≡ Nowhere r → RelayComes (Unrelayed r) table out
+  unfolding relayed_at table_after_relay out_after_relay
+  relay_stays e =
+      all_stays relayed-rows (position - 1) table out (λ i t. hop_sends i message t) (λ i t. hop_leaves i message t) Unrelayed relayed-by e
 
-  pub relay-done : {k : ℕ} → decide relayed-rows Nowhere (At (position - 1)) ≡ At k → {beat : Beat} → beat ≡ answers message (row_at recordSize k table)
-      → {some : Bool} → some ≡ not (eqb (length (bytesSent beat)) 0) → {told : Bool} → some ≡ told → {after : List ℕ} → after ≡ hopLeaves k message table
-      → {out-after : List ℕ} → out-after ≡ handedOut (bytesSent beat) out → RelayComes (cond (not told) Stopped SentOn) after out-after
-  unfolding relayedAt tableAfterRelay outAfterRelay hopSends
-  relay-done e {beat} b s h l o =
-      all_done relayed-rows (position - 1) table out (λ i t. hopSends i message t) (λ i t. hopLeaves i message t) Unrelayed relayed-by e (ap bytesSent b)
-      (by_bytes (bytesSent beat) (sym h ∙ s) Stopped SentOn) l o
+  pub relay_done : {k : ℕ} → decide relayed-rows Nowhere (At (position - 1)) ≡ At k → {beat : Beat} → beat ≡ answers message (row_at record_size k table)
+      → {some : Bool} → some ≡ not (eqb (length (bytes_sent beat)) 0) → {told : Bool} → some ≡ told → {after : List ℕ} → after ≡ hop_leaves k message table
+      → {out-after : List ℕ} → out-after ≡ handed_out (bytes_sent beat) out → RelayComes (cond (not told) Stopped SentOn) after out-after
+  unfolding relayed_at table_after_relay out_after_relay hop_sends
+  relay_done e {beat} b s h l o =
+      all_done relayed-rows (position - 1) table out (λ i t. hop_sends i message t) (λ i t. hop_leaves i message t) Unrelayed relayed-by e (ap bytes_sent b)
+      (by_bytes_lem (bytes_sent beat) (sym h ∙ s) Stopped SentOn) l o
 
 -- ---- of the time that runs out
 
 module _ (table : List ℕ) (position : ℕ) where
   abbrev TimeOutComes : TimedOut → List ℕ → Type 0
-  TimeOutComes x after = (x ≡ timedOut table position) × (after ≡ tableAfterTimeOut table position)
+  TimeOutComes x after = (x ≡ timed_out table position) × (after ≡ table_after_time_out table position)
 
-  pub time-stays : {r : Refusal} → placed table position ≡ Nowhere r → TimeOutComes (Untimed r) table
-  unfolding timedOut tableAfterTimeOut timeOutRefusals placed placeRefusals
-  time-stays e =
-      let rows = timeOutRefusals table position in
-      (sym (refused-so rows (position - 1) Untimed _ e), sym (refused-so rows (position - 1) (λ r. table) _ e))
+  pub time_stays : {r : Refusal} → placed table position ≡ Nowhere r → TimeOutComes (Untimed r) table
+  unfolding timed_out table_after_time_out time_out_refusals placed place_refusals
+  time_stays e =
+      let rows = time_out_refusals table position in
+      (sym (refused_so rows (position - 1) Untimed _ e), sym (refused_so rows (position - 1) (λ r. table) _ e))
 
-  pub time-done : {k : ℕ} → placed table position ≡ At k → {ran : Bool} → ran ≡ isTimeout (row_at recordSize k table)
-      → {told : Bool} → ran ≡ told → {after : List ℕ} → after ≡ changedAt k late table → TimeOutComes (cond told RanOut NoTimeoutMonitor) after
-  unfolding timedOut tableAfterTimeOut timeOutRefusals placed placeRefusals
-  time-done e t h l =
-      let rows = timeOutRefusals table position in (
-        done_at rows (position - 1) e Untimed (λ (i : ℕ). cond (isTimeout (row_at recordSize i table)) RanOut NoTimeoutMonitor) (ap (λ (b : Bool). cond b RanOut NoTimeoutMonitor) (sym h ∙ t)),
-        done_at rows (position - 1) e (λ r. table) (λ (i : ℕ). changedAt i late table) l,
+  pub time_done : {k : ℕ} → placed table position ≡ At k → {ran : Bool} → ran ≡ is_timeout (row_at record_size k table)
+      → {told : Bool} → ran ≡ told → {after : List ℕ} → after ≡ changed_at k late table → TimeOutComes (cond told RanOut NoTimeoutMonitor) after
+  unfolding timed_out table_after_time_out time_out_refusals placed place_refusals
+  time_done e t h l =
+      let rows = time_out_refusals table position in (
+        done_at rows (position - 1) e Untimed (λ (i : ℕ). cond (is_timeout (row_at record_size i table)) RanOut NoTimeoutMonitor) (ap (λ (b : Bool). cond b RanOut NoTimeoutMonitor) (sym h ∙ t)),
+        done_at rows (position - 1) e (λ r. table) (λ (i : ℕ). changed_at i late table) l,
       )

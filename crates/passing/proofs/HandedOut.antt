@@ -8,31 +8,31 @@ use native.Mathlib.Omega.{arith}
 use lib.Dec.{eqb, leb}
 use lib.ListN.{length, drop}
 use borrow.Author.Tests.{ne_eqb, le-leb}
-use Rattle.bytes.specs.Placed.{placed}
-use Rattle.messages.specs.Messages.{messageSize, message}
+use Rattle.laying.specs.Placed.{placed}
+use Rattle.messages.specs.Messages.{message_size, message}
 use Rattle.messages.proofs.Sent.{message-long}
 use Rattle.heartbeats.specs.declared.steps.Beat.{Beat}
 use Rattle.heartbeats.specs.declared.steps.Beat.TheVariants.{Silent, Sends}
-use Rattle.passing.specs.Hops.{bytesSent}
-use Rattle.passing.specs.Operations.{handedOut}
+use Rattle.passing.specs.Hops.{bytes_sent}
+use Rattle.passing.specs.Operations.{handed_out}
 
-abbrev pub some-sent : (beat : Beat) → Bool
-some-sent beat = not (eqb (length (bytesSent beat)) 0)
+abbrev pub some_sent : (beat : Beat) → Bool
+some_sent beat = not (eqb (length (bytes_sent beat)) 0)
 
 module _ (out : List ℕ) where
-  pub nothing-out : {beat : Beat} → beat ≡ Silent → (false ≡ some-sent beat) × (out ≡ handedOut (bytesSent beat) out)
-  unfolding handedOut
-  nothing-out {beat} e = subst⁻¹ (λ (b : Beat). (false ≡ some-sent b) × (out ≡ handedOut (bytesSent b) out)) e (refl, refl)
+  pub nothing_out : {beat : Beat} → beat ≡ Silent → (false ≡ some_sent beat) × (out ≡ handed_out (bytes_sent beat) out)
+  unfolding handed_out
+  nothing_out {beat} e = subst⁻¹ (λ (b : Beat). (false ≡ some_sent b) × (out ≡ handed_out (bytes_sent b) out)) e (refl, refl)
 
-  module _ (c f : ℕ) (room : messageSize ≤ length out) where
-    long : length (message c f) ≡ messageSize
+  module _ (c f : ℕ) (room : message_size ≤ length out) where
+    long : length (message c f) ≡ message_size
     long = message-long c f
 
-    pub message-out : {beat : Beat} → beat ≡ Sends c f → {bytes after : List ℕ} → bytes ≡ message c f
-        → after ≡ cond (leb (0 + length bytes) (length out)) (placed 0 bytes out) out → (true ≡ some-sent beat) × (after ≡ handedOut (bytesSent beat) out)
-    unfolding handedOut placed
-    message-out {beat} e {bytes} {after} b a =
-        subst⁻¹ (λ (x : Beat). (true ≡ some-sent x) × (after ≡ handedOut (bytesSent x) out)) e (
+    pub message_out : {beat : Beat} → beat ≡ Sends c f → {bytes after : List ℕ} → bytes ≡ message c f
+        → after ≡ cond (leb (0 + length bytes) (length out)) (placed 0 bytes out) out → (true ≡ some_sent beat) × (after ≡ handed_out (bytes_sent beat) out)
+    unfolding handed_out placed
+    message_out {beat} e {bytes} {after} b a =
+        subst⁻¹ (λ (x : Beat). (true ≡ some_sent x) × (after ≡ handed_out (bytes_sent x) out)) e (
           sym (ap not (ne_eqb (length (message c f)) 0 (λ z. omega (arith, long, z)))),
           a
               ∙ ap (λ (l : List ℕ). cond (leb (0 + length l) (length out)) (placed 0 l out) out) b

@@ -10,14 +10,14 @@ use lib.ListN.{length}
 use Rattle.laws.specs.Rows.{row_at}
 use Rattle.laws.proofs.Rows.{row_fits}
 use Rattle.laws.specs.Tables.{tabulate}
-use Rattle.records.specs.Record.{recordSize}
-use Rattle.records.specs.Commands.{mostMonitors}
+use Rattle.records.specs.Record.{record_size}
+use Rattle.records.specs.Commands.{most_monitors}
 use Rattle.messages.specs.Messages.{message}
 use Rattle.heartbeats.specs.declared.steps.Beat.{Beat}
 use Rattle.heartbeats.specs.declared.steps.Beat.TheVariants.{Silent, Sends}
 use Rattle.heartbeats.specs.Steps.{answers}
-use Rattle.passing.specs.Hops.{bytesSent, hops, behind, way, hopSends, hopLeaves, sentAlong, leftAlong}
-use Rattle.passing.proofs.Silent.{none-along, length-hop, behind-within}
+use Rattle.passing.specs.Hops.{bytes_sent, hops, behind, way, hop_sends, hop_leaves, sent_along, left_along}
+use Rattle.passing.proofs.Silent.{none-along, length_hop, behind_within}
 
 -- the places from i on
 abbrev rest : Bool → ℕ → ℕ → ℕ → List ℕ
@@ -27,19 +27,19 @@ module _ (toA : Bool) (n k count flags : ℕ) (table : List ℕ) where
   -- a message at hand before hop i, and a table
   pub record Lap (i c f : ℕ) (now : List ℕ) : Type 0 where
     pub within : i ≤ hops toA n k
-    pub whole : length now ≡ n * recordSize
-    pub sent : sentAlong (rest toA n k i) (message c f) now ≡ sentAlong (way toA n k) (message count flags) table
-    pub left : leftAlong (rest toA n k i) (message c f) now ≡ leftAlong (way toA n k) (message count flags) table
+    pub whole : length now ≡ n * record_size
+    pub sent : sent_along (rest toA n k i) (message c f) now ≡ sent_along (way toA n k) (message count flags) table
+    pub left : left_along (rest toA n k i) (message c f) now ≡ left_along (way toA n k) (message count flags) table
 
-  pub first-lap : length table ≡ n * recordSize → Lap 0 count flags table
+  pub first_lap : length table ≡ n * record_size → Lap 0 count flags table
   unfolding way
-  first-lap whole =
+  first_lap whole =
       let all : hops toA n k - 0 ≡ hops toA n k = omega arith in
       record {
         within = omega arith;
         whole = whole;
-        sent = ap (λ (m : ℕ). sentAlong (tabulate (behind toA k) 0 m) (message count flags) table) all;
-        left = ap (λ (m : ℕ). leftAlong (tabulate (behind toA k) 0 m) (message count flags) table) all;
+        sent = ap (λ (m : ℕ). sent_along (tabulate (behind toA k) 0 m) (message count flags) table) all;
+        left = ap (λ (m : ℕ). left_along (tabulate (behind toA k) 0 m) (message count flags) table) all;
       }
 
   -- a hop is to a monitor of the chain, and there are fewer hops than monitors
@@ -53,68 +53,68 @@ module _ (toA : Bool) (n k count flags : ℕ) (table : List ℕ) where
 
   module _ {i c f : ℕ} {now : List ℕ} (lap : Lap i c f now) where
     -- no hop is left
-    pub last-lap : hops toA n k ≤ i
-        → (message c f ≡ sentAlong (way toA n k) (message count flags) table) × (now ≡ leftAlong (way toA n k) (message count flags) table)
-    unfolding tabulate sentAlong leftAlong
-    last-lap h =
+    pub last_lap : hops toA n k ≤ i
+        → (message c f ≡ sent_along (way toA n k) (message count flags) table) × (now ≡ left_along (way toA n k) (message count flags) table)
+    unfolding tabulate sent_along left_along
+    last_lap h =
         let none : hops toA n k - i ≡ 0 = omega arith in (
-          ap (λ (m : ℕ). sentAlong (tabulate (behind toA k) i m) (message c f) now) (sym none) ∙ lap.sent,
-          ap (λ (m : ℕ). leftAlong (tabulate (behind toA k) i m) (message c f) now) (sym none) ∙ lap.left,
+          ap (λ (m : ℕ). sent_along (tabulate (behind toA k) i m) (message c f) now) (sym none) ∙ lap.sent,
+          ap (λ (m : ℕ). left_along (tabulate (behind toA k) i m) (message c f) now) (sym none) ∙ lap.left,
         )
 
     -- at the next monitor
     module _ (there : k < n) (h : i < hops toA n k) {j : ℕ} (place : j ≡ behind toA k i) where
-      pub reachable : n ≤ mostMonitors → (j < mostMonitors) × (j * recordSize + recordSize ≤ length now)
+      pub reachable : n ≤ most_monitors → (j < most_monitors) × (j * record_size + record_size ≤ length now)
       reachable few =
-          let within : j < n = subst⁻¹ (λ (x : ℕ). x < n) place (behind-within toA n k i there h) in
-          (omega arith, row_fits recordSize within (omega (arith, lap.whole)))
+          let within : j < n = subst⁻¹ (λ (x : ℕ). x < n) place (behind_within toA n k i there h) in
+          (omega arith, row_fits record_size within (omega (arith, lap.whole)))
 
-      module _ {bytes after : List ℕ} {beat : Beat} (own : bytes ≡ message c f) (e : beat ≡ answers bytes (row_at recordSize j now)) (l : after ≡ hopLeaves j bytes now) where
-        its-table : after ≡ hopLeaves (behind toA k i) (message c f) now
-        its-table = l ∙ ap₂ (λ (x : ℕ) (b : List ℕ). hopLeaves x b now) place own
+      module _ {bytes after : List ℕ} {beat : Beat} (own : bytes ≡ message c f) (e : beat ≡ answers bytes (row_at record_size j now)) (l : after ≡ hop_leaves j bytes now) where
+        its-table : after ≡ hop_leaves (behind toA k i) (message c f) now
+        its-table = l ∙ ap₂ (λ (x : ℕ) (b : List ℕ). hop_leaves x b now) place own
 
-        its-beat : beat ≡ answers (message c f) (row_at recordSize (behind toA k i) now)
-        its-beat = e ∙ ap₂ (λ (x : ℕ) (b : List ℕ). answers b (row_at recordSize x now)) place own
+        its_beat : beat ≡ answers (message c f) (row_at record_size (behind toA k i) now)
+        its_beat = e ∙ ap₂ (λ (x : ℕ) (b : List ℕ). answers b (row_at record_size x now)) place own
 
-        one_more : hops toA n k - i ≡ suc (hops toA n k - suc i)
-        one_more = omega arith
+        one_more_lem : hops toA n k - i ≡ suc (hops toA n k - suc i)
+        one_more_lem = omega arith
 
-        sent-on : sentAlong (rest toA n k (suc i)) (bytesSent beat) after ≡ sentAlong (way toA n k) (message count flags) table
-        unfolding tabulate sentAlong hopSends
+        sent-on : sent_along (rest toA n k (suc i)) (bytes_sent beat) after ≡ sent_along (way toA n k) (message count flags) table
+        unfolding tabulate sent_along hop_sends
         sent-on =
-            ap₂ (λ (b : Beat) (t : List ℕ). sentAlong (rest toA n k (suc i)) (bytesSent b) t) its-beat its-table
-            ∙ ap (λ (m : ℕ). sentAlong (tabulate (behind toA k) i m) (message c f) now) (sym one_more)
+            ap₂ (λ (b : Beat) (t : List ℕ). sent_along (rest toA n k (suc i)) (bytes_sent b) t) its_beat its-table
+            ∙ ap (λ (m : ℕ). sent_along (tabulate (behind toA k) i m) (message c f) now) (sym one_more_lem)
             ∙ lap.sent
 
-        left-on : leftAlong (rest toA n k (suc i)) (bytesSent beat) after ≡ leftAlong (way toA n k) (message count flags) table
-        unfolding tabulate leftAlong hopSends
+        left-on : left_along (rest toA n k (suc i)) (bytes_sent beat) after ≡ left_along (way toA n k) (message count flags) table
+        unfolding tabulate left_along hop_sends
         left-on =
-            ap₂ (λ (b : Beat) (t : List ℕ). leftAlong (rest toA n k (suc i)) (bytesSent b) t) its-beat its-table
-            ∙ ap (λ (m : ℕ). leftAlong (tabulate (behind toA k) i m) (message c f) now) (sym one_more)
+            ap₂ (λ (b : Beat) (t : List ℕ). left_along (rest toA n k (suc i)) (bytes_sent b) t) its_beat its-table
+            ∙ ap (λ (m : ℕ). left_along (tabulate (behind toA k) i m) (message c f) now) (sym one_more_lem)
             ∙ lap.left
 
-        pub still-whole : length after ≡ n * recordSize
-        still-whole =
+        pub still_whole : length after ≡ n * record_size
+        still_whole =
             ap length its-table
-            ∙ length-hop (behind toA k i) now (message c f) (row_fits recordSize (behind-within toA n k i there h) (omega (arith, lap.whole)))
+            ∙ length_hop (behind toA k i) now (message c f) (row_fits record_size (behind_within toA n k i there h) (omega (arith, lap.whole)))
             ∙ lap.whole
 
         -- nothing was sent on
         pub stopped : beat ≡ Silent
-            → ([] ≡ sentAlong (way toA n k) (message count flags) table) × (after ≡ leftAlong (way toA n k) (message count flags) table)
+            → ([] ≡ sent_along (way toA n k) (message count flags) table) × (after ≡ left_along (way toA n k) (message count flags) table)
         stopped s =
             let none = none-along (rest toA n k (suc i)) after in (
-              sym none.0 ∙ ap (λ (b : Beat). sentAlong (rest toA n k (suc i)) (bytesSent b) after) (sym s) ∙ sent-on,
-              sym none.1 ∙ ap (λ (b : Beat). leftAlong (rest toA n k (suc i)) (bytesSent b) after) (sym s) ∙ left-on,
+              sym none.0 ∙ ap (λ (b : Beat). sent_along (rest toA n k (suc i)) (bytes_sent b) after) (sym s) ∙ sent-on,
+              sym none.1 ∙ ap (λ (b : Beat). left_along (rest toA n k (suc i)) (bytes_sent b) after) (sym s) ∙ left-on,
             )
 
         -- a message was
-        pub next-lap : {c' f' : ℕ} → beat ≡ Sends c' f' → Lap (i + 1) c' f' after
-        next-lap {c'} {f'} s =
+        pub next_lap : {c' f' : ℕ} → beat ≡ Sends c' f' → Lap (i + 1) c' f' after
+        next_lap {c'} {f'} s =
             subst (λ (x : ℕ). Lap x c' f' after) (sym (add-one i))
             (record {
               within = omega arith;
-              whole = still-whole;
-              sent = ap (λ (b : Beat). sentAlong (rest toA n k (suc i)) (bytesSent b) after) (sym s) ∙ sent-on;
-              left = ap (λ (b : Beat). leftAlong (rest toA n k (suc i)) (bytesSent b) after) (sym s) ∙ left-on;
+              whole = still_whole;
+              sent = ap (λ (b : Beat). sent_along (rest toA n k (suc i)) (bytes_sent b) after) (sym s) ∙ sent-on;
+              left = ap (λ (b : Beat). left_along (rest toA n k (suc i)) (bytes_sent b) after) (sym s) ∙ left-on;
             })

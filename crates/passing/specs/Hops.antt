@@ -5,33 +5,33 @@
 use Rattle.std.specs.Prelude.{Bool, cond, List, [], ◌∷◌, ℕ, suc, ◌+◌, ◌-◌}
 use Rattle.laws.specs.Rows.{row_at}
 use Rattle.laws.specs.Tables.{tabulate}
-use Rattle.records.specs.Record.{recordSize}
-use Rattle.judging.specs.Table.{monitors, changedAt}
+use Rattle.records.specs.Record.{record_size}
+use Rattle.judging.specs.Table.{monitors, changed_at}
 use Rattle.messages.specs.Messages.{message}
 use Rattle.heartbeats.specs.declared.steps.Beat.{Beat}
 use Rattle.heartbeats.specs.declared.steps.Beat.TheVariants.{Silent, Sends}
-use Rattle.heartbeats.specs.Steps.{towardsA, woken, wakes, reached, answers}
+use Rattle.heartbeats.specs.Steps.{towards_a, woken, wakes, reached, answers}
 
 -- what a monitor sends, as bytes
-abbrev pub bytesSent : Beat → List ℕ
-bytesSent Silent = []
-bytesSent (Sends count flags) = message count flags
+abbrev pub bytes_sent : Beat → List ℕ
+bytes_sent Silent = []
+bytes_sent (Sends count flags) = message count flags
 
 -- ---- one monitor of the table
 
 -- it wakes
-unfoldable pub wakeSends : ℕ → List ℕ → List ℕ
-wakeSends k table = bytesSent (wakes (row_at recordSize k table))
+unfoldable pub wake_sends : ℕ → List ℕ → List ℕ
+wake_sends k table = bytes_sent (wakes (row_at record_size k table))
 
-unfoldable pub wakeLeaves : ℕ → List ℕ → List ℕ
-wakeLeaves k table = changedAt k woken table
+unfoldable pub wake_leaves : ℕ → List ℕ → List ℕ
+wake_leaves k table = changed_at k woken table
 
 -- bytes reach it
-unfoldable pub hopSends : ℕ → List ℕ → List ℕ → List ℕ
-hopSends k bytes table = bytesSent (answers bytes (row_at recordSize k table))
+unfoldable pub hop_sends : ℕ → List ℕ → List ℕ → List ℕ
+hop_sends k bytes table = bytes_sent (answers bytes (row_at record_size k table))
 
-unfoldable pub hopLeaves : ℕ → List ℕ → List ℕ → List ℕ
-hopLeaves k bytes table = changedAt k (reached bytes) table
+unfoldable pub hop_leaves : ℕ → List ℕ → List ℕ → List ℕ
+hop_leaves k bytes table = changed_at k (reached bytes) table
 
 -- ---- the way from the monitor at k of n: towards port A down to the first, else up to the last
 
@@ -47,22 +47,22 @@ way toA n k = tabulate (behind toA k) 0 (hops toA n k)
 
 -- ---- from monitor to monitor: each is reached by what the one before it sent
 
-unfoldable pub sentAlong : List ℕ → List ℕ → List ℕ → List ℕ
-sentAlong [] bytes table = bytes
-sentAlong (k ∷ ks) bytes table = sentAlong ks (hopSends k bytes table) (hopLeaves k bytes table)
+unfoldable pub sent_along : List ℕ → List ℕ → List ℕ → List ℕ
+sent_along [] bytes table = bytes
+sent_along (k ∷ ks) bytes table = sent_along ks (hop_sends k bytes table) (hop_leaves k bytes table)
 
-unfoldable pub leftAlong : List ℕ → List ℕ → List ℕ → List ℕ
-leftAlong [] bytes table = table
-leftAlong (k ∷ ks) bytes table = leftAlong ks (hopSends k bytes table) (hopLeaves k bytes table)
+unfoldable pub left_along : List ℕ → List ℕ → List ℕ → List ℕ
+left_along [] bytes table = table
+left_along (k ∷ ks) bytes table = left_along ks (hop_sends k bytes table) (hop_leaves k bytes table)
 
 -- ---- a whole heartbeat: the monitor at k wakes, and what it sends goes its way to the end of the chain
 
-abbrev pub wayFrom : ℕ → List ℕ → List ℕ
-wayFrom k table = way (towardsA (row_at recordSize k table)) (monitors table) k
+abbrev pub way_from : ℕ → List ℕ → List ℕ
+way_from k table = way (towards_a (row_at record_size k table)) (monitors table) k
 
 -- what leaves the chain
-unfoldable pub beatSends : ℕ → List ℕ → List ℕ
-beatSends k table = sentAlong (wayFrom k table) (wakeSends k table) (wakeLeaves k table)
+unfoldable pub beat_sends : ℕ → List ℕ → List ℕ
+beat_sends k table = sent_along (way_from k table) (wake_sends k table) (wake_leaves k table)
 
-unfoldable pub beatLeaves : ℕ → List ℕ → List ℕ
-beatLeaves k table = leftAlong (wayFrom k table) (wakeSends k table) (wakeLeaves k table)
+unfoldable pub beat_leaves : ℕ → List ℕ → List ℕ
+beat_leaves k table = left_along (way_from k table) (wake_sends k table) (wake_leaves k table)

@@ -1,12 +1,12 @@
 // One monitor of the table in a heartbeat, and a message on its way from monitor to monitor. Monitors are counted from 0.
 ghost use Rattle.std.specs.Prelude.{◌≡◌, [], suc, ◌+◌, ◌*◌, ◌<◌, ◌≤◌, length};
 ghost use Rattle.laws.specs.Rows.{row_at};
-ghost use Rattle.records.specs.Record.{recordSize};
-ghost use Rattle.records.specs.Commands.{mostMonitors};
-ghost use Rattle.judging.specs.Table.{changedAt};
+ghost use Rattle.records.specs.Record.{record_size};
+ghost use Rattle.records.specs.Commands.{most_monitors};
+ghost use Rattle.judging.specs.Table.{changed_at};
 ghost use Rattle.messages.specs.Messages.{message};
-ghost use Rattle.heartbeats.specs.Steps.{towardsA, isTimeout, wakes, answers, late};
-ghost use Rattle.passing.specs.Hops.{bytesSent, wakeSends, wakeLeaves, hopLeaves, hops, behind, way, sentAlong, leftAlong};
+ghost use Rattle.heartbeats.specs.Steps.{towards_a, is_timeout, wakes, answers, late};
+ghost use Rattle.passing.specs.Hops.{bytes_sent, wake_sends, wake_leaves, hop_leaves, hops, behind, way, sent_along, left_along};
 
 use heartbeats::{Beat, is_towards_a, reach, run_out};
 use messages::message;
@@ -14,8 +14,8 @@ use records::RECORD_SIZE;
 
 // Towards which end does the monitor at k send?
 pub(crate) fn towards_a_at(table: &[u8], k: usize) -> bool
-    requires { (k < mostMonitors) × (k * recordSize + recordSize ≤ length table.now) }
-    ensures { result ≡ towardsA (row_at recordSize k table.now) }
+    requires { (k < most_monitors) × (k * record_size + record_size ≤ length table.now) }
+    ensures { result ≡ towards_a (row_at record_size k table.now) }
 {
     let start = k * RECORD_SIZE;
     let end = start + RECORD_SIZE;
@@ -24,9 +24,9 @@ pub(crate) fn towards_a_at(table: &[u8], k: usize) -> bool
 
 // The monitor at k wakes.
 pub(crate) fn wake_at(table: &mut [u8], k: usize) -> Beat
-    requires { (k < mostMonitors) × (k * recordSize + recordSize ≤ length table.old) }
-    ensures value { result ≡ wakes (row_at recordSize k table.old) }
-    ensures table_after { table.new ≡ wakeLeaves k table.old }
+    requires { (k < most_monitors) × (k * record_size + record_size ≤ length table.old) }
+    ensures value { result ≡ wakes (row_at record_size k table.old) }
+    ensures table_after { table.new ≡ wake_leaves k table.old }
 {
     let start = k * RECORD_SIZE;
     let end = start + RECORD_SIZE;
@@ -35,9 +35,9 @@ pub(crate) fn wake_at(table: &mut [u8], k: usize) -> Beat
 
 // Bytes reach the monitor at k.
 pub(crate) fn reach_at(table: &mut [u8], k: usize, bytes: &[u8]) -> Beat
-    requires { (k < mostMonitors) × (k * recordSize + recordSize ≤ length table.old) }
-    ensures value { result ≡ answers bytes.now (row_at recordSize k table.old) }
-    ensures table_after { table.new ≡ hopLeaves k bytes.now table.old }
+    requires { (k < most_monitors) × (k * record_size + record_size ≤ length table.old) }
+    ensures value { result ≡ answers bytes.now (row_at record_size k table.old) }
+    ensures table_after { table.new ≡ hop_leaves k bytes.now table.old }
 {
     let start = k * RECORD_SIZE;
     let end = start + RECORD_SIZE;
@@ -46,9 +46,9 @@ pub(crate) fn reach_at(table: &mut [u8], k: usize, bytes: &[u8]) -> Beat
 
 // The time runs out at the monitor at k: is it a timeout monitor?
 pub(crate) fn run_out_at(table: &mut [u8], k: usize) -> bool
-    requires { (k < mostMonitors) × (k * recordSize + recordSize ≤ length table.old) }
-    ensures value { result ≡ isTimeout (row_at recordSize k table.old) }
-    ensures table_after { table.new ≡ changedAt k late table.old }
+    requires { (k < most_monitors) × (k * record_size + record_size ≤ length table.old) }
+    ensures value { result ≡ is_timeout (row_at record_size k table.old) }
+    ensures table_after { table.new ≡ changed_at k late table.old }
 {
     let start = k * RECORD_SIZE;
     let end = start + RECORD_SIZE;
@@ -68,7 +68,7 @@ fn hops(to_a: bool, n: usize, k: usize) -> usize
 
 // The monitor behind hop i from k.
 fn behind(to_a: bool, k: usize, i: usize) -> usize
-    requires { (k < mostMonitors) × (i < mostMonitors) }
+    requires { (k < most_monitors) × (i < most_monitors) }
     ensures { result ≡ behind to_a k i }
 {
     if to_a {
@@ -82,9 +82,9 @@ fn behind(to_a: bool, k: usize, i: usize) -> usize
 
 // A message on its way from k through n monitors: what is left of it at the end of the chain.
 fn pass_on(table: &mut [u8], to_a: bool, n: usize, k: usize, count: u8, flags: u8) -> Beat
-    requires { (k < n) × (n ≤ mostMonitors) × (length table.old ≡ n * recordSize) }
-    ensures result_value { bytesSent result ≡ sentAlong (way to_a n k) (message count flags) table.old }
-    ensures table_after { table.new ≡ leftAlong (way to_a n k) (message count flags) table.old }
+    requires { (k < n) × (n ≤ most_monitors) × (length table.old ≡ n * record_size) }
+    ensures result_value { bytes_sent result ≡ sent_along (way to_a n k) (message count flags) table.old }
+    ensures table_after { table.new ≡ left_along (way to_a n k) (message count flags) table.old }
 {
     let mut c = count;
     let mut f = flags;
@@ -108,9 +108,9 @@ fn pass_on(table: &mut [u8], to_a: bool, n: usize, k: usize, count: u8, flags: u
 
 // The monitor at k of n wakes, and what it sends goes its way: what leaves the chain.
 pub(crate) fn beat_from(table: &mut [u8], to_a: bool, n: usize, k: usize) -> Beat
-    requires { (k < n) × (n ≤ mostMonitors) × (length table.old ≡ n * recordSize) }
-    ensures result_value { bytesSent result ≡ sentAlong (way to_a n k) (wakeSends k table.old) (wakeLeaves k table.old) }
-    ensures table_after { table.new ≡ leftAlong (way to_a n k) (wakeSends k table.old) (wakeLeaves k table.old) }
+    requires { (k < n) × (n ≤ most_monitors) × (length table.old ≡ n * record_size) }
+    ensures result_value { bytes_sent result ≡ sent_along (way to_a n k) (wake_sends k table.old) (wake_leaves k table.old) }
+    ensures table_after { table.new ≡ left_along (way to_a n k) (wake_sends k table.old) (wake_leaves k table.old) }
 {
     match wake_at(table, k) {
         Beat::Silent => Beat::Silent,

@@ -2,28 +2,28 @@
 ghost use Rattle.std.specs.Prelude.{◌≡◌, cond, not, ◌-◌, ◌≤◌, eqb, length};
 ghost use Rattle.refusals.specs.Order.{decide};
 ghost use Rattle.judging.specs.declared.places.Placed.TheVariants.{Nowhere, At};
-ghost use Rattle.messages.specs.Messages.{messageSize};
+ghost use Rattle.messages.specs.Messages.{message_size};
 ghost use Rattle.passing.specs.declared.operations.Sent.TheVariants.{Nothing, TowardsA, TowardsB};
-ghost use Rattle.passing.specs.Hops.{bytesSent};
+ghost use Rattle.passing.specs.Hops.{bytes_sent};
 ghost use Rattle.passing.specs.Operations.{
-  handedOut,
-  wakeRefusals,
-  relayRefusals,
-  wokenAt,
-  tableAfterWake,
-  outAfterWake,
-  relayedAt,
-  tableAfterRelay,
-  outAfterRelay,
+  handed_out,
+  wake_refusals,
+  relay_refusals,
+  woken_at,
+  table_after_wake,
+  out_after_wake,
+  relayed_at,
+  table_after_relay,
+  out_after_relay,
   beaten,
-  tableAfterBeat,
-  outAfterBeat,
-  timedOut,
-  tableAfterTimeOut,
+  table_after_beat,
+  out_after_beat,
+  timed_out,
+  table_after_time_out,
 };
 
 use crate::hops::{beat_from, reach_at, run_out_at, towards_a_at, wake_at};
-use bytes::put;
+use laying::put;
 use heartbeats::Beat;
 use judging::{Placed, place_of};
 use messages::{MESSAGE_SIZE, message};
@@ -57,7 +57,7 @@ pub enum TimedOut {
 
 // The refusals of a wake and of a whole heartbeat, in their order: of the table, of the position and of the room.
 fn judge_wake(table: &[u8], position: usize, room: usize) -> Placed
-    ensures { result ≡ decide (wakeRefusals table.now position room) Nowhere (At (position - 1)) }
+    ensures { result ≡ decide (wake_refusals table.now position room) Nowhere (At (position - 1)) }
 {
     match place_of(table, position) {
         Placed::Nowhere(refusal) => Placed::Nowhere(refusal),
@@ -72,7 +72,7 @@ fn judge_wake(table: &[u8], position: usize, room: usize) -> Placed
 
 // Those of a message that reaches a monitor: of the table, of the position, of the bytes that came and of the room.
 fn judge_relay(table: &[u8], position: usize, bytes: usize, room: usize) -> Placed
-    ensures { result ≡ decide (relayRefusals table.now position bytes room) Nowhere (At (position - 1)) }
+    ensures { result ≡ decide (relay_refusals table.now position bytes room) Nowhere (At (position - 1)) }
 {
     match place_of(table, position) {
         Placed::Nowhere(refusal) => Placed::Nowhere(refusal),
@@ -90,9 +90,9 @@ fn judge_relay(table: &[u8], position: usize, bytes: usize, room: usize) -> Plac
 
 // What a monitor sends, at the start of a buffer: is it something?
 fn hand_out(beat: Beat, out: &mut [u8]) -> bool
-    requires { messageSize ≤ length out.old }
-    ensures value { result ≡ not (eqb (length (bytesSent beat)) 0) }
-    ensures out_after { out.new ≡ handedOut (bytesSent beat) out.old }
+    requires { message_size ≤ length out.old }
+    ensures value { result ≡ not (eqb (length (bytes_sent beat)) 0) }
+    ensures out_after { out.new ≡ handed_out (bytes_sent beat) out.old }
 {
     match beat {
         Beat::Silent => false,
@@ -119,9 +119,9 @@ fn sent_towards(some: bool, to_a: bool) -> Sent
 
 // The manager at a position wakes, and what it sends is handed out.
 pub fn wake(table: &mut [u8], position: usize, out: &mut [u8]) -> Sent
-    ensures value { result ≡ wokenAt table.old position (length out.old) }
-    ensures table_after { table.new ≡ tableAfterWake table.old position (length out.old) }
-    ensures out_after { out.new ≡ outAfterWake table.old position out.old }
+    ensures value { result ≡ woken_at table.old position (length out.old) }
+    ensures table_after { table.new ≡ table_after_wake table.old position (length out.old) }
+    ensures out_after { out.new ≡ out_after_wake table.old position out.old }
 {
     match judge_wake(table, position, out.len()) {
         Placed::Nowhere(refusal) => Sent::Unsent(refusal),
@@ -135,9 +135,9 @@ pub fn wake(table: &mut [u8], position: usize, out: &mut [u8]) -> Sent
 
 // A message reaches the monitor at a position, and what that sends on is handed out.
 pub fn relay(table: &mut [u8], position: usize, message: &[u8], out: &mut [u8]) -> Relayed
-    ensures value { result ≡ relayedAt table.old position message.now (length out.old) }
-    ensures table_after { table.new ≡ tableAfterRelay table.old position message.now (length out.old) }
-    ensures out_after { out.new ≡ outAfterRelay table.old position message.now out.old }
+    ensures value { result ≡ relayed_at table.old position message.now (length out.old) }
+    ensures table_after { table.new ≡ table_after_relay table.old position message.now (length out.old) }
+    ensures out_after { out.new ≡ out_after_relay table.old position message.now out.old }
 {
     match judge_relay(table, position, message.len(), out.len()) {
         Placed::Nowhere(refusal) => Relayed::Unrelayed(refusal),
@@ -155,8 +155,8 @@ pub fn relay(table: &mut [u8], position: usize, message: &[u8], out: &mut [u8]) 
 // chain, and is handed out, or stops.
 pub fn heartbeat(table: &mut [u8], position: usize, out: &mut [u8]) -> Sent
     ensures value { result ≡ beaten table.old position (length out.old) }
-    ensures table_after { table.new ≡ tableAfterBeat table.old position (length out.old) }
-    ensures out_after { out.new ≡ outAfterBeat table.old position out.old }
+    ensures table_after { table.new ≡ table_after_beat table.old position (length out.old) }
+    ensures out_after { out.new ≡ out_after_beat table.old position out.old }
 {
     match judge_wake(table, position, out.len()) {
         Placed::Nowhere(refusal) => Sent::Unsent(refusal),
@@ -171,8 +171,8 @@ pub fn heartbeat(table: &mut [u8], position: usize, out: &mut [u8]) -> Sent
 
 // The time runs out at the monitor in a position.
 pub fn time_out(table: &mut [u8], position: usize) -> TimedOut
-    ensures value { result ≡ timedOut table.old position }
-    ensures table_after { table.new ≡ tableAfterTimeOut table.old position }
+    ensures value { result ≡ timed_out table.old position }
+    ensures table_after { table.new ≡ table_after_time_out table.old position }
 {
     match place_of(table, position) {
         Placed::Nowhere(refusal) => TimedOut::Untimed(refusal),

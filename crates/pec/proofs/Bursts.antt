@@ -14,38 +14,38 @@ use lib.Pow.{pow_pos, pow_mono}
 use lib.Seq.{ext_get_or, get_or-take, get_or-drop}
 use borrow.Author.Tests.{eq-eqb, eqb-true}
 use Rattle.laws.specs.Bits.{◌⊕◌, odd, bits_of}
-use Rattle.laws.proofs.Xor.{zero_xor, xor_same, xor-twice, xor_below}
-use Rattle.laws.proofs.BitStrings.{value_of, value-below, bits_of_value}
+use Rattle.laws.proofs.Xor.{zero_xor, xor_same, xor_twice, xor_below}
+use Rattle.laws.proofs.BitStrings.{value_of, value_below, bits_of_value}
 use Rattle.pec.specs.Remainder.{remainder}
 use Rattle.pec.specs.Spikes.{Burst}
-use Rattle.pec.proofs.Remainder.{step-below, remainder-below, remainder-append, remainder-bits-linear}
-use Rattle.pec.proofs.ManyBits.{zeros-first}
-use Rattle.pec.proofs.Undone.{remainder-injective, nothing_left}
+use Rattle.pec.proofs.Remainder.{step-below, remainder-below, remainder_append, remainder_bits_linear}
+use Rattle.pec.proofs.ManyBits.{zeros_first}
+use Rattle.pec.proofs.Undone.{remainder_injective, nothing_left}
 
 module _ (w g : ℕ) (ends : odd g ≡ true) (fits : g < 2 ^ suc w) where
   -- from 0, a number of k bits, at most the width, leaves 0 only if it is 0
-  only-zeros : (k : ℕ) {x : ℕ} → k ≤ suc w → x < 2 ^ k → remainder (suc w) g 0 (bits_of k x) ≡ 0 → x ≡ 0
-  only-zeros k {x} short h none =
+  only_zeros : (k : ℕ) {x : ℕ} → k ≤ suc w → x < 2 ^ k → remainder (suc w) g 0 (bits_of k x) ≡ 0 → x ≡ 0
+  only_zeros k {x} short h none =
       let apart : (suc w - k) + k ≡ suc w = omega arith in
-      let wide = ap (λ (n : ℕ). remainder (suc w) g 0 (bits_of n x)) (sym apart) ∙ zeros-first (suc w) g (suc w - k) k h ∙ none in
+      let wide = ap (λ (n : ℕ). remainder (suc w) g 0 (bits_of n x)) (sym apart) ∙ zeros_first (suc w) g (suc w - k) k h ∙ none in
       eqb-true x 0 (sym (nothing_left w g 0 x ends fits (pow_pos (suc w)) (lt_of_lt_of_le h (pow_mono short))) ∙ eq-eqb _ 0 wide)
 
   -- from one remainder, strings of as many bits, at most the width, are told by what they leave
-  short-told : (s : ℕ) (us vs : List Bool) → length us ≡ length vs → length us ≤ suc w → remainder (suc w) g s us ≡ remainder (suc w) g s vs → us ≡ vs
-  short-told s us vs as_long short alike =
+  short_told : (s : ℕ) (us vs : List Bool) → length us ≡ length vs → length us ≤ suc w → remainder (suc w) g s us ≡ remainder (suc w) g s vs → us ≡ vs
+  short_told s us vs as_long short alike =
       let k = length us in
       let u = value_of us in
       let v = value_of vs in
       let of-us : bits_of k u ≡ us = bits_of_value us in
       let of-vs : bits_of k v ≡ vs = ap (λ (n : ℕ). bits_of n v) as_long ∙ bits_of_value vs in
-      let v_below : v < 2 ^ k = subst (λ (n : ℕ). v < 2 ^ n) (sym as_long) (value-below vs) in
+      let v_below : v < 2 ^ k = subst (λ (n : ℕ). v < 2 ^ n) (sym as_long) (value_below vs) in
       let none : remainder (suc w) g 0 (bits_of k (u ⊕ v)) ≡ 0 =
       ap (λ (r : ℕ). remainder (suc w) g r (bits_of k (u ⊕ v))) (sym (xor_same s))
-      ∙ remainder-bits-linear (suc w) g s s k u v
+      ∙ remainder_bits_linear (suc w) g s s k u v
       ∙ ap₂ (λ (a b : List Bool). remainder (suc w) g s a ⊕ remainder (suc w) g s b) of-us of-vs
       ∙ ap (λ (r : ℕ). r ⊕ remainder (suc w) g s vs) alike
       ∙ xor_same (remainder (suc w) g s vs) in
-      let same-value : u ≡ v = sym (xor-twice u v) ∙ ap (λ (x : ℕ). x ⊕ v) (only-zeros k short (xor_below k (value-below us) v_below) none) ∙ zero_xor v in
+      let same-value : u ≡ v = sym (xor_twice u v) ∙ ap (λ (x : ℕ). x ⊕ v) (only_zeros k short (xor_below k (value_below us) v_below) none) ∙ zero_xor v in
       sym of-us ∙ ap (bits_of k) same-value ∙ of-vs
 
   -- the bits behind them keep different remainders different
@@ -55,9 +55,9 @@ module _ (w g : ℕ) (ends : odd g ≡ true) (fits : g < 2 ^ suc w) where
   then-told s [] (v ∷ vs) rest as_long short alike = absurd (omega arith)
   then-told s (u ∷ us) [] rest as_long short alike = absurd (omega arith)
   then-told s (u ∷ us) (v ∷ vs) rest as_long short alike =
-      short-told s (u ∷ us) (v ∷ vs) as_long short
-      (remainder-injective w g (left (u ∷ us)) (left (v ∷ vs)) rest ends fits (below u us) (below v vs)
-      (sym (remainder-append (suc w) g s (u ∷ us) rest) ∙ alike ∙ remainder-append (suc w) g s (v ∷ vs) rest))
+      short_told s (u ∷ us) (v ∷ vs) as_long short
+      (remainder_injective w g (left (u ∷ us)) (left (v ∷ vs)) rest ends fits (below u us) (below v vs)
+      (sym (remainder_append (suc w) g s (u ∷ us) rest) ∙ alike ∙ remainder_append (suc w) g s (v ∷ vs) rest))
     where
       left : List Bool → ℕ
       left bs = remainder (suc w) g s bs
@@ -74,8 +74,8 @@ three a b bs = ap (λ (l : List Bool). take a bs ++ l) (take-append-drop b (drop
 module _ (first w : ℕ) (sent came : List Bool) (as_long : length came ≡ length sent)
     (before : (i : ℕ) → i < first → get_or came i false ≡ get_or sent i false)
     (behind : (i : ℕ) → first + w ≤ i → get_or came i false ≡ get_or sent i false) where
-  same-front : take first came ≡ take first sent
-  same-front =
+  same_front : take first came ≡ take first sent
+  same_front =
       ext_get_or false (take first came) (take first sent) (length-take first came ∙ ap (min first) as_long ∙ sym (length-take first sent))
       (λ i h. let there : i < first = omega (arith, h, length-take first came) in
       get_or-take first came i false there ∙ before i there ∙ sym (get_or-take first sent i false there))
@@ -89,8 +89,8 @@ module _ (first w : ℕ) (sent came : List Bool) (as_long : length came ≡ leng
       at : (bs : List Bool) (i : ℕ) → get_or (drop w (drop first bs)) i false ≡ get_or bs (first + (w + i)) false
       at bs i = get_or-drop w (drop first bs) i false ∙ get_or-drop first bs (w + i) false
 
-  mid-long : length (take w (drop first came)) ≡ length (take w (drop first sent))
-  mid-long =
+  mid_long : length (take w (drop first came)) ≡ length (take w (drop first sent))
+  mid_long =
       length-take w (drop first came)
       ∙ ap (min w) (length-drop first came ∙ ap (λ (n : ℕ). n - first) as_long ∙ sym (length-drop first sent))
       ∙ sym (length-take w (drop first sent))
@@ -98,7 +98,7 @@ module _ (first w : ℕ) (sent came : List Bool) (as_long : length came ≡ leng
   same_whole : take w (drop first came) ≡ take w (drop first sent) → came ≡ sent
   same_whole mid =
       sym (three first w came)
-      ∙ ap₂ (λ (a b : List Bool). a ++ b) same-front (ap₂ (λ (a b : List Bool). a ++ b) mid same_end)
+      ∙ ap₂ (λ (a b : List Bool). a ++ b) same_front (ap₂ (λ (a b : List Bool). a ++ b) mid same_end)
       ∙ three first w sent
 
 -- ---- the law
@@ -108,7 +108,7 @@ burst-seen zero g r ends fits {sent} {came} b alike = b.some (same_whole b.first
 burst-seen (suc w) g r ends fits {sent} {came} b alike =
     b.some
     (same_whole first (suc w) sent came b.as_long b.before b.behind
-    (then-told w g ends fits start (mid came) (mid sent) (end sent) (mid-long first (suc w) sent came b.as_long b.before b.behind)
+    (then-told w g ends fits start (mid came) (mid sent) (end sent) (mid_long first (suc w) sent came b.as_long b.before b.behind)
     (omega (arith, length-take (suc w) (drop first came)))
     (sym came-by ∙ alike ∙ by sent)))
   where
@@ -126,11 +126,11 @@ burst-seen (suc w) g r ends fits {sent} {came} b alike =
     start = remainder (suc w) g r (take first sent)
 
     by : (bs : List Bool) → remainder (suc w) g r bs ≡ remainder (suc w) g (remainder (suc w) g r (take first bs)) (mid bs ++ end bs)
-    by bs = ap (remainder (suc w) g r) (sym (three first (suc w) bs)) ∙ remainder-append (suc w) g r (take first bs) (mid bs ++ end bs)
+    by bs = ap (remainder (suc w) g r) (sym (three first (suc w) bs)) ∙ remainder_append (suc w) g r (take first bs) (mid bs ++ end bs)
 
     came-by : remainder (suc w) g r came ≡ remainder (suc w) g start (mid came ++ end sent)
     came-by =
         by came
         ∙ ap₂ (λ (a b : List Bool). remainder (suc w) g (remainder (suc w) g r a) (mid came ++ b))
-        (same-front first (suc w) sent came b.as_long b.before b.behind)
+        (same_front first (suc w) sent came b.as_long b.before b.behind)
         (same_end first (suc w) sent came b.as_long b.before b.behind)

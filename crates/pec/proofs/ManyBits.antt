@@ -11,9 +11,9 @@ use lib.ListN.{replicate}
 use lib.Pow.{pow_pos}
 use Rattle.laws.specs.Bits.{◌⊕◌, odd, bits_of}
 use Rattle.laws.proofs.Xor.{zero_xor, xor-zero, xor_same, xor_comm, xor_assoc}
-use Rattle.laws.proofs.Bits.{bits-top, bits-zeros, bits-of-zero}
+use Rattle.laws.proofs.Bits.{bits_top, bits_zeros, bits_of-zero}
 use Rattle.pec.specs.Remainder.{once, step, remainder}
-use Rattle.pec.proofs.Remainder.{remainder-append, remainder-bits-linear}
+use Rattle.pec.proofs.Remainder.{remainder_append, remainder_bits_linear}
 
 -- ---- zeros from 0
 
@@ -26,18 +26,18 @@ unfolding step odd xor
 step-from-zero w g true = rw (zero-mod, zero-div, zero_xor)
 step-from-zero w g false = rw (zero-mod, zero-div, zero_xor)
 
-pub remainder-of-zeros : (w g k : ℕ) → remainder w g 0 (replicate k false) ≡ 0
+pub remainder_of_zeros : (w g k : ℕ) → remainder w g 0 (replicate k false) ≡ 0
 unfolding remainder
-remainder-of-zeros w g zero = refl
-remainder-of-zeros w g (suc k) =
-    ap (λ (r : ℕ). remainder w g r (replicate k false)) (step-from-zero w g false ∙ once-not g) ∙ remainder-of-zeros w g k
+remainder_of_zeros w g zero = refl
+remainder_of_zeros w g (suc k) =
+    ap (λ (r : ℕ). remainder w g r (replicate k false)) (step-from-zero w g false ∙ once-not g) ∙ remainder_of_zeros w g k
 
 -- zeros in front of a number of k bits leave 0
-pub zeros-first : (w g j k : ℕ) {x : ℕ} → x < 2 ^ k → remainder w g 0 (bits_of (j + k) x) ≡ remainder w g 0 (bits_of k x)
-zeros-first w g j k {x} h =
-    ap (remainder w g 0) (bits-zeros j k h)
-    ∙ remainder-append w g 0 (replicate j false) (bits_of k x)
-    ∙ ap (λ (r : ℕ). remainder w g r (bits_of k x)) (remainder-of-zeros w g j)
+pub zeros_first : (w g j k : ℕ) {x : ℕ} → x < 2 ^ k → remainder w g 0 (bits_of (j + k) x) ≡ remainder w g 0 (bits_of k x)
+zeros_first w g j k {x} h =
+    ap (remainder w g 0) (bits_zeros j k h)
+    ∙ remainder_append w g 0 (replicate j false) (bits_of k x)
+    ∙ ap (λ (r : ℕ). remainder w g r (bits_of k x)) (remainder_of_zeros w g j)
 
 -- ---- moved up
 
@@ -53,25 +53,25 @@ up w k r =
     ∙ add-mul ((r * 2 / 2 ^ w) * 2 ^ w) (r * 2 % 2 ^ w) (2 ^ k)
     ∙ ap (λ (n : ℕ). n + (r * 2 % 2 ^ w) * 2 ^ k) (mul_right_comm (r * 2 / 2 ^ w) (2 ^ w) (2 ^ k))
 
-up-over : (w k r : ℕ) → r * 2 ^ suc k / 2 ^ w ≡ (r * 2 / 2 ^ w) * 2 ^ k + (r * 2 % 2 ^ w) * 2 ^ k / 2 ^ w
-up-over w k r = ap (λ (n : ℕ). n / 2 ^ w) (up w k r) ∙ mul-add-div_right (pow_pos w) ((r * 2 / 2 ^ w) * 2 ^ k) ((r * 2 % 2 ^ w) * 2 ^ k)
+up_over : (w k r : ℕ) → r * 2 ^ suc k / 2 ^ w ≡ (r * 2 / 2 ^ w) * 2 ^ k + (r * 2 % 2 ^ w) * 2 ^ k / 2 ^ w
+up_over w k r = ap (λ (n : ℕ). n / 2 ^ w) (up w k r) ∙ mul-add-div_right (pow_pos w) ((r * 2 / 2 ^ w) * 2 ^ k) ((r * 2 % 2 ^ w) * 2 ^ k)
 
-up-low : (w k r : ℕ) → r * 2 ^ suc k % 2 ^ w ≡ (r * 2 % 2 ^ w) * 2 ^ k % 2 ^ w
-up-low w k r = ap (λ (n : ℕ). n % 2 ^ w) (up w k r) ∙ mul-add-mod_self_right ((r * 2 / 2 ^ w) * 2 ^ k) (2 ^ w) ((r * 2 % 2 ^ w) * 2 ^ k)
+up_low : (w k r : ℕ) → r * 2 ^ suc k % 2 ^ w ≡ (r * 2 % 2 ^ w) * 2 ^ k % 2 ^ w
+up_low w k r = ap (λ (n : ℕ). n % 2 ^ w) (up w k r) ∙ mul-add-mod_self_right ((r * 2 / 2 ^ w) * 2 ^ k) (2 ^ w) ((r * 2 % 2 ^ w) * 2 ^ k)
 
 xor-false : (b : Bool) → xor b false ≡ b
 unfolding xor
 xor-false true = refl
 xor-false false = refl
 
-step-zero-bit : (w g r : ℕ) → step w g r false ≡ (r * 2 % 2 ^ w) ⊕ once (odd (r * 2 / 2 ^ w)) g
+step-zero_bit : (w g r : ℕ) → step w g r false ≡ (r * 2 % 2 ^ w) ⊕ once (odd (r * 2 / 2 ^ w)) g
 unfolding step
-step-zero-bit w g r = ap (λ (b : Bool). (r * 2 % 2 ^ w) ⊕ once b g) (xor-false (odd (r * 2 / 2 ^ w)))
+step-zero_bit w g r = ap (λ (b : Bool). (r * 2 % 2 ^ w) ⊕ once b g) (xor-false (odd (r * 2 / 2 ^ w)))
 
 -- a start and the k bits of a number, added
 added : (w g r k x : ℕ) → remainder w g r (bits_of k x) ≡ remainder w g r (bits_of k 0) ⊕ remainder w g 0 (bits_of k x)
 added w g r k x =
-    ap₂ (λ (s y : ℕ). remainder w g s (bits_of k y)) (sym (xor-zero r)) (sym (zero_xor x)) ∙ remainder-bits-linear w g r 0 k 0 x
+    ap₂ (λ (s y : ℕ). remainder w g s (bits_of k y)) (sym (xor-zero r)) (sym (zero_xor x)) ∙ remainder_bits_linear w g r 0 k 0 x
 
 odd-zero : odd 0 ≡ false
 unfolding odd
@@ -84,16 +84,16 @@ module _ (w g k r l t : ℕ) where
   unfolding remainder bits_of
   first-zero hl ht =
       ap (λ (b : Bool). remainder w g (step w g r b) (bits_of k 0)) (ap odd (zero-div (2 ^ k)) ∙ odd-zero)
-      ∙ ap (λ (s : ℕ). remainder w g s (bits_of k 0)) (step-zero-bit w g r ∙ ap₂ (λ (x y : ℕ). x ⊕ once (odd y) g) (sym hl) (sym ht))
+      ∙ ap (λ (s : ℕ). remainder w g s (bits_of k 0)) (step-zero_bit w g r ∙ ap₂ (λ (x y : ℕ). x ⊕ once (odd y) g) (sym hl) (sym ht))
       ∙ ap (λ (x : ℕ). remainder w g (l ⊕ once (odd t) g) (bits_of k x)) (sym (zero_xor 0))
-      ∙ remainder-bits-linear w g l (once (odd t) g) k 0 0
+      ∙ remainder_bits_linear w g l (once (odd t) g) k 0 0
 
 -- t and k bits x after it, from 0
 first_bit : (w g k t : ℕ) {x : ℕ} → x < 2 ^ k
     → remainder w g 0 (bits_of (suc k) (t * 2 ^ k + x)) ≡ remainder w g (once (odd t) g) (bits_of k 0) ⊕ remainder w g 0 (bits_of k x)
 unfolding remainder
 first_bit w g k t {x} h =
-    ap (remainder w g 0) (bits-top k t h)
+    ap (remainder w g 0) (bits_top k t h)
     ∙ ap (λ (s : ℕ). remainder w g s (bits_of k x)) (step-from-zero w g (odd t))
     ∙ added w g (once (odd t) g) k x
 
@@ -110,7 +110,7 @@ zeros w g (suc k) {r} h =
     first-zero w g k r l t refl refl
     ∙ ap (λ (x : ℕ). x ⊕ out) (zeros w g k below)
     ∙ xor_assoc (l * 2 ^ k % 2 ^ w) rest out
-    ∙ ap₂ ◌⊕◌ (sym (up-low w k r)) (xor_comm rest out ∙ sym (ap (λ (x : ℕ). remainder w g 0 (bits_of (suc k) x)) (up-over w k r) ∙ first_bit w g k t (over_below w k below)))
+    ∙ ap₂ ◌⊕◌ (sym (up_low w k r)) (xor_comm rest out ∙ sym (ap (λ (x : ℕ). remainder w g 0 (bits_of (suc k) x)) (up_over w k r) ∙ first_bit w g k t (over_below w k below)))
 
 -- ---- the laws
 
@@ -118,21 +118,21 @@ zeros w g (suc k) {r} h =
 pub from_start : (w g r k x : ℕ) → remainder w g 0 (bits_of k x) ⊕ remainder w g r (bits_of k 0) ≡ remainder w g r (bits_of k x)
 from_start w g r k x = xor_comm (remainder w g 0 (bits_of k x)) (remainder w g r (bits_of k 0)) ∙ sym (added w g r k x)
 
-pub many-bits : (w g k x : ℕ) {r : ℕ} → r < 2 ^ w
+pub many_bits : (w g k x : ℕ) {r : ℕ} → r < 2 ^ w
     → remainder w g r (bits_of k x) ≡ (r * 2 ^ k % 2 ^ w) ⊕ remainder w g 0 (bits_of k ((r * 2 ^ k / 2 ^ w) ⊕ x))
-many-bits w g k x {r} h =
+many_bits w g k x {r} h =
     let low = r * 2 ^ k % 2 ^ w in
     let over = r * 2 ^ k / 2 ^ w in
     added w g r k x
     ∙ ap (λ (n : ℕ). n ⊕ remainder w g 0 (bits_of k x)) (zeros w g k h)
     ∙ xor_assoc low (remainder w g 0 (bits_of k over)) (remainder w g 0 (bits_of k x))
-    ∙ ap (λ (n : ℕ). low ⊕ n) (sym (ap (λ (s : ℕ). remainder w g s (bits_of k (over ⊕ x))) (sym (zero_xor 0)) ∙ remainder-bits-linear w g 0 0 k over x))
+    ∙ ap (λ (n : ℕ). low ⊕ n) (sym (ap (λ (s : ℕ). remainder w g s (bits_of k (over ⊕ x))) (sym (zero_xor 0)) ∙ remainder_bits_linear w g 0 0 k over x))
 
 pub own_bits : (w g : ℕ) {r : ℕ} → r < 2 ^ w → remainder w g r (bits_of w r) ≡ 0
 own_bits w g {r} h =
-    many-bits w g w r h
+    many_bits w g w r h
     ∙ ap₂ (λ (m n : ℕ). m ⊕ remainder w g 0 (bits_of w (n ⊕ r))) (mul-mod_left r (2 ^ w)) (mul-div_cancel r (pow_pos w))
     ∙ zero_xor (remainder w g 0 (bits_of w (r ⊕ r)))
     ∙ ap (λ (n : ℕ). remainder w g 0 (bits_of w n)) (xor_same r)
-    ∙ ap (remainder w g 0) (bits-of-zero w)
-    ∙ remainder-of-zeros w g w
+    ∙ ap (remainder w g 0) (bits_of-zero w)
+    ∙ remainder_of_zeros w g w

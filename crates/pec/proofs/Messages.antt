@@ -10,20 +10,20 @@ use native.Mathlib.Omega.{arith}
 use lib.Dec.{lit<}
 use lib.ListN.{length, length-drop, get_or, take, drop, drop_of_length-le, take-append-drop}
 use lib.Seq.{drop-cons, get_or-drop, length-take-le, take_all}
-use Rattle.laws.specs.Bits.{bits_of, Bytes, numberFrom, number_of}
-use Rattle.laws.proofs.Numbers.{bits-join, bits-of-string, number_append, number-from}
+use Rattle.laws.specs.Bits.{bits_of, Bytes, number_from, number_of}
+use Rattle.laws.proofs.Numbers.{bits_join, bits_of_string, number_append, number-from}
 use Rattle.pec.specs.Remainder.{remainder}
-use Rattle.pec.specs.Words.{twoBytes, word_at, polynomial10, polynomial15, pec15, dataPec}
+use Rattle.pec.specs.Words.{two_bytes, word_at, polynomial10, polynomial15, pec15, data_pec}
 
 -- the elements of a part of a byte string are bytes
-pub bytes-of-take : (bytes : List ℕ) → Bytes bytes → (j : ℕ) → Bytes (take j bytes)
-bytes-of-take bytes h zero i = lit< tt
-bytes-of-take [] h (suc j) i = lit< tt
-bytes-of-take (b ∷ bs) h (suc j) zero = h 0
-bytes-of-take (b ∷ bs) h (suc j) (suc i) = bytes-of-take bs (λ k. h (suc k)) j i
+pub bytes_of-take : (bytes : List ℕ) → Bytes bytes → (j : ℕ) → Bytes (take j bytes)
+bytes_of-take bytes h zero i = lit< tt
+bytes_of-take [] h (suc j) i = lit< tt
+bytes_of-take (b ∷ bs) h (suc j) zero = h 0
+bytes_of-take (b ∷ bs) h (suc j) (suc i) = bytes_of-take bs (λ k. h (suc k)) j i
 
-pub bytes-of-drop : (bytes : List ℕ) → Bytes bytes → (j : ℕ) → Bytes (drop j bytes)
-bytes-of-drop bytes h j i = rw get_or-drop (h (j + i))
+pub bytes_of-drop : (bytes : List ℕ) → Bytes bytes → (j : ℕ) → Bytes (drop j bytes)
+bytes_of-drop bytes h j i = rw get_or-drop (h (j + i))
 
 -- a string in two parts, the first four bytes long, as they are lent
 module _ (bytes : List ℕ) (j : ℕ) (e : length bytes ≡ 4 + j) where
@@ -41,27 +41,27 @@ module _ (bytes : List ℕ) (j : ℕ) (e : length bytes ≡ 4 + j) where
   pub rest-size : length rest ≡ j
   rest-size = ap length whole-rest ∙ omega (arith, length-drop 4 bytes)
 
-  pub two-parts : {a b : ℕ} → a ≡ number_of (take 4 bytes) → b ≡ number_of rest → a * 2 ^ (8 * j) + b ≡ number_of bytes
+  pub two_parts : {a b : ℕ} → a ≡ number_of (take 4 bytes) → b ≡ number_of rest → a * 2 ^ (8 * j) + b ≡ number_of bytes
   unfolding number_of
-  two-parts ha hb =
+  two_parts ha hb =
       ap₂ (λ (x y : ℕ). x * 2 ^ (8 * j) + y) ha (hb ∙ ap number_of whole-rest)
       ∙ sym
-      (ap (numberFrom 0) (sym (take-append-drop 4 bytes))
+      (ap (number_from 0) (sym (take-append-drop 4 bytes))
       ∙ number_append 0 (take 4 bytes) (drop 4 bytes)
-      ∙ number-from (numberFrom 0 (take 4 bytes)) (drop 4 bytes)
-      ∙ ap (λ (k : ℕ). numberFrom 0 (take 4 bytes) * 2 ^ (8 * k) + numberFrom 0 (drop 4 bytes)) (sym (ap length whole-rest) ∙ rest-size))
+      ∙ number-from (number_from 0 (take 4 bytes)) (drop 4 bytes)
+      ∙ ap (λ (k : ℕ). number_from 0 (take 4 bytes) * 2 ^ (8 * k) + number_from 0 (drop 4 bytes)) (sym (ap length whole-rest) ∙ rest-size))
 
 pub word_below : (bytes : List ℕ) → Bytes bytes → (j : ℕ) → word_at bytes j < 65536
 unfolding word_at
 word_below bytes h j = omega (arith, h j, h (j + 1))
 
 pub last-two : (bytes : List ℕ) (j : ℕ) → length bytes ≡ j + 2 → number_of bytes ≡ number_of (take j bytes) * 65536 + word_at bytes j
-unfolding number_of numberFrom word_at
+unfolding number_of number_from word_at
 last-two bytes j e =
-    ap (numberFrom 0) (sym (take-append-drop j bytes))
+    ap (number_from 0) (sym (take-append-drop j bytes))
     ∙ number_append 0 (take j bytes) (drop j bytes)
-    ∙ ap (numberFrom (numberFrom 0 (take j bytes))) two
-    ∙ joined (numberFrom 0 (take j bytes)) (get_or bytes j 0) (get_or bytes (j + 1) 0)
+    ∙ ap (number_from (number_from 0 (take j bytes))) two
+    ∙ joined (number_from 0 (take j bytes)) (get_or bytes j 0) (get_or bytes (j + 1) 0)
   where
     two : drop j bytes ≡ get_or bytes j 0 ∷ get_or bytes (j + 1) 0 ∷ []
     two =
@@ -76,31 +76,31 @@ last-two bytes j e =
 pub command-message : (two : List ℕ) → Bytes two → length two ≡ 2
     → remainder 15 polynomial15 16 (bits_of 16 (number_of two)) ≡ pec15 two
 unfolding pec15
-command-message two h e = ap (remainder 15 polynomial15 16) (bits-of-string 16 two h (omega arith))
+command-message two h e = ap (remainder 15 polynomial15 16) (bits_of_string 16 two h (omega arith))
 
-pub data-message : (six : List ℕ) (counter : ℕ) → Bytes six → length six ≡ 6 → counter < 64
-    → remainder 10 polynomial10 16 (bits_of 54 (number_of six * 64 + counter)) ≡ dataPec six counter
-unfolding dataPec
-data-message six counter h e few =
+pub data_message : (six : List ℕ) (counter : ℕ) → Bytes six → length six ≡ 6 → counter < 64
+    → remainder 10 polynomial10 16 (bits_of 54 (number_of six * 64 + counter)) ≡ data_pec six counter
+unfolding data_pec
+data_message six counter h e few =
     ap (remainder 10 polynomial10 16)
-    (bits-join 48 6 (number_of six) few ∙ ap (λ (bs : List Bool). bs ++ bits_of 6 counter) (bits-of-string 48 six h (omega arith)))
+    (bits_join 48 6 (number_of six) few ∙ ap (λ (bs : List Bool). bs ++ bits_of 6 counter) (bits_of_string 48 six h (omega arith)))
 
 -- a command's code and its two bytes are one message
 module _ (code : ℕ) where
-  number-of-two : number_of (twoBytes code) ≡ code
-  unfolding number_of numberFrom twoBytes
-  number-of-two = omega arith
+  number_of-two : number_of (two_bytes code) ≡ code
+  unfolding number_of number_from two_bytes
+  number_of-two = omega arith
 
-  two : length (twoBytes code) ≡ 2
-  unfolding twoBytes
+  two : length (two_bytes code) ≡ 2
+  unfolding two_bytes
   two = refl
 
-  bytes-of-two : code < 65536 → Bytes (twoBytes code)
-  unfolding twoBytes
-  bytes-of-two h zero = omega arith
-  bytes-of-two h (suc zero) = omega arith
-  bytes-of-two h (suc (suc i)) = lit< tt
+  bytes_of-two : code < 65536 → Bytes (two_bytes code)
+  unfolding two_bytes
+  bytes_of-two h zero = omega arith
+  bytes_of-two h (suc zero) = omega arith
+  bytes_of-two h (suc (suc i)) = lit< tt
 
-  pub code-message : code < 65536 → remainder 15 polynomial15 16 (bits_of 16 code) ≡ pec15 (twoBytes code)
+  pub code-message : code < 65536 → remainder 15 polynomial15 16 (bits_of 16 code) ≡ pec15 (two_bytes code)
   code-message h =
-      ap (λ (n : ℕ). remainder 15 polynomial15 16 (bits_of 16 n)) (sym number-of-two) ∙ command-message (twoBytes code) (bytes-of-two h) two
+      ap (λ (n : ℕ). remainder 15 polynomial15 16 (bits_of 16 n)) (sym number_of-two) ∙ command-message (two_bytes code) (bytes_of-two h) two

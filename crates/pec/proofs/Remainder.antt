@@ -13,9 +13,9 @@ use lib.Seq.{drop-cons}
 use native.Mathlib.Numerals.{add-one}
 use lib.Pow.{pow_pos}
 use borrow.Author.Tests.{eq-eqb, ne_eqb}
-use Rattle.laws.specs.Bits.{◌⊕◌, odd, bits_of, bitsOfBytes, xorBits}
-use Rattle.laws.proofs.Xor.{zero_xor, xor-zero, xor_same, xor_below, xor-div, xor-rem, xor-middle, xor-shift, odd-xor}
-use Rattle.laws.proofs.Bits.{length-bits, bits-xor}
+use Rattle.laws.specs.Bits.{◌⊕◌, odd, bits_of, bits_of_bytes, xor_bits}
+use Rattle.laws.proofs.Xor.{zero_xor, xor-zero, xor_same, xor_below, xor-div, xor_rem, xor-middle, xor_shift, odd-xor}
+use Rattle.laws.proofs.Bits.{length_bits, bits_xor}
 use Rattle.pec.specs.Remainder.{once, step, remainder}
 
 -- ---- it stays below 2^w
@@ -36,10 +36,10 @@ remainder-below w {r = r} (b ∷ bs) hg hr = remainder-below w bs hg (step-below
 
 -- ---- over a longer string
 
-pub remainder-append : (w g r : ℕ) (bs cs : List Bool) → remainder w g r (bs ++ cs) ≡ remainder w g (remainder w g r bs) cs
+pub remainder_append : (w g r : ℕ) (bs cs : List Bool) → remainder w g r (bs ++ cs) ≡ remainder w g (remainder w g r bs) cs
 unfolding remainder
-remainder-append w g r [] cs = refl
-remainder-append w g r (b ∷ bs) cs = remainder-append w g (step w g r b) bs cs
+remainder_append w g r [] cs = refl
+remainder_append w g r (b ∷ bs) cs = remainder_append w g (step w g r b) bs cs
 
 -- ---- it is linear
 
@@ -50,57 +50,57 @@ once-xor true false g = sym (xor-zero g)
 once-xor false true g = sym (zero_xor g)
 once-xor false false g = sym (zero_xor 0)
 
-xor-bool-middle : (a b c d : Bool) → xor (xor a b) (xor c d) ≡ xor (xor a c) (xor b d)
+xor_bool_middle : (a b c d : Bool) → xor (xor a b) (xor c d) ≡ xor (xor a c) (xor b d)
 unfolding xor
-xor-bool-middle true true true true = refl
-xor-bool-middle true true true false = refl
-xor-bool-middle true true false true = refl
-xor-bool-middle true true false false = refl
-xor-bool-middle true false true true = refl
-xor-bool-middle true false true false = refl
-xor-bool-middle true false false true = refl
-xor-bool-middle true false false false = refl
-xor-bool-middle false true true true = refl
-xor-bool-middle false true true false = refl
-xor-bool-middle false true false true = refl
-xor-bool-middle false true false false = refl
-xor-bool-middle false false true true = refl
-xor-bool-middle false false true false = refl
-xor-bool-middle false false false true = refl
-xor-bool-middle false false false false = refl
+xor_bool_middle true true true true = refl
+xor_bool_middle true true true false = refl
+xor_bool_middle true true false true = refl
+xor_bool_middle true true false false = refl
+xor_bool_middle true false true true = refl
+xor_bool_middle true false true false = refl
+xor_bool_middle true false false true = refl
+xor_bool_middle true false false false = refl
+xor_bool_middle false true true true = refl
+xor_bool_middle false true true false = refl
+xor_bool_middle false true false true = refl
+xor_bool_middle false true false false = refl
+xor_bool_middle false false true true = refl
+xor_bool_middle false false true false = refl
+xor_bool_middle false false false true = refl
+xor_bool_middle false false false false = refl
 
 -- moved up, the parts of a sum are those of its summands
 module _ (w k r s : ℕ) where
-  low-xor : (r ⊕ s) * 2 ^ k % 2 ^ w ≡ (r * 2 ^ k % 2 ^ w) ⊕ (s * 2 ^ k % 2 ^ w)
-  low-xor = ap (λ (n : ℕ). n % 2 ^ w) (sym (xor-shift k r s)) ∙ xor-rem (r * 2 ^ k) (s * 2 ^ k) w
+  low_xor : (r ⊕ s) * 2 ^ k % 2 ^ w ≡ (r * 2 ^ k % 2 ^ w) ⊕ (s * 2 ^ k % 2 ^ w)
+  low_xor = ap (λ (n : ℕ). n % 2 ^ w) (sym (xor_shift k r s)) ∙ xor_rem (r * 2 ^ k) (s * 2 ^ k) w
 
-  over-xor : (r ⊕ s) * 2 ^ k / 2 ^ w ≡ (r * 2 ^ k / 2 ^ w) ⊕ (s * 2 ^ k / 2 ^ w)
-  over-xor = ap (λ (n : ℕ). n / 2 ^ w) (sym (xor-shift k r s)) ∙ xor-div (r * 2 ^ k) (s * 2 ^ k) w
+  over_xor : (r ⊕ s) * 2 ^ k / 2 ^ w ≡ (r * 2 ^ k / 2 ^ w) ⊕ (s * 2 ^ k / 2 ^ w)
+  over_xor = ap (λ (n : ℕ). n / 2 ^ w) (sym (xor_shift k r s)) ∙ xor-div (r * 2 ^ k) (s * 2 ^ k) w
 
-pub step-linear : (w g r s : ℕ) (b c : Bool) → step w g (r ⊕ s) (xor b c) ≡ step w g r b ⊕ step w g s c
+pub step_linear : (w g r s : ℕ) (b c : Bool) → step w g (r ⊕ s) (xor b c) ≡ step w g r b ⊕ step w g s c
 unfolding step
-step-linear w g r s b c =
-    ap₂ ◌⊕◌ (low-xor w 1 r s)
-    (ap (λ (x : Bool). once (xor x (xor b c)) g) (ap odd (over-xor w 1 r s) ∙ odd-xor (r * 2 / 2 ^ w) (s * 2 / 2 ^ w))
-    ∙ ap (λ (x : Bool). once x g) (xor-bool-middle (odd (r * 2 / 2 ^ w)) (odd (s * 2 / 2 ^ w)) b c)
+step_linear w g r s b c =
+    ap₂ ◌⊕◌ (low_xor w 1 r s)
+    (ap (λ (x : Bool). once (xor x (xor b c)) g) (ap odd (over_xor w 1 r s) ∙ odd-xor (r * 2 / 2 ^ w) (s * 2 / 2 ^ w))
+    ∙ ap (λ (x : Bool). once x g) (xor_bool_middle (odd (r * 2 / 2 ^ w)) (odd (s * 2 / 2 ^ w)) b c)
     ∙ once-xor (xor (odd (r * 2 / 2 ^ w)) b) (xor (odd (s * 2 / 2 ^ w)) c) g)
     ∙ xor-middle (r * 2 % 2 ^ w) (s * 2 % 2 ^ w) (once (xor (odd (r * 2 / 2 ^ w)) b) g) (once (xor (odd (s * 2 / 2 ^ w)) c) g)
 
-pub remainder-linear : (w g r s : ℕ) (bs cs : List Bool) → length bs ≡ length cs
-    → remainder w g (r ⊕ s) (xorBits bs cs) ≡ remainder w g r bs ⊕ remainder w g s cs
-unfolding remainder xorBits
-remainder-linear w g r s [] [] h = refl
-remainder-linear w g r s [] (c ∷ cs) h = absurd (omega arith)
-remainder-linear w g r s (b ∷ bs) [] h = absurd (omega arith)
-remainder-linear w g r s (b ∷ bs) (c ∷ cs) h =
-    ap (λ (x : ℕ). remainder w g x (xorBits bs cs)) (step-linear w g r s b c)
-    ∙ remainder-linear w g (step w g r b) (step w g s c) bs cs (omega arith)
+pub remainder_linear : (w g r s : ℕ) (bs cs : List Bool) → length bs ≡ length cs
+    → remainder w g (r ⊕ s) (xor_bits bs cs) ≡ remainder w g r bs ⊕ remainder w g s cs
+unfolding remainder xor_bits
+remainder_linear w g r s [] [] h = refl
+remainder_linear w g r s [] (c ∷ cs) h = absurd (omega arith)
+remainder_linear w g r s (b ∷ bs) [] h = absurd (omega arith)
+remainder_linear w g r s (b ∷ bs) (c ∷ cs) h =
+    ap (λ (x : ℕ). remainder w g x (xor_bits bs cs)) (step_linear w g r s b c)
+    ∙ remainder_linear w g (step w g r b) (step w g s c) bs cs (omega arith)
 
 -- the same for the k low bits of two numbers
-pub remainder-bits-linear : (w g r s k a b : ℕ) → remainder w g (r ⊕ s) (bits_of k (a ⊕ b)) ≡ remainder w g r (bits_of k a) ⊕ remainder w g s (bits_of k b)
-remainder-bits-linear w g r s k a b =
-    ap (remainder w g (r ⊕ s)) (bits-xor k a b)
-    ∙ remainder-linear w g r s (bits_of k a) (bits_of k b) (length-bits k a ∙ sym (length-bits k b))
+pub remainder_bits_linear : (w g r s k a b : ℕ) → remainder w g (r ⊕ s) (bits_of k (a ⊕ b)) ≡ remainder w g r (bits_of k a) ⊕ remainder w g s (bits_of k b)
+remainder_bits_linear w g r s k a b =
+    ap (remainder w g (r ⊕ s)) (bits_xor k a b)
+    ∙ remainder_linear w g r s (bits_of k a) (bits_of k b) (length_bits k a ∙ sym (length_bits k b))
 
 -- ---- as the code takes it: the bit is the last of x, and the test is one on a sum
 
@@ -123,21 +123,21 @@ next_bit w g r k x h =
     let one_less : suc (k - 1) ≡ k = omega arith in
     ap (λ (n : ℕ). remainder w g r (bits_of n x)) one_less
 
-pub next-byte : (w g r i : ℕ) (bytes : List ℕ) → i < length bytes
-    → remainder w g (remainder w g r (bits_of 8 (get_or bytes i 0))) (bitsOfBytes (drop (i + 1) bytes)) ≡ remainder w g r (bitsOfBytes (drop i bytes))
-unfolding bitsOfBytes
-next-byte w g r i bytes h =
-    sym (ap (λ (bs : List ℕ). remainder w g r (bitsOfBytes bs)) (drop-cons bytes i 0 h ∙ ap (λ (n : ℕ). get_or bytes i 0 ∷ drop n bytes) (sym (add-one i)))
-    ∙ first-of-bytes)
+pub next_byte : (w g r i : ℕ) (bytes : List ℕ) → i < length bytes
+    → remainder w g (remainder w g r (bits_of 8 (get_or bytes i 0))) (bits_of_bytes (drop (i + 1) bytes)) ≡ remainder w g r (bits_of_bytes (drop i bytes))
+unfolding bits_of_bytes
+next_byte w g r i bytes h =
+    sym (ap (λ (bs : List ℕ). remainder w g r (bits_of_bytes bs)) (drop-cons bytes i 0 h ∙ ap (λ (n : ℕ). get_or bytes i 0 ∷ drop n bytes) (sym (add-one i)))
+    ∙ first_of_bytes)
   where
-    first-of-bytes : remainder w g r (bitsOfBytes (get_or bytes i 0 ∷ drop (i + 1) bytes))
-        ≡ remainder w g (remainder w g r (bits_of 8 (get_or bytes i 0))) (bitsOfBytes (drop (i + 1) bytes))
-    first-of-bytes = remainder-append w g r (bits_of 8 (get_or bytes i 0)) (bitsOfBytes (drop (i + 1) bytes))
+    first_of_bytes : remainder w g r (bits_of_bytes (get_or bytes i 0 ∷ drop (i + 1) bytes))
+        ≡ remainder w g (remainder w g r (bits_of 8 (get_or bytes i 0))) (bits_of_bytes (drop (i + 1) bytes))
+    first_of_bytes = remainder_append w g r (bits_of 8 (get_or bytes i 0)) (bits_of_bytes (drop (i + 1) bytes))
 
-pub no-bit : (w g r k x : ℕ) → k ≤ 0 → r ≡ remainder w g r (bits_of k x)
+pub no_bit : (w g r k x : ℕ) → k ≤ 0 → r ≡ remainder w g r (bits_of k x)
 unfolding remainder bits_of
-no-bit w g r k x h = ap (λ (n : ℕ). remainder w g r (bits_of n x)) (sym (le-zero h))
+no_bit w g r k x h = ap (λ (n : ℕ). remainder w g r (bits_of n x)) (sym (le-zero h))
 
-pub no_byte : (w g r i : ℕ) (bytes : List ℕ) → length bytes ≤ i → r ≡ remainder w g r (bitsOfBytes (drop i bytes))
-unfolding remainder bitsOfBytes
-no_byte w g r i bytes h = ap (λ (bs : List ℕ). remainder w g r (bitsOfBytes bs)) (sym (drop_of_length-le bytes h))
+pub no_byte : (w g r i : ℕ) (bytes : List ℕ) → length bytes ≤ i → r ≡ remainder w g r (bits_of_bytes (drop i bytes))
+unfolding remainder bits_of_bytes
+no_byte w g r i bytes h = ap (λ (bs : List ℕ). remainder w g r (bits_of_bytes bs)) (sym (drop_of_length-le bytes h))

@@ -10,14 +10,14 @@ use native.Mathlib.Omega.{arith}
 use lib.Dec.{lit<}
 use lib.ListN.{length, get_or, take, drop, length-take, length-drop, get_or-eq_default}
 use lib.Seq.{get_or-take, get_or-drop}
-use Rattle.laws.specs.Bits.{bitsOfBytes, Bytes}
-use Rattle.laws.proofs.BitStrings.{length-bits-of-bytes, bits-take, bits-drop, bytes-told}
-use Rattle.pec.specs.Words.{polynomial15, commandRight, polynomial10, sealedRight, payloadRight}
+use Rattle.laws.specs.Bits.{bits_of_bytes, Bytes}
+use Rattle.laws.proofs.BitStrings.{length-bits_of_bytes, bits_take, bits_drop, bytes-told}
+use Rattle.pec.specs.Words.{polynomial15, command_right, polynomial10, sealed_right, payload_right}
 use Rattle.pec.specs.Spikes.{Burst, Spike}
-use Rattle.pec.proofs.CheckWords.{ends-10, ends-15}
-use Rattle.pec.proofs.Messages.{bytes-of-take, bytes-of-drop}
+use Rattle.pec.proofs.CheckWords.{ends_10, ends_15}
+use Rattle.pec.proofs.Messages.{bytes_of-take, bytes_of-drop}
 use Rattle.pec.proofs.Bursts.{burst-seen}
-use Rattle.pec.proofs.Right.{payload-left, command-left}
+use Rattle.pec.proofs.Right.{payload_left, command-left}
 
 -- ---- a part of a string of bits
 
@@ -57,11 +57,11 @@ module _ {w : ℕ} {sent came : List Bool} (b : Burst w sent came) (m : ℕ) whe
 
 -- ---- a spike is one of more places too
 
-pub spike-wider : {v w : ℕ} {sent came : List ℕ} → v ≤ w → Spike v sent came → Spike w sent came
-spike-wider h s =
+pub spike_wider : {v w : ℕ} {sent came : List ℕ} → v ≤ w → Spike v sent came → Spike w sent came
+spike_wider h s =
     let b = s.burst in
     record {
-      sent-bytes = s.sent-bytes;
+      sent_bytes = s.sent_bytes;
       came-bytes = s.came-bytes;
       burst = record { as_long = b.as_long; some = b.some; first = b.first; before = b.before; behind = λ i l. b.behind i (omega arith) };
     }
@@ -69,21 +69,21 @@ spike-wider h s =
 -- ---- told by its parts
 
 -- bytes whose bits came as they were sent before a place, otherwise at it, and as they were sent behind w places from it on
-pub spike-of-parts : (w first : ℕ) {sent came : List ℕ} → Bytes sent → Bytes came → length (bitsOfBytes came) ≡ length (bitsOfBytes sent)
-    → take first (bitsOfBytes came) ≡ take first (bitsOfBytes sent) → (get_or (bitsOfBytes came) first false ≡ get_or (bitsOfBytes sent) first false → ⊥)
-    → drop (first + w) (bitsOfBytes came) ≡ drop (first + w) (bitsOfBytes sent) → Spike w sent came
-spike-of-parts w first {sent} {came} sent-bytes came-bytes as_long front there end =
+pub spike_of_parts : (w first : ℕ) {sent came : List ℕ} → Bytes sent → Bytes came → length (bits_of_bytes came) ≡ length (bits_of_bytes sent)
+    → take first (bits_of_bytes came) ≡ take first (bits_of_bytes sent) → (get_or (bits_of_bytes came) first false ≡ get_or (bits_of_bytes sent) first false → ⊥)
+    → drop (first + w) (bits_of_bytes came) ≡ drop (first + w) (bits_of_bytes sent) → Spike w sent came
+spike_of_parts w first {sent} {came} sent_bytes came-bytes as_long front there end =
     record {
-      sent-bytes = sent-bytes;
+      sent_bytes = sent_bytes;
       came-bytes = came-bytes;
       burst = record {
         as_long = as_long;
         some = λ e. there (ap (λ (bs : List Bool). get_or bs first false) e);
         first = first;
-        before = λ i h. sym (get_or-take first (bitsOfBytes came) i false h) ∙ ap (λ (bs : List Bool). get_or bs i false) front ∙ get_or-take first (bitsOfBytes sent) i false h;
+        before = λ i h. sym (get_or-take first (bits_of_bytes came) i false h) ∙ ap (λ (bs : List Bool). get_or bs i false) front ∙ get_or-take first (bits_of_bytes sent) i false h;
         behind = λ i h.
             let on : i ≡ first + w + (i - (first + w)) = omega arith in
-            at (bitsOfBytes came) i on ∙ ap (λ (bs : List Bool). get_or bs (i - (first + w)) false) end ∙ sym (at (bitsOfBytes sent) i on);
+            at (bits_of_bytes came) i on ∙ ap (λ (bs : List Bool). get_or bs (i - (first + w)) false) end ∙ sym (at (bits_of_bytes sent) i on);
       };
     }
   where
@@ -95,31 +95,31 @@ spike-of-parts w first {sent} {came} sent-bytes came-bytes as_long front there e
 module _ {w : ℕ} {sent came : List ℕ} (s : Spike w sent came) where
   -- as many bytes came as were sent
   pub spike-long : length came ≡ length sent
-  spike-long = omega (arith, s.burst.as_long, length-bits-of-bytes came, length-bits-of-bytes sent)
+  spike-long = omega (arith, s.burst.as_long, length-bits_of_bytes came, length-bits_of_bytes sent)
 
   -- not all as they were
   pub spike-some : came ≡ sent → ⊥
-  spike-some e = s.burst.some (ap bitsOfBytes e)
+  spike-some e = s.burst.some (ap bits_of_bytes e)
 
   -- a part that was hit: of bytes, and of their bits
-  part-struck : (of : List ℕ → List ℕ) (of-bits : List Bool → List Bool) → ((bytes : List ℕ) → Bytes bytes → Bytes (of bytes))
-      → ((bytes : List ℕ) → bitsOfBytes (of bytes) ≡ of-bits (bitsOfBytes bytes))
-      → ((of-bits (bitsOfBytes came) ≡ of-bits (bitsOfBytes sent) → ⊥) → Burst w (of-bits (bitsOfBytes sent)) (of-bits (bitsOfBytes came)))
+  part_struck : (of : List ℕ → List ℕ) (of-bits : List Bool → List Bool) → ((bytes : List ℕ) → Bytes bytes → Bytes (of bytes))
+      → ((bytes : List ℕ) → bits_of_bytes (of bytes) ≡ of-bits (bits_of_bytes bytes))
+      → ((of-bits (bits_of_bytes came) ≡ of-bits (bits_of_bytes sent) → ⊥) → Burst w (of-bits (bits_of_bytes sent)) (of-bits (bits_of_bytes came)))
       → (of came ≡ of sent → ⊥) → Spike w (of sent) (of came)
-  part-struck of of-bits bytes bits burst hit =
-      let of-sent = bytes sent s.sent-bytes in
+  part_struck of of-bits bytes bits burst hit =
+      let of-sent = bytes sent s.sent_bytes in
       let of-came = bytes came s.came-bytes in
       record {
-        sent-bytes = of-sent;
+        sent_bytes = of-sent;
         came-bytes = of-came;
         burst = rw (bits sent, bits came) (burst (λ e. hit (bytes-told (of came) (of sent) of-came of-sent (bits came ∙ e ∙ sym (bits sent)))));
       }
 
   pub spike-drop : (m : ℕ) → (drop m came ≡ drop m sent → ⊥) → Spike w (drop m sent) (drop m came)
-  spike-drop m = part-struck (drop m) (drop (8 * m)) (λ bytes h. bytes-of-drop bytes h m) (bits-drop m) (burst-drop s.burst (8 * m))
+  spike-drop m = part_struck (drop m) (drop (8 * m)) (λ bytes h. bytes_of-drop bytes h m) (bits_drop m) (burst-drop s.burst (8 * m))
 
   pub spike-take : (m : ℕ) → (take m came ≡ take m sent → ⊥) → Spike w (take m sent) (take m came)
-  spike-take m = part-struck (take m) (take (8 * m)) (λ bytes h. bytes-of-take bytes h m) (bits-take m) (burst-take s.burst (8 * m))
+  spike-take m = part_struck (take m) (take (8 * m)) (λ bytes h. bytes_of-take bytes h m) (bits_take m) (burst-take s.burst (8 * m))
 
 -- ---- what the check words see
 
@@ -129,17 +129,17 @@ fails true h = absurd (h refl)
 fails false h = refl
 
 module _ {sent came : List ℕ} where
-  pub sealed-hit : (d : ℕ) → Spike 10 sent came → sealedRight d sent ≡ true → sealedRight d came ≡ false
-  sealed-hit d s right =
-      fails (sealedRight d came)
-      (λ still. burst-seen 10 polynomial10 16 ends-10 (lit< tt) s.burst (payload-left d came s.came-bytes still ∙ sym (payload-left d sent s.sent-bytes right)))
+  pub sealed_hit : (d : ℕ) → Spike 10 sent came → sealed_right d sent ≡ true → sealed_right d came ≡ false
+  sealed_hit d s right =
+      fails (sealed_right d came)
+      (λ still. burst-seen 10 polynomial10 16 ends_10 (lit< tt) s.burst (payload_left d came s.came-bytes still ∙ sym (payload_left d sent s.sent_bytes right)))
 
   -- of six bytes
-  pub payload-hit : Spike 10 sent came → payloadRight sent ≡ true → payloadRight came ≡ false
-  unfolding payloadRight
-  payload-hit = sealed-hit 6
+  pub payload_hit : Spike 10 sent came → payload_right sent ≡ true → payload_right came ≡ false
+  unfolding payload_right
+  payload_hit = sealed_hit 6
 
-  pub command-hit : Spike 15 sent came → commandRight sent ≡ true → commandRight came ≡ false
-  command-hit s right =
-      fails (commandRight came)
-      (λ still. burst-seen 15 polynomial15 16 ends-15 (lit< tt) s.burst (command-left came s.came-bytes still ∙ sym (command-left sent s.sent-bytes right)))
+  pub command_hit : Spike 15 sent came → command_right sent ≡ true → command_right came ≡ false
+  command_hit s right =
+      fails (command_right came)
+      (λ still. burst-seen 15 polynomial15 16 ends_15 (lit< tt) s.burst (command-left came s.came-bytes still ∙ sym (command-left sent s.sent_bytes right)))

@@ -5,9 +5,9 @@ use Rattle.std.specs.Prelude.{ℕ, ◌*◌, ◌/◌, ◌^◌}
 use Rattle.laws.specs.Bits.{◌⊕◌}
 
 -- a number, and it moved down so many places, added
-unfoldable pub withMoved : ℕ → ℕ → ℕ
-withMoved s x = x ⊕ x / 2 ^ s
+unfoldable pub with_moved : ℕ → ℕ → ℕ
+with_moved s x = x ⊕ x / 2 ^ s
 
 -- (1 + y^3k), and y^7k (1 + y^k)(1 + y^2k)
-unfoldable pub timesOne : ℕ → ℕ → ℕ
-timesOne k x = withMoved (3 * k) x ⊕ withMoved (2 * k) (withMoved k (x / 2 ^ (7 * k)))
+unfoldable pub times_one : ℕ → ℕ → ℕ
+times_one k x = with_moved (3 * k) x ⊕ with_moved (2 * k) (with_moved k (x / 2 ^ (7 * k)))

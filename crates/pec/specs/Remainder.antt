@@ -21,8 +21,8 @@ remainder w g r [] = r
 remainder w g r (b ∷ bs) = remainder w g (step w g r b) bs
 
 -- a step undone: what the remainder was before the bit b, if g ends in 1
-unfoldable pub stepBack : ℕ → ℕ → ℕ → Bool → ℕ
-stepBack w g s b = (once (xor (odd s) b) (2 ^ w) + (s ⊕ once (odd s) g)) / 2
+unfoldable pub step_back : ℕ → ℕ → ℕ → Bool → ℕ
+step_back w g s b = (once (xor (odd s) b) (2 ^ w) + (s ⊕ once (odd s) g)) / 2
 
 -- what the functions over the width ask of theirs: it leaves a word of 16 bits room for one more, and the polynomial and
 -- the remainder have w bits

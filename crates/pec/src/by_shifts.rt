@@ -4,14 +4,14 @@
 ghost use Rattle.std.specs.Prelude.{◌≡◌, ◌≤◌};
 ghost use Rattle.laws.specs.Bits.{bits_of};
 ghost use Rattle.pec.specs.Remainder.{remainder};
-ghost use Rattle.pec.specs.ByShifts.{timesOne};
-ghost use Rattle.pec.specs.Words.{polynomial10, polynomial15, numberRight};
+ghost use Rattle.pec.specs.ByShifts.{times_one};
+ghost use Rattle.pec.specs.Words.{polynomial10, polynomial15, number_right};
 
 // A number times 1 + a^k, for the ten-bit polynomial: its a is y^3 + y^7 (1 + y)(1 + y^2), where y moves a number down one place, and
 // to the power k, a power of 2, every exponent is k times what it was.
 fn times(x: u64, k: u64) -> u64
     requires { k ≤ 8 }
-    ensures { result ≡ timesOne k x }
+    ensures { result ≡ times_one k x }
 {
     let far = x >> (7 * k);
     let two = far ^ (far >> k);
@@ -60,7 +60,7 @@ pub fn of_command(code: u16) -> u16
 
 // Is nothing left of a payload, with its own check as its last bits? That one division by all 64 bits tells what is right.
 pub fn nothing_left(payload: u64) -> bool
-    ensures { result ≡ numberRight payload }
+    ensures { result ≡ number_right payload }
 {
     remainder_10(payload) == OF_64_ZEROS
 }

@@ -7,21 +7,21 @@ use Prim.Native.Nat.{ℕ, suc, ◌-◌, ◌≤◌}
 use native.Mathlib.Omega.{arith}
 use lib.ListN.{length, get_or, length-reverse}
 use Rattle.laws.proofs.Lists.{get_d_reverse}
-use Rattle.laws.proofs.Rows.{Every, every-reverse, row-joined}
-use Rattle.wire.specs.Order.{replyData}
-use Rattle.records.specs.Commands.{payloadSize}
-use Rattle.ports.specs.Ports.{placeA, placeB, partA, partB}
+use Rattle.laws.proofs.Rows.{Every, every_reverse, row-joined}
+use Rattle.wire.specs.Order.{reply_data}
+use Rattle.records.specs.Commands.{payload_size}
+use Rattle.ports.specs.Ports.{place_a, place_b, part_a, part_b}
 
-module _ (replies : List (List ℕ)) (every : Every payloadSize replies) (k : ℕ) (first : 1 ≤ k) (last : k ≤ length replies) where
-  pub part-at-a : partA (replyData replies) (length replies) k ≡ get_or replies (k - 1) []
-  unfolding partA placeA replyData
-  part-at-a = row-joined payloadSize replies (k - 1) [] every (omega arith)
+module _ (replies : List (List ℕ)) (every : Every payload_size replies) (k : ℕ) (first : 1 ≤ k) (last : k ≤ length replies) where
+  pub part-at_a : part_a (reply_data replies) (length replies) k ≡ get_or replies (k - 1) []
+  unfolding part_a place_a reply_data
+  part-at_a = row-joined payload_size replies (k - 1) [] every (omega arith)
 
-  pub part-at-b : partB (replyData (reverse replies)) (length replies) k ≡ get_or replies (k - 1) []
-  unfolding partB placeB replyData
-  part-at-b =
+  pub part-at_b : part_b (reply_data (reverse replies)) (length replies) k ≡ get_or replies (k - 1) []
+  unfolding part_b place_b reply_data
+  part-at_b =
       let l : length (reverse replies) ≡ length replies = length-reverse replies in
       let mirrored : length replies - suc (length replies - k) ≡ k - 1 = omega arith in
-      row-joined payloadSize (reverse replies) (length replies - k) [] (every-reverse payloadSize replies every) (omega arith)
+      row-joined payload_size (reverse replies) (length replies - k) [] (every_reverse payload_size replies every) (omega arith)
       ∙ get_d_reverse replies (length replies - k) [] (omega arith)
       ∙ ap (λ (m : ℕ). get_or replies m []) mirrored

@@ -6,11 +6,11 @@ use mathlib.Core.Bool.{Bool, true, false, cond, not, ◌&&◌, false≢true}
 use mathlib.Core.List.{List}
 use Prim.Native.Nat.{ℕ}
 use lib.Dec.{eqb}
-use Rattle.pec.specs.Words.{counterOf, payloadRight}
+use Rattle.pec.specs.Words.{counter_of, payload_right}
 use Rattle.refusals.specs.declared.Refusal.TheVariants.{BothDamaged}
 use Rattle.ports.specs.declared.ports.Port.{Port}
 use Rattle.ports.specs.declared.ports.Port.TheVariants.{Refused, A, B}
-use Rattle.ports.specs.Verdicts.{isDamaged, isRight, counterDiffers}
+use Rattle.ports.specs.Verdicts.{is_damaged, is_right, counter_differs}
 use Rattle.ports.specs.Ports.{chosen}
 
 -- ---- by the tests
@@ -32,18 +32,18 @@ by-b false q true true h e = refl
 by-b false q true false h e = absurd (false≢true e)
 by-b false q false s h e = absurd (false≢true e)
 
-by-a-differs : (p q r s : Bool) → p && q ≡ false → r && s ≡ false → p ≡ true → choice p q r s ≡ A true
-by-a-differs true true r s h e d = absurd (false≢true (sym h))
-by-a-differs true false true true h e d = absurd (false≢true (sym e))
-by-a-differs true false true false h e d = refl
-by-a-differs true false false s h e d = refl
-by-a-differs false q r s h e d = absurd (false≢true d)
+by-a_differs : (p q r s : Bool) → p && q ≡ false → r && s ≡ false → p ≡ true → choice p q r s ≡ A true
+by-a_differs true true r s h e d = absurd (false≢true (sym h))
+by-a_differs true false true true h e d = absurd (false≢true (sym e))
+by-a_differs true false true false h e d = refl
+by-a_differs true false false s h e d = refl
+by-a_differs false q r s h e d = absurd (false≢true d)
 
-by-b-differs : (p q r s : Bool) → p ≡ false → r && s ≡ false → r ≡ true → choice p q r s ≡ B true
-by-b-differs true q r s h e d = absurd (false≢true (sym h))
-by-b-differs false q true true h e d = absurd (false≢true (sym e))
-by-b-differs false q true false h e d = refl
-by-b-differs false q false s h e d = absurd (false≢true d)
+by-b_differs : (p q r s : Bool) → p ≡ false → r && s ≡ false → r ≡ true → choice p q r s ≡ B true
+by-b_differs true q r s h e d = absurd (false≢true (sym h))
+by-b_differs false q true true h e d = absurd (false≢true (sym e))
+by-b_differs false q true false h e d = refl
+by-b_differs false q false s h e d = absurd (false≢true d)
 
 by-none : (p q r s : Bool) → p ≡ false → r ≡ false → choice p q r s ≡ Refused BothDamaged
 by-none true q r s h e = absurd (false≢true (sym h))
@@ -55,30 +55,30 @@ by-none false q false s h e = refl
 module _ (in_a in_b : List ℕ) (expected : ℕ) where
   -- which of the two, or none
   abbrev pub either : Port
-  either = cond (isDamaged in_a && isDamaged in_b) (Refused BothDamaged) (chosen in_a in_b expected)
+  either = cond (is_damaged in_a && is_damaged in_b) (Refused BothDamaged) (chosen in_a in_b expected)
 
-  abbrev rightA : Bool
-  rightA = payloadRight in_a
+  abbrev right_a : Bool
+  right_a = payload_right in_a
 
-  abbrev rightB : Bool
-  rightB = payloadRight in_b
+  abbrev right_b : Bool
+  right_b = payload_right in_b
 
-  pub either-a : isRight in_a expected ≡ true → either ≡ A false
-  unfolding isDamaged isRight counterDiffers chosen
-  either-a h = by-a rightA (eqb (counterOf in_a) expected) rightB (eqb (counterOf in_b) expected) h
+  pub either-a : is_right in_a expected ≡ true → either ≡ A false
+  unfolding is_damaged is_right counter_differs chosen
+  either-a h = by-a right_a (eqb (counter_of in_a) expected) right_b (eqb (counter_of in_b) expected) h
 
-  pub either-b : isRight in_a expected ≡ false → isRight in_b expected ≡ true → either ≡ B false
-  unfolding isDamaged isRight counterDiffers chosen
-  either-b h e = by-b rightA (eqb (counterOf in_a) expected) rightB (eqb (counterOf in_b) expected) h e
+  pub either-b : is_right in_a expected ≡ false → is_right in_b expected ≡ true → either ≡ B false
+  unfolding is_damaged is_right counter_differs chosen
+  either-b h e = by-b right_a (eqb (counter_of in_a) expected) right_b (eqb (counter_of in_b) expected) h e
 
-  pub either-a-differs : isRight in_a expected ≡ false → isRight in_b expected ≡ false → rightA ≡ true → either ≡ A true
-  unfolding isDamaged isRight counterDiffers chosen
-  either-a-differs h e d = by-a-differs rightA (eqb (counterOf in_a) expected) rightB (eqb (counterOf in_b) expected) h e d
+  pub either-a_differs : is_right in_a expected ≡ false → is_right in_b expected ≡ false → right_a ≡ true → either ≡ A true
+  unfolding is_damaged is_right counter_differs chosen
+  either-a_differs h e d = by-a_differs right_a (eqb (counter_of in_a) expected) right_b (eqb (counter_of in_b) expected) h e d
 
-  pub either-b-differs : rightA ≡ false → isRight in_b expected ≡ false → rightB ≡ true → either ≡ B true
-  unfolding isDamaged isRight counterDiffers chosen
-  either-b-differs h e d = by-b-differs rightA (eqb (counterOf in_a) expected) rightB (eqb (counterOf in_b) expected) h e d
+  pub either-b_differs : right_a ≡ false → is_right in_b expected ≡ false → right_b ≡ true → either ≡ B true
+  unfolding is_damaged is_right counter_differs chosen
+  either-b_differs h e d = by-b_differs right_a (eqb (counter_of in_a) expected) right_b (eqb (counter_of in_b) expected) h e d
 
-  pub either-none : rightA ≡ false → rightB ≡ false → either ≡ Refused BothDamaged
-  unfolding isDamaged isRight counterDiffers chosen
-  either-none h e = by-none rightA (eqb (counterOf in_a) expected) rightB (eqb (counterOf in_b) expected) h e
+  pub either-none : right_a ≡ false → right_b ≡ false → either ≡ Refused BothDamaged
+  unfolding is_damaged is_right counter_differs chosen
+  either-none h e = by-none right_a (eqb (counter_of in_a) expected) right_b (eqb (counter_of in_b) expected) h e

@@ -5,30 +5,30 @@ use mathlib.Core.List.{List, []}
 use Prim.Native.Nat.{ℕ, ◌*◌}
 use denote.Ref.{Bor}
 use Rattle.laws.specs.Rows.{row_at}
-use Rattle.records.specs.Commands.{payloadSize}
+use Rattle.records.specs.Commands.{payload_size}
 use Rattle.ports.specs.declared.ports.Port.{Port}
 use Rattle.ports.specs.declared.ports.Port.TheVariants.{Refused, A, B}
-use Rattle.ports.specs.Ports.{placeA, placeB, partA, partB, portOf, byPort}
+use Rattle.ports.specs.Ports.{place_a, place_b, part_a, part_b, port_of, by_port}
 use Rattle.ports.specs.Parts.{bytes_of, Lying, part, part_of}
 
 module _ (a b : Bor (List ℕ)) (n k : ℕ) where
   -- monitor k's part of each reply's slice
   abbrev pub in_a : Lying
-  in_a = part a (placeA n k * payloadSize) payloadSize
+  in_a = part a (place_a n k * payload_size) payload_size
 
   abbrev pub in_b : Lying
-  in_b = part b (placeB n k * payloadSize) payloadSize
+  in_b = part b (place_b n k * payload_size) payload_size
 
-  bytes-by : (port : Port) → (byPort (part a 0 0) in_a in_b port).bytes ≡ byPort [] (partA a.now n k) (partB b.now n k) port
-  unfolding partA partB row_at
+  bytes-by : (port : Port) → (by_port (part a 0 0) in_a in_b port).bytes ≡ by_port [] (part_a a.now n k) (part_b b.now n k) port
+  unfolding part_a part_b row_at
   bytes-by (Refused r) = refl
   bytes-by (A differs) = refl
   bytes-by (B differs) = refl
 
   -- what lies where the port says
-  pub handed : (expected : ℕ) {l : Lying} {port : Port} → port ≡ portOf a.now b.now n k expected → l ≡ byPort (part a 0 0) in_a in_b port
+  pub handed : (expected : ℕ) {l : Lying} {port : Port} → port ≡ port_of a.now b.now n k expected → l ≡ by_port (part a 0 0) in_a in_b port
       → (l.bytes ≡ bytes_of a.now b.now n k expected) × (l ≡ part_of a b n k expected)
   unfolding bytes_of part_of
   handed expected e h =
-      let there = h ∙ ap (byPort (part a 0 0) in_a in_b) e in
-      (ap (λ (x : Lying). x.bytes) there ∙ bytes-by (portOf a.now b.now n k expected), there)
+      let there = h ∙ ap (by_port (part a 0 0) in_a in_b) e in
+      (ap (λ (x : Lying). x.bytes) there ∙ bytes-by (port_of a.now b.now n k expected), there)

@@ -1,12 +1,12 @@
 // Two ends of the chain: a monitor's eight bytes as they lie in one of two replies, port A's with monitor 1 first, port B's
 // with monitor N first.
 ghost use Rattle.std.specs.Prelude.{◌≡◌, cond, ◌&&◌, ◌+◌, ◌*◌, ◌≤◌, eqb, leb, length};
-ghost use Rattle.pec.specs.Words.{counterOf};
-ghost use Rattle.records.specs.Commands.{mostMonitors, payloadSize};
+ghost use Rattle.pec.specs.Words.{counter_of};
+ghost use Rattle.records.specs.Commands.{most_monitors, payload_size};
 ghost use Rattle.refusals.specs.declared.Refusal.TheVariants.{BothDamaged};
 ghost use Rattle.ports.specs.declared.ports.Port.TheVariants.{Refused};
-ghost use Rattle.ports.specs.Verdicts.{isDamaged};
-ghost use Rattle.ports.specs.Ports.{placeA, placeB, chosen, portOf};
+ghost use Rattle.ports.specs.Verdicts.{is_damaged};
+ghost use Rattle.ports.specs.Ports.{place_a, place_b, chosen, port_of};
 ghost use Rattle.ports.specs.Parts.{bytes_of, lying, part, part_of};
 
 use records::{MOST_COUNT, MOST_MONITORS, PAYLOAD_SIZE};
@@ -22,7 +22,7 @@ pub enum Port {
 
 // Can a monitor stand at k, counted from 1, in a chain of n? A chain that has a monitor at k is not empty.
 fn is_position(n: usize, k: usize) -> bool
-    ensures { result ≡ (leb 1 n && leb n mostMonitors && leb 1 k && leb k n) }
+    ensures { result ≡ (leb 1 n && leb n most_monitors && leb 1 k && leb k n) }
 {
     if k < 1 {
         return false;
@@ -36,7 +36,7 @@ fn is_position(n: usize, k: usize) -> bool
 // Monitor k's place in port A's reply, in payloads from its start.
 fn place_a(n: usize, k: usize) -> usize
     requires { (1 ≤ k) × (k ≤ n) }
-    ensures { result ≡ placeA n k }
+    ensures { result ≡ place_a n k }
 {
     k - 1
 }
@@ -44,15 +44,15 @@ fn place_a(n: usize, k: usize) -> usize
 // Monitor k's place in port B's reply, in payloads from its start.
 fn place_b(n: usize, k: usize) -> usize
     requires { (1 ≤ k) × (k ≤ n) }
-    ensures { result ≡ placeB n k }
+    ensures { result ≡ place_b n k }
 {
     n - k
 }
 
 // The eight bytes at a place of a reply, as they lie there.
 fn part_at(reply: &[u8], place: usize) -> &[u8]
-    requires { place * payloadSize + payloadSize ≤ length reply.now }
-    ensures { lying result ≡ part reply.entry (place * payloadSize) payloadSize }
+    requires { place * payload_size + payload_size ≤ length reply.now }
+    ensures { lying result ≡ part reply.entry (place * payload_size) payload_size }
 {
     let from = place * PAYLOAD_SIZE;
     let to = from + PAYLOAD_SIZE;
@@ -61,7 +61,7 @@ fn part_at(reply: &[u8], place: usize) -> &[u8]
 
 // Is a payload right: is its check, and is its counter the one expected?
 fn is_right(check: bool, eight: &[u8], expected: u8) -> bool
-    ensures { result ≡ (check && eqb (counterOf eight.now) expected) }
+    ensures { result ≡ (check && eqb (counter_of eight.now) expected) }
 {
     if !check {
         return false;
@@ -71,7 +71,7 @@ fn is_right(check: bool, eight: &[u8], expected: u8) -> bool
 
 // Which of two parts: A's if right, else B's if right, else A's if only its counter differs, else B's likewise; none if both are damaged.
 fn choose(in_a: &[u8], in_b: &[u8], expected: u8) -> Port
-    ensures { result ≡ cond (isDamaged in_a.now && isDamaged in_b.now) (Refused BothDamaged) (chosen in_a.now in_b.now expected) }
+    ensures { result ≡ cond (is_damaged in_a.now && is_damaged in_b.now) (Refused BothDamaged) (chosen in_a.now in_b.now expected) }
 {
     let check_a = check_words::payload_right(in_a);
     if is_right(check_a, in_a, expected) {
@@ -92,7 +92,7 @@ fn choose(in_a: &[u8], in_b: &[u8], expected: u8) -> Port
 
 // Which reply has monitor k's bytes, and does their counter differ from the one expected?
 pub fn port_of(a: &[u8], b: &[u8], n: usize, k: usize, expected: u8) -> Port
-    ensures { result ≡ portOf a.now b.now n k expected }
+    ensures { result ≡ port_of a.now b.now n k expected }
 {
     if expected > MOST_COUNT {
         return Port::Refused(Refusal::PositionWrong);

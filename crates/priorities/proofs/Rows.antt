@@ -9,7 +9,7 @@ use lib.ListN.{drop}
 use Rattle.priorities.specs.declared.outputs.Events.{Events}
 use Rattle.priorities.specs.declared.outputs.Output.{Output}
 use Rattle.priorities.specs.Switches.{muted, dcc, duty}
-use Rattle.priorities.specs.Table27.{table27, decided, outputOf}
+use Rattle.priorities.specs.Table27.{table27, decided, output_of}
 
 abbrev pub output : ℕ → Bool → Output
 output row on = record { row = row; on = on }
@@ -22,50 +22,50 @@ module _ (events : Events) (phase : ℕ) (r : List ℕ) (c : ℕ) where
   step : (b : Bool) {v : Bool} (x y : Output) → b ≡ v → cond b x y ≡ cond v x y
   step b x y e = ap (λ (t : Bool). cond t x y) e
 
-  pub by-7 : events.shutdown ≡ true → outputOf events phase r c ≡ output 7 false
-  unfolding outputOf decided table27
-  by-7 e = step events.shutdown (output 7 false) (below 1) e
+  pub by_7 : events.shutdown ≡ true → output_of events phase r c ≡ output 7 false
+  unfolding output_of decided table27
+  by_7 e = step events.shutdown (output 7 false) (below 1) e
 
-  pub past-7 : events.shutdown ≡ false → outputOf events phase r c ≡ below 1
-  unfolding outputOf decided table27
-  past-7 e = step events.shutdown (output 7 false) (below 1) e
+  pub past_7 : events.shutdown ≡ false → output_of events phase r c ≡ below 1
+  unfolding output_of decided table27
+  past_7 e = step events.shutdown (output 7 false) (below 1) e
 
-  pub by-6 : muted r ≡ true → below 1 ≡ output 6 false
+  pub by_6 : muted r ≡ true → below 1 ≡ output 6 false
   unfolding decided table27
-  by-6 e = step (muted r) (output 6 false) (below 2) e
+  by_6 e = step (muted r) (output 6 false) (below 2) e
 
-  pub past-6 : muted r ≡ false → below 1 ≡ below 2
+  pub past_6 : muted r ≡ false → below 1 ≡ below 2
   unfolding decided table27
-  past-6 e = step (muted r) (output 6 false) (below 2) e
+  past_6 e = step (muted r) (output 6 false) (below 2) e
 
-  pub by-5 : events.wrcfgb ≡ true → below 2 ≡ output 5 false
+  pub by_5 : events.wrcfgb ≡ true → below 2 ≡ output 5 false
   unfolding decided table27
-  by-5 e = step events.wrcfgb (output 5 false) (below 3) e
+  by_5 e = step events.wrcfgb (output 5 false) (below 3) e
 
-  pub past-5 : events.wrcfgb ≡ false → below 2 ≡ below 3
+  pub past_5 : events.wrcfgb ≡ false → below 2 ≡ below 3
   unfolding decided table27
-  past-5 e = step events.wrcfgb (output 5 false) (below 3) e
+  past_5 e = step events.wrcfgb (output 5 false) (below 3) e
 
   pub by_4 : dcc r c ≡ true → below 3 ≡ output 4 true
   unfolding decided table27
   by_4 e = step (dcc r c) (output 4 true) (below 4) e
 
-  pub past-4 : dcc r c ≡ false → below 3 ≡ below 4
+  pub past_4 : dcc r c ≡ false → below 3 ≡ below 4
   unfolding decided table27
-  past-4 e = step (dcc r c) (output 4 true) (below 4) e
+  past_4 e = step (dcc r c) (output 4 true) (below 4) e
 
-  pub by-3 : events.measurement ≡ true → below 4 ≡ output 3 false
+  pub by_3 : events.measurement ≡ true → below 4 ≡ output 3 false
   unfolding decided table27
-  by-3 e = step events.measurement (output 3 false) (below 5) e
+  by_3 e = step events.measurement (output 3 false) (below 5) e
 
-  pub past-3 : events.measurement ≡ false → below 4 ≡ below 5
+  pub past_3 : events.measurement ≡ false → below 4 ≡ below 5
   unfolding decided table27
-  past-3 e = step events.measurement (output 3 false) (below 5) e
+  past_3 e = step events.measurement (output 3 false) (below 5) e
 
   pub by_2 : events.wrpwm ≡ true → below 5 ≡ output 2 false
   unfolding decided table27
   by_2 e = step events.wrpwm (output 2 false) (below 6) e
 
-  pub by-1 : events.wrpwm ≡ false → below 5 ≡ output 1 (ltb phase (duty r c))
+  pub by_1 : events.wrpwm ≡ false → below 5 ≡ output 1 (ltb phase (duty r c))
   unfolding decided table27
-  by-1 e = step events.wrpwm (output 2 false) (below 6) e
+  by_1 e = step events.wrpwm (output 2 false) (below 6) e

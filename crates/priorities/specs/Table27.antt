@@ -22,11 +22,11 @@ abbrev on : Bool
 on = true
 
 -- the phases of the PWM are 0 to 14
-abbrev pub lastPhase : ℕ
-lastPhase = 14
+abbrev pub last_phase : ℕ
+last_phase = 14
 
 unfoldable pub phases : List ℕ
-phases = tabulate (λ p. p) 0 (suc lastPhase)
+phases = tabulate (λ p. p) 0 (suc last_phase)
 
 -- the table for the output of cell c, counted from 1, of a record: what goes on is given, and in which phase the PWM is
 unfoldable pub table27 : Events → ℕ → List ℕ → ℕ → List Row
@@ -46,8 +46,8 @@ decided [] = record { row = 0; on = false }
 decided (row ∷ rows) = cond row.event (record { row = row.priority; on = row.on }) (decided rows)
 
 -- the output of a cell: the row that decides it, and whether it is on
-unfoldable pub outputOf : Events → ℕ → List ℕ → ℕ → Output
-outputOf events phase r c = decided (table27 events phase r c)
+unfoldable pub output_of : Events → ℕ → List ℕ → ℕ → Output
+output_of events phase r c = decided (table27 events phase r c)
 
 -- ---- which row it is
 

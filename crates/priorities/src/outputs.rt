@@ -1,8 +1,8 @@
 // The sixteen outputs of one monitor, each decided by a row of Table 27.
 ghost use Rattle.std.specs.Prelude.{◌≡◌, cond, ◌++◌, ◌≤◌, leb, length, drop};
-ghost use Rattle.records.specs.Record.{cellCount};
-ghost use Rattle.priorities.specs.Table27.{outputOf};
-ghost use Rattle.priorities.specs.Outputs.{shown, outputs, countOn};
+ghost use Rattle.records.specs.Record.{cell_count};
+ghost use Rattle.priorities.specs.Table27.{output_of};
+ghost use Rattle.priorities.specs.Outputs.{shown, outputs, count_on};
 
 use crate::switches::{duty_of, has_dcc, is_muted};
 use records::CELL_COUNT;
@@ -29,8 +29,8 @@ pub struct Output {
 
 // The output of a cell, counted from 1: the rows from the top.
 fn output_of(rec: &[u8], cell: usize, events: Events, phase: u8) -> Output
-    requires { (1 ≤ cell) × (cell ≤ cellCount) }
-    ensures { result ≡ outputOf events phase rec.now cell }
+    requires { (1 ≤ cell) × (cell ≤ cell_count) }
+    ensures { result ≡ output_of events phase rec.now cell }
 {
     if events.shutdown {
         return Output { row: 7, on: false };
@@ -71,8 +71,8 @@ fn shown(output: Output) -> u8
 // The sixteen outputs at the start of a buffer, cell 1's first, and how many of them are on. A buffer that is shorter stays as it is, and
 // the answer is 0. What a slice that is no record does not hold counts as 0.
 pub fn put_outputs(rec: &[u8], events: Events, phase: u8, out: &mut [u8]) -> usize
-    ensures value { result ≡ cond (leb cellCount (length out.old)) (countOn events phase rec.now) 0 }
-    ensures out_after { out.new ≡ cond (leb cellCount (length out.old)) (outputs events phase rec.now ++ drop cellCount out.old) out.old }
+    ensures value { result ≡ cond (leb cell_count (length out.old)) (count_on events phase rec.now) 0 }
+    ensures out_after { out.new ≡ cond (leb cell_count (length out.old)) (outputs events phase rec.now ++ drop cell_count out.old) out.old }
 {
     if out.len() < CELL_COUNT {
         return 0;

@@ -2,7 +2,7 @@
 ghost use Rattle.std.specs.Prelude.{◌≡◌, true};
 ghost use Rattle.std.specs.Float.{binary64};
 ghost use Rattle.std.specs.Float.Ieee.{in_float};
-ghost use Rattle.cells.specs.Cells.{isCleared};
+ghost use Rattle.cells.specs.Cells.{is_cleared};
 ghost use Rattle.readings.specs.Readings.{microvolts, volts, reading_of};
 
 use thresholds::ResultCode;
@@ -18,7 +18,7 @@ pub enum Reading {
 }
 
 pub(crate) fn is_cleared(code: ResultCode) -> bool
-    ensures { result ≡ isCleared code.0 }
+    ensures { result ≡ is_cleared code.0 }
 {
     code.0 == CLEARED
 }

@@ -6,39 +6,39 @@ use mathlib.Core.List.{List}
 use Prim.Native.Nat.{ℕ, ◌+◌, ◌≤◌}
 use lib.Dec.{leb}
 use borrow.Author.Tests.{leb-true}
-use Rattle.laws.proofs.Tests.{both_first, both-second}
+use Rattle.laws.proofs.Tests.{both_first, both_second}
 use Rattle.records.specs.declared.record.Part.{Part}
 use Rattle.records.specs.Record.{cells, snapped}
-use Rattle.reads.specs.Shown.{ofCells, copy_of, shownPart}
+use Rattle.reads.specs.Shown.{of_cells, copy_of, shown_part}
 
 -- it begins at the cells or behind, and ends with them or before
 pub record Within (p : Part) : Type 0 where
   pub begins : cells.at ≤ p.at
   pub ends : p.at + p.size ≤ cells.at + cells.size
 
-pub of-cells : (p : Part) → ofCells p ≡ true → Within p
+pub of-cells : (p : Part) → of_cells p ≡ true → Within p
 of-cells p h =
     record {
       begins = leb-true _ _ (both_first (leb cells.at p.at) _ h);
-      ends = leb-true _ _ (both-second (leb cells.at p.at) _ h);
+      ends = leb-true _ _ (both_second (leb cells.at p.at) _ h);
     }
 
 module _ (p : Part) (r : List ℕ) where
-  abbrev shownWhere : Bool → Bool → Part
-  shownWhere itsCells on = cond (itsCells && on) (copy_of p) p
+  abbrev shown_where : Bool → Bool → Part
+  shown_where itsCells on = cond (itsCells && on) (copy_of p) p
 
-  pub shows-copy : ofCells p ≡ true → snapped r ≡ true → shownPart p r ≡ copy_of p
-  unfolding shownPart
-  shows-copy h k = ap₂ shownWhere h k
+  pub shows_copy : of_cells p ≡ true → snapped r ≡ true → shown_part p r ≡ copy_of p
+  unfolding shown_part
+  shows_copy h k = ap₂ shown_where h k
 
-  pub shows-live : snapped r ≡ false → shownPart p r ≡ p
-  unfolding shownPart
-  shows-live k = ap (shownWhere (ofCells p)) k ∙ never (ofCells p)
+  pub shows_live : snapped r ≡ false → shown_part p r ≡ p
+  unfolding shown_part
+  shows_live k = ap (shown_where (of_cells p)) k ∙ never (of_cells p)
     where
-      never : (itsCells : Bool) → shownWhere itsCells false ≡ p
+      never : (itsCells : Bool) → shown_where itsCells false ≡ p
       never true = refl
       never false = refl
 
-  pub shows-other : ofCells p ≡ false → shownPart p r ≡ p
-  unfolding shownPart
-  shows-other h = ap (λ (b : Bool). shownWhere b (snapped r)) h
+  pub shows_other : of_cells p ≡ false → shown_part p r ≡ p
+  unfolding shown_part
+  shows_other h = ap (λ (b : Bool). shown_where b (snapped r)) h

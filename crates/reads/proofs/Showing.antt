@@ -10,32 +10,32 @@ use lib.ListN.{length, length-take, length-drop, take, drop, get_or, get_or-eq_d
 use lib.Seq.{get_or-take, get_or-drop}
 use Rattle.laws.specs.Tables.{tabulate}
 use Rattle.laws.proofs.Lists.{get_d_any}
-use Rattle.pec.specs.Words.{twoBytes, seal}
+use Rattle.pec.specs.Words.{two_bytes, seal}
 use Rattle.records.specs.declared.record.Part.{Part}
 use Rattle.records.specs.Record.{bytes_of}
-use Rattle.reads.specs.Reply.{sixBytes, register, reply}
+use Rattle.reads.specs.Reply.{six_bytes, register, reply}
 
 module _ (part : Part) (r : List ℕ) (i : ℕ) where
   pub shows : i < part.size → part.at + i < length r → get_or r (part.at + i) 0 ≡ get_or (bytes_of part r) i 0xFF
   unfolding bytes_of
   shows h k = sym (get_or-take part.size (drop part.at r) i 0xFF h ∙ get_or-drop part.at r i 0xFF ∙ get_d_any r (part.at + i) 0xFF 0 k)
 
-  pub shows-past : length (bytes_of part r) ≤ i → 0xFF ≡ get_or (bytes_of part r) i 0xFF
-  shows-past h = sym (get_or-eq_default (bytes_of part r) 0xFF h)
+  pub shows_past : length (bytes_of part r) ≤ i → 0xFF ≡ get_or (bytes_of part r) i 0xFF
+  shows_past h = sym (get_or-eq_default (bytes_of part r) 0xFF h)
 
-  pub past-part : part.size ≤ i → length (bytes_of part r) ≤ i
+  pub past_part : part.size ≤ i → length (bytes_of part r) ≤ i
   unfolding bytes_of
-  past-part h = omega (arith, length-take part.size (drop part.at r))
+  past_part h = omega (arith, length-take part.size (drop part.at r))
 
-  pub past-slice : length r - part.at ≤ i → length (bytes_of part r) ≤ i
+  pub past_slice : length r - part.at ≤ i → length (bytes_of part r) ≤ i
   unfolding bytes_of
-  past-slice h = omega (arith, length-take part.size (drop part.at r), length-drop part.at r)
+  past_slice h = omega (arith, length-take part.size (drop part.at r), length-drop part.at r)
 
 -- where the part has six bytes and the slice has all of them: the slice's own, from where the part begins
-pub shows-whole : (part : Part) (r : List ℕ) → 6 ≤ part.size → part.at + 6 ≤ length r
-    → tabulate (λ i. get_or (take (length r - part.at) (drop part.at r)) i 0) 0 6 ≡ sixBytes part r
-unfolding sixBytes tabulate
-shows-whole part r h k =
+pub shows_whole : (part : Part) (r : List ℕ) → 6 ≤ part.size → part.at + 6 ≤ length r
+    → tabulate (λ i. get_or (take (length r - part.at) (drop part.at r)) i 0) 0 6 ≡ six_bytes part r
+unfolding six_bytes tabulate
+shows_whole part r h k =
     let from = drop part.at r in
     let room = length r - part.at in
     let one : (i : ℕ) → i < 6 → get_or (take room from) i 0 ≡ get_or (bytes_of part r) i 0xFF =
@@ -49,5 +49,5 @@ shows-whole part r h k =
     ∷ []
 
 pub length-reply : (part : Part) (r : List ℕ) → length (reply part r) ≡ 8
-unfolding reply register sixBytes tabulate seal twoBytes
+unfolding reply register six_bytes tabulate seal two_bytes
 length-reply part r = refl

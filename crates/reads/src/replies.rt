@@ -2,7 +2,7 @@
 ghost use Rattle.std.specs.Prelude.{◌≡◌, ◌≤◌, length, get_or};
 ghost use Rattle.laws.specs.Tables.{tabulate};
 ghost use Rattle.records.specs.Record.{bytes_of};
-ghost use Rattle.reads.specs.Reply.{sixBytes, register, reply};
+ghost use Rattle.reads.specs.Reply.{six_bytes, register, reply};
 
 use crate::shown::{copy_of, of_cells};
 use records::{COUNTER, Part, byte_at, is_snapped};
@@ -25,7 +25,7 @@ fn shown_byte(rec: &[u8], part: Part, i: usize) -> u8
 
 // Six bytes of a part, each by its own tests.
 fn shown_bytes(part: Part, rec: &[u8]) -> [u8; 6]
-    ensures { result ≡ sixBytes part rec.now }
+    ensures { result ≡ six_bytes part rec.now }
 {
     [
         shown_byte(rec, part, 0),
@@ -47,7 +47,7 @@ fn six_of(bytes: &[u8]) -> [u8; 6]
 
 // Six bytes of a part. Every part but cell 16 and its copy has six and lies within the record: one test is then enough for all.
 fn part_bytes(part: Part, rec: &[u8]) -> [u8; 6]
-    ensures { result ≡ sixBytes part rec.now }
+    ensures { result ≡ six_bytes part rec.now }
 {
     let at = part.at as usize;
     let size = part.size as usize;

@@ -1,12 +1,12 @@
 // The parts that cell reads show.
 ghost use Rattle.std.specs.Prelude.{◌≡◌, true};
-ghost use Rattle.reads.specs.Shown.{ofCells, copy_of};
+ghost use Rattle.reads.specs.Shown.{of_cells, copy_of};
 
 use records::{CELLS, CELLS_SIZE, Part, SNAPSHOT};
 
 // Is it a part of the cells?
 pub(crate) fn of_cells(part: Part) -> bool
-    ensures { result ≡ ofCells part }
+    ensures { result ≡ of_cells part }
 {
     let at = part.at as usize;
     let size = part.size as usize;
@@ -19,7 +19,7 @@ pub(crate) fn of_cells(part: Part) -> bool
 
 // The same part of the copy.
 pub(crate) fn copy_of(part: Part) -> Part
-    requires { ofCells part ≡ true }
+    requires { of_cells part ≡ true }
     ensures { result ≡ copy_of part }
 {
     Part {

@@ -7,19 +7,19 @@ use mathlib.Core.List.{List}
 use Prim.Native.Nat.{ℕ}
 use lib.ListN.{length}
 use borrow.Author.Tests.{eq-eqb, ne_eqb}
-use Rattle.records.specs.Record.{recordSize, isRecord}
+use Rattle.records.specs.Record.{record_size, is_record}
 
-pub is-record : (r : List ℕ) → length r ≡ recordSize → isRecord r ≡ true
-unfolding isRecord
-is-record r h = eq-eqb (length r) recordSize h
+pub is-record : (r : List ℕ) → length r ≡ record_size → is_record r ≡ true
+unfolding is_record
+is-record r h = eq-eqb (length r) record_size h
 
-pub no_record : (r : List ℕ) → (length r ≡ recordSize → ⊥) → isRecord r ≡ false
-unfolding isRecord
-no_record r h = ne_eqb (length r) recordSize h
+pub no_record : (r : List ℕ) → (length r ≡ record_size → ⊥) → is_record r ≡ false
+unfolding is_record
+no_record r h = ne_eqb (length r) record_size h
 
 module _ (test : Bool) (changed before : List ℕ) {answer : Bool} {after : List ℕ} where
   pub left_alone : answer ≡ false → test ≡ false → after ≡ before → (answer ≡ test) × (after ≡ cond test changed before)
   left_alone a h e = (a ∙ sym h, e ∙ sym (ap (λ (b : Bool). cond b changed before) h))
 
-  pub was-changed : answer ≡ true → test ≡ true → after ≡ changed → (answer ≡ test) × (after ≡ cond test changed before)
-  was-changed a h e = (a ∙ sym h, e ∙ sym (ap (λ (b : Bool). cond b changed before) h))
+  pub was_changed : answer ≡ true → test ≡ true → after ≡ changed → (answer ≡ test) × (after ≡ cond test changed before)
+  was_changed a h e = (a ∙ sym h, e ∙ sym (ap (λ (b : Bool). cond b changed before) h))

@@ -6,21 +6,21 @@ use Prim.Native.Nat.{ℕ, ◌<◌}
 use lib.Dec.{lit≤}
 use lib.ListN.{length}
 use Rattle.laws.specs.Bits.{bit_at}
-use Rattle.records.specs.Record.{statusBits, cmf1, snapped, inLpcm, Outside, anew}
-use Rattle.records.proofs.Parts.{byte-front, outside-byte}
+use Rattle.records.specs.Record.{status_bits, cmf1, snapped, in_lpcm, Outside, anew}
+use Rattle.records.proofs.Parts.{byte_front, outside_byte}
 
-pub snapped-front : (front rest : List ℕ) → statusBits.at < length front → snapped (front ++ rest) ≡ snapped front
+pub snapped_front : (front rest : List ℕ) → status_bits.at < length front → snapped (front ++ rest) ≡ snapped front
 unfolding snapped
-snapped-front front rest h = ap (bit_at 5) (byte-front statusBits front rest h)
+snapped_front front rest h = ap (bit_at 5) (byte_front status_bits front rest h)
 
-pub snapped-elsewhere : (f : ℕ → ℕ → ℕ) (at n : ℕ) (r : List ℕ) → Outside statusBits at n → snapped (anew f at n r) ≡ snapped r
+pub snapped_elsewhere : (f : ℕ → ℕ → ℕ) (at n : ℕ) (r : List ℕ) → Outside status_bits at n → snapped (anew f at n r) ≡ snapped r
 unfolding snapped
-snapped-elsewhere f at n r h = ap (bit_at 5) (outside-byte statusBits f at n r (lit≤ tt) h)
+snapped_elsewhere f at n r h = ap (bit_at 5) (outside_byte status_bits f at n r (lit≤ tt) h)
 
-pub lpcm-front : (front rest : List ℕ) → cmf1.at < length front → inLpcm (front ++ rest) ≡ inLpcm front
-unfolding inLpcm
-lpcm-front front rest h = ap (bit_at 7) (byte-front cmf1 front rest h)
+pub lpcm_front : (front rest : List ℕ) → cmf1.at < length front → in_lpcm (front ++ rest) ≡ in_lpcm front
+unfolding in_lpcm
+lpcm_front front rest h = ap (bit_at 7) (byte_front cmf1 front rest h)
 
-pub lpcm-elsewhere : (f : ℕ → ℕ → ℕ) (at n : ℕ) (r : List ℕ) → Outside cmf1 at n → inLpcm (anew f at n r) ≡ inLpcm r
-unfolding inLpcm
-lpcm-elsewhere f at n r h = ap (bit_at 7) (outside-byte cmf1 f at n r (lit≤ tt) h)
+pub lpcm_elsewhere : (f : ℕ → ℕ → ℕ) (at n : ℕ) (r : List ℕ) → Outside cmf1 at n → in_lpcm (anew f at n r) ≡ in_lpcm r
+unfolding in_lpcm
+lpcm_elsewhere f at n r h = ap (bit_at 7) (outside_byte cmf1 f at n r (lit≤ tt) h)

@@ -9,58 +9,58 @@ use Rattle.records.specs.declared.commands.Command.{Command}
 use Rattle.records.specs.declared.commands.Command.TheVariants.{Reads, Writes, Bares, Unlisted}
 use Rattle.records.specs.declared.commands.Write.{Write}
 use Rattle.records.specs.declared.commands.Write.TheVariants.{Wrcfga, Wrcfgb, Wrrr, Clrflag, Clovuv, Wrpwma, Wrpwmb, Wrcmcfg, Wrcmcellt, Wrcmgpiot, Clrcmflag}
-use Rattle.records.specs.Commands.{dataSize, payloadSize, width_of}
+use Rattle.records.specs.Commands.{data_size, payload_size, width_of}
 
-pub six-or-two : (c : Write) → (dataSize c ≡ 6) ⊎ (dataSize c ≡ 2)
-six-or-two Wrcfga = inl refl
-six-or-two Wrcfgb = inl refl
-six-or-two Wrrr = inl refl
-six-or-two Clrflag = inl refl
-six-or-two Clovuv = inl refl
-six-or-two Wrpwma = inl refl
-six-or-two Wrpwmb = inl refl
-six-or-two Wrcmcfg = inl refl
-six-or-two Wrcmcellt = inl refl
-six-or-two Wrcmgpiot = inl refl
-six-or-two Clrcmflag = inr refl
+pub six_or_two : (c : Write) → (data_size c ≡ 6) ⊎ (data_size c ≡ 2)
+six_or_two Wrcfga = inl refl
+six_or_two Wrcfgb = inl refl
+six_or_two Wrrr = inl refl
+six_or_two Clrflag = inl refl
+six_or_two Clovuv = inl refl
+six_or_two Wrpwma = inl refl
+six_or_two Wrpwmb = inl refl
+six_or_two Wrcmcfg = inl refl
+six_or_two Wrcmcellt = inl refl
+six_or_two Wrcmgpiot = inl refl
+six_or_two Clrcmflag = inr refl
 
 -- all six but CLRCMFLAG
-pub six-but-clrcmflag : (c : Write) → (c ≡ Clrcmflag → ⊥) → dataSize c ≡ 6
-six-but-clrcmflag Wrcfga other = refl
-six-but-clrcmflag Wrcfgb other = refl
-six-but-clrcmflag Wrrr other = refl
-six-but-clrcmflag Clrflag other = refl
-six-but-clrcmflag Clovuv other = refl
-six-but-clrcmflag Wrpwma other = refl
-six-but-clrcmflag Wrpwmb other = refl
-six-but-clrcmflag Wrcmcfg other = refl
-six-but-clrcmflag Wrcmcellt other = refl
-six-but-clrcmflag Wrcmgpiot other = refl
-six-but-clrcmflag Clrcmflag other = absurd (other refl)
+pub six_but_clrcmflag : (c : Write) → (c ≡ Clrcmflag → ⊥) → data_size c ≡ 6
+six_but_clrcmflag Wrcfga other = refl
+six_but_clrcmflag Wrcfgb other = refl
+six_but_clrcmflag Wrrr other = refl
+six_but_clrcmflag Clrflag other = refl
+six_but_clrcmflag Clovuv other = refl
+six_but_clrcmflag Wrpwma other = refl
+six_but_clrcmflag Wrpwmb other = refl
+six_but_clrcmflag Wrcmcfg other = refl
+six_but_clrcmflag Wrcmcellt other = refl
+six_but_clrcmflag Wrcmgpiot other = refl
+six_but_clrcmflag Clrcmflag other = absurd (other refl)
 
 module _ (c : Write) where
-  pub data-most : dataSize c ≤ 6
-  data-most = by_size (six-or-two c)
+  pub data_most : data_size c ≤ 6
+  data_most = by_size (six_or_two c)
     where
-      by_size : (dataSize c ≡ 6) ⊎ (dataSize c ≡ 2) → dataSize c ≤ 6
+      by_size : (data_size c ≡ 6) ⊎ (data_size c ≡ 2) → data_size c ≤ 6
       by_size (inl e) = omega (arith, e)
       by_size (inr e) = omega (arith, e)
 
-  pub data-some : 2 ≤ dataSize c
-  data-some = by_size (six-or-two c)
+  pub data_some : 2 ≤ data_size c
+  data_some = by_size (six_or_two c)
     where
-      by_size : (dataSize c ≡ 6) ⊎ (dataSize c ≡ 2) → 2 ≤ dataSize c
+      by_size : (data_size c ≡ 6) ⊎ (data_size c ≡ 2) → 2 ≤ data_size c
       by_size (inl e) = omega (arith, e)
       by_size (inr e) = omega (arith, e)
 
-pub width-most : (c : Command) → width_of c ≤ payloadSize
-width-most (Reads part) = lit≤ tt
-width-most (Writes c) = omega (arith, data-most c)
-width-most (Bares c) = lit≤ tt
-width-most Unlisted = lit≤ tt
+pub width_most : (c : Command) → width_of c ≤ payload_size
+width_most (Reads part) = lit≤ tt
+width_most (Writes c) = omega (arith, data_most c)
+width_most (Bares c) = lit≤ tt
+width_most Unlisted = lit≤ tt
 
 pub width_some : (c : Command) → 4 ≤ width_of c
 width_some (Reads part) = lit≤ tt
-width_some (Writes c) = omega (arith, data-some c)
+width_some (Writes c) = omega (arith, data_some c)
 width_some (Bares c) = lit≤ tt
 width_some Unlisted = lit≤ tt

@@ -7,62 +7,62 @@ use Rattle.records.specs.declared.commands.Bare.TheVariants.{Mute, Unmute, Rstcc
 use Rattle.records.specs.declared.commands.Command.{Command}
 use Rattle.records.specs.declared.commands.Command.TheVariants.{Reads, Writes, Bares, Unlisted}
 use Rattle.records.specs.declared.record.Part.{Part}
-use Rattle.records.specs.Record.{configurationA, configurationB, threeCells, cell16, statusC, statusD, serialId, retention, pwmA, pwmB, lpcmConfiguration, lpcmCellThresholds, lpcmGpioThresholds, lpcmFlags}
+use Rattle.records.specs.Record.{configuration_a, configuration_b, three_cells, cell16, status_c, status_d, serial_id, retention, pwm_a, pwm_b, lpcm_configuration, lpcm_cell_thresholds, lpcm_gpio_thresholds, lpcm_flags}
 
 -- the part of the record that each read names: it shows that part, or of the cells, while a snapshot is on, the same part of their copy (`reads`)
 abbrev pub rdcfga : Part
-rdcfga = configurationA
+rdcfga = configuration_a
 
 abbrev pub rdcfgb : Part
-rdcfgb = configurationB
+rdcfgb = configuration_b
 
 abbrev pub rdcva : Part
-rdcva = threeCells 0
+rdcva = three_cells 0
 
 abbrev pub rdcvb : Part
-rdcvb = threeCells 1
+rdcvb = three_cells 1
 
 abbrev pub rdcvc : Part
-rdcvc = threeCells 2
+rdcvc = three_cells 2
 
 abbrev pub rdcvd : Part
-rdcvd = threeCells 3
+rdcvd = three_cells 3
 
 abbrev pub rdcve : Part
-rdcve = threeCells 4
+rdcve = three_cells 4
 
 abbrev pub rdcvf : Part
 rdcvf = cell16
 
 abbrev pub rdstatc : Part
-rdstatc = statusC
+rdstatc = status_c
 
 abbrev pub rdstatd : Part
-rdstatd = statusD
+rdstatd = status_d
 
 abbrev pub rdsid : Part
-rdsid = serialId
+rdsid = serial_id
 
 abbrev pub rdrr : Part
 rdrr = retention
 
 abbrev pub rdpwma : Part
-rdpwma = pwmA
+rdpwma = pwm_a
 
 abbrev pub rdpwmb : Part
-rdpwmb = pwmB
+rdpwmb = pwm_b
 
 abbrev pub rdcmcfg : Part
-rdcmcfg = lpcmConfiguration
+rdcmcfg = lpcm_configuration
 
 abbrev pub rdcmcellt : Part
-rdcmcellt = lpcmCellThresholds
+rdcmcellt = lpcm_cell_thresholds
 
 abbrev pub rdcmgpiot : Part
-rdcmgpiot = lpcmGpioThresholds
+rdcmgpiot = lpcm_gpio_thresholds
 
 abbrev pub rdcmflag : Part
-rdcmflag = lpcmFlags
+rdcmflag = lpcm_flags
 
 -- a code, and the command that it stands for
 pub record Row : Type 0 where
@@ -116,64 +116,64 @@ commands =
     ∷ []
 
 -- the command of the first row that has the code
-unfoldable pub commandOf : ℕ → List Row → Command
-commandOf code [] = Unlisted
-commandOf code (row ∷ rows) = cond (eqb row.code code) row.command (commandOf code rows)
+unfoldable pub command_of : ℕ → List Row → Command
+command_of code [] = Unlisted
+command_of code (row ∷ rows) = cond (eqb row.code code) row.command (command_of code rows)
 
-abbrev pub isListed : Command → Bool
-isListed (Reads part) = true
-isListed (Writes c) = true
-isListed (Bares c) = true
-isListed Unlisted = false
+abbrev pub is_listed : Command → Bool
+is_listed (Reads part) = true
+is_listed (Writes c) = true
+is_listed (Bares c) = true
+is_listed Unlisted = false
 
 -- the monitors that a chain has at most
-abbrev pub mostMonitors : ℕ
-mostMonitors = 32
+abbrev pub most_monitors : ℕ
+most_monitors = 32
 
 -- the data bytes that a write sends to each monitor
-abbrev pub dataSize : Write → ℕ
-dataSize Wrcfga = 6
-dataSize Wrcfgb = 6
-dataSize Wrrr = 6
-dataSize Clrflag = 6
-dataSize Clovuv = 6
-dataSize Wrpwma = 6
-dataSize Wrpwmb = 6
-dataSize Wrcmcfg = 6
-dataSize Wrcmcellt = 6
-dataSize Wrcmgpiot = 6
-dataSize Clrcmflag = 2
+abbrev pub data_size : Write → ℕ
+data_size Wrcfga = 6
+data_size Wrcfgb = 6
+data_size Wrrr = 6
+data_size Clrflag = 6
+data_size Clovuv = 6
+data_size Wrpwma = 6
+data_size Wrpwmb = 6
+data_size Wrcmcfg = 6
+data_size Wrcmcellt = 6
+data_size Wrcmgpiot = 6
+data_size Clrcmflag = 2
 
 -- the two bytes that seal the data: the counter, and the check
-abbrev pub sealSize : ℕ
-sealSize = 2
+abbrev pub seal_size : ℕ
+seal_size = 2
 
 -- the data bytes of one monitor's reply
-abbrev pub registerSize : ℕ
-registerSize = 6
+abbrev pub register_size : ℕ
+register_size = 6
 
 -- the bytes of one monitor's reply: its data, and their seal
-abbrev pub payloadSize : ℕ
-payloadSize = 8
+abbrev pub payload_size : ℕ
+payload_size = 8
 
 -- the bytes of each monitor in a frame, and of its window: a read's are its reply's, a write's its data and their seal. A bare command's
 -- frame has no byte that this could cut, and fills no window
 abbrev pub width_of : Command → ℕ
-width_of (Reads part) = payloadSize
-width_of (Writes c) = dataSize c + sealSize
-width_of (Bares c) = payloadSize
-width_of Unlisted = payloadSize
+width_of (Reads part) = payload_size
+width_of (Writes c) = data_size c + seal_size
+width_of (Bares c) = payload_size
+width_of Unlisted = payload_size
 
 -- the bytes of a frame for n monitors: a command and its check, and in a read or a write those of each monitor
-abbrev pub frameLength : Command → ℕ → ℕ
-frameLength (Reads part) n = 4 + payloadSize * n
-frameLength (Writes c) n = 4 + width_of (Writes c) * n
-frameLength (Bares c) n = 4
-frameLength Unlisted n = 4
+abbrev pub frame_length : Command → ℕ → ℕ
+frame_length (Reads part) n = 4 + payload_size * n
+frame_length (Writes c) n = 4 + width_of (Writes c) * n
+frame_length (Bares c) n = 4
+frame_length Unlisted n = 4
 
 -- the bytes of the reply of n monitors: to a read eight for each monitor, to any other command none
-abbrev pub replyLength : Command → ℕ → ℕ
-replyLength (Reads part) n = payloadSize * n
-replyLength (Writes c) n = 0
-replyLength (Bares c) n = 0
-replyLength Unlisted n = 0
+abbrev pub reply_length : Command → ℕ → ℕ
+reply_length (Reads part) n = payload_size * n
+reply_length (Writes c) n = 0
+reply_length (Bares c) n = 0
+reply_length Unlisted n = 0

@@ -1,6 +1,6 @@
 // The list of commands: their codes, and what they do.
 ghost use Rattle.std.specs.Prelude.{◌≡◌, cond, ◌≤◌, leb};
-ghost use Rattle.records.specs.Commands.{commandOf, commands, isListed, mostMonitors, dataSize, payloadSize, width_of, frameLength, replyLength};
+ghost use Rattle.records.specs.Commands.{command_of, commands, is_listed, most_monitors, data_size, payload_size, width_of, frame_length, reply_length};
 
 use crate::record::{
     Part, RDCFGA, RDCFGB, RDCMCELLT, RDCMCFG, RDCMFLAG, RDCMGPIOT, RDCVA, RDCVB, RDCVC, RDCVD,
@@ -47,7 +47,7 @@ pub enum Command {
 
 // The command that a code stands for.
 pub fn command_of(code: u16) -> Command
-    ensures { result ≡ commandOf code commands }
+    ensures { result ≡ command_of code commands }
 {
     match code {
         0x0002 => Command::Reads(RDCFGA),
@@ -93,7 +93,7 @@ pub fn command_of(code: u16) -> Command
 }
 
 pub fn is_listed(command: Command) -> bool
-    ensures { result ≡ isListed command }
+    ensures { result ≡ is_listed command }
 {
     match command {
         Command::Reads(_) => true,
@@ -112,7 +112,7 @@ pub const SEAL_SIZE: usize = 2;
 
 // The data bytes that a write sends to each monitor.
 pub fn data_size(what: Write) -> usize
-    ensures value { result ≡ dataSize what }
+    ensures value { result ≡ data_size what }
     ensures upper_bound { result ≤ 6 }
 {
     match what {
@@ -133,7 +133,7 @@ pub fn data_size(what: Write) -> usize
 // The bytes of each monitor in a frame, and of its window.
 pub fn width_of(command: Command) -> usize
     ensures value { result ≡ width_of command }
-    ensures upper_bound { result ≤ payloadSize }
+    ensures upper_bound { result ≤ payload_size }
 {
     match command {
         Command::Reads(_) => PAYLOAD_SIZE,
@@ -148,7 +148,7 @@ pub fn width_of(command: Command) -> usize
 
 // The length of the frame of a command for n monitors, and 0 for more monitors than a chain has.
 pub fn frame_length(command: Command, n: usize) -> usize
-    ensures { result ≡ cond (leb n mostMonitors) (frameLength command n) 0 }
+    ensures { result ≡ cond (leb n most_monitors) (frame_length command n) 0 }
 {
     if MOST_MONITORS < n {
         return 0;
@@ -166,7 +166,7 @@ pub fn frame_length(command: Command, n: usize) -> usize
 
 // The length of the reply of n monitors to a command, and 0 for more monitors than a chain has: only a read has one.
 pub fn reply_size(command: Command, n: usize) -> usize
-    ensures { result ≡ cond (leb n mostMonitors) (replyLength command n) 0 }
+    ensures { result ≡ cond (leb n most_monitors) (reply_length command n) 0 }
 {
     if n > MOST_MONITORS {
         return 0;

@@ -1,6 +1,6 @@
 // One monitor's record: the code's names for what specs/Record.antt lays out. Sizes and offsets stand here and nowhere else.
 ghost use Rattle.std.specs.Prelude.{◌≡◌, ◌&&◌, get_or};
-ghost use Rattle.records.specs.Record.{byteIn, snapped, inLpcm, isRecord, recordSound};
+ghost use Rattle.records.specs.Record.{byte_in, snapped, in_lpcm, is_record, record_sound};
 
 pub const RECORD_SIZE: usize = 170;
 
@@ -184,7 +184,7 @@ pub fn byte_at(bytes: &[u8], i: usize) -> u8
 
 // A byte of a part, and 0 past its end.
 pub fn byte_in(rec: &[u8], part: Part, i: usize) -> u8
-    ensures { result ≡ byteIn part rec.now i }
+    ensures { result ≡ byte_in part rec.now i }
 {
     if i < part.size as usize {
         byte_at(rec, part.at as usize + i)
@@ -202,14 +202,14 @@ pub fn is_snapped(rec: &[u8]) -> bool
 
 // CMC_EN: is the monitor in LPCM?
 pub fn in_lpcm(rec: &[u8]) -> bool
-    ensures { result ≡ inLpcm rec.now }
+    ensures { result ≡ in_lpcm rec.now }
 {
     byte_at(rec, CMF1) / 128 % 2 == 1
 }
 
 // Is it a record, with a counter of 0 to 63 and a retention byte of 0 or 1?
 pub fn record_sound(rec: &[u8]) -> bool
-    ensures { result ≡ (isRecord rec.now && recordSound rec.now) }
+    ensures { result ≡ (is_record rec.now && record_sound rec.now) }
 {
     if rec.len() != RECORD_SIZE {
         return false;

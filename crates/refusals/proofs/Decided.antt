@@ -23,11 +23,11 @@ pub either_way : {A : Type 0} (P : A → Type 0) (rows : List Row) (refused : Re
 either_way P rows refused accepted h k = by-passing P rows refused accepted h (λ p. k)
 
 -- where one question is refused, another one with the same refusals is refused too
-pub stays-so : {A B : Type 0} (rows : List Row) (refused : Refusal → A) (accepted : A) (r : Refusal) (before after : B)
+pub stays_so : {A B : Type 0} (rows : List Row) (refused : Refusal → A) (accepted : A) (r : Refusal) (before after : B)
     → (accepted ≡ refused r → ⊥) → decide rows refused accepted ≡ refused r → decide rows (λ n. before) after ≡ before
 unfolding decide
-stays-so [] refused accepted r before after apart e = absurd (apart e)
-stays-so {A} {B} (row ∷ rows) refused accepted r before after apart e = by row.holds (stays-so rows refused accepted r before after apart) e
+stays_so [] refused accepted r before after apart e = absurd (apart e)
+stays_so {A} {B} (row ∷ rows) refused accepted r before after apart e = by row.holds (stays_so rows refused accepted r before after apart) e
   where
     by : (b : Bool) → (decide rows refused accepted ≡ refused r → decide rows (λ n. before) after ≡ before)
         → cond b (refused row.refusal) (decide rows refused accepted) ≡ refused r
@@ -49,11 +49,11 @@ goes_on {A} {B} (row ∷ rows) refused accepted other before after apart e = by 
     by false rest e = rest e
 
 -- then the answer is the accepted one
-pub is-accepted : {A : Type 0} (rows : List Row) (refused : Refusal → A) (accepted other : A)
+pub is_accepted : {A : Type 0} (rows : List Row) (refused : Refusal → A) (accepted other : A)
     → ((r : Refusal) → other ≡ refused r → ⊥) → decide rows refused accepted ≡ other → accepted ≡ other
 unfolding decide
-is-accepted [] refused accepted other apart e = e
-is-accepted {A} (row ∷ rows) refused accepted other apart e = by row.holds (is-accepted rows refused accepted other apart) e
+is_accepted [] refused accepted other apart e = e
+is_accepted {A} (row ∷ rows) refused accepted other apart e = by row.holds (is_accepted rows refused accepted other apart) e
   where
     by : (b : Bool) → (decide rows refused accepted ≡ other → accepted ≡ other)
         → cond b (refused row.refusal) (decide rows refused accepted) ≡ other → accepted ≡ other
@@ -61,11 +61,11 @@ is-accepted {A} (row ∷ rows) refused accepted other apart e = by row.holds (is
     by false rest e = rest e
 
 -- a refusal stands whatever would have been accepted
-pub refused-so : {A : Type 0} (rows : List Row) (refused : Refusal → A) (accepted other : A) (r : Refusal)
+pub refused_so : {A : Type 0} (rows : List Row) (refused : Refusal → A) (accepted other : A) (r : Refusal)
     → (accepted ≡ refused r → ⊥) → decide rows refused accepted ≡ refused r → decide rows refused other ≡ refused r
 unfolding decide
-refused-so [] refused accepted other r apart e = absurd (apart e)
-refused-so {A} (row ∷ rows) refused accepted other r apart e = by row.holds (refused-so rows refused accepted other r apart) e
+refused_so [] refused accepted other r apart e = absurd (apart e)
+refused_so {A} (row ∷ rows) refused accepted other r apart e = by row.holds (refused_so rows refused accepted other r apart) e
   where
     by : (b : Bool) → (decide rows refused accepted ≡ refused r → decide rows refused other ≡ refused r)
         → cond b (refused row.refusal) (decide rows refused accepted) ≡ refused r → cond b (refused row.refusal) (decide rows refused other) ≡ refused r

@@ -8,9 +8,9 @@ use Rattle.refusals.specs.declared.Refusal.{Refusal}
 use Rattle.refusals.specs.Order.{Row, decide, Passed}
 
 module _ {A : Type 0} (row : Row) (rows : List Row) (refused : Refusal → A) (accepted : A) where
-  pub holds-here : row.holds ≡ true → decide (row ∷ rows) refused accepted ≡ refused row.refusal
+  pub holds_here : row.holds ≡ true → decide (row ∷ rows) refused accepted ≡ refused row.refusal
   unfolding decide
-  holds-here e = ap (λ (b : Bool). cond b (refused row.refusal) (decide rows refused accepted)) e
+  holds_here e = ap (λ (b : Bool). cond b (refused row.refusal) (decide rows refused accepted)) e
 
   pub holds_not : row.holds ≡ false → decide (row ∷ rows) refused accepted ≡ decide rows refused accepted
   unfolding decide
@@ -34,11 +34,11 @@ decide-map f (row ∷ rows) refused accepted =
 
 -- ---- one list after the other
 
-pub decide-append : {A : Type 0} (rows more : List Row) (refused : Refusal → A) (accepted : A)
+pub decide_append : {A : Type 0} (rows more : List Row) (refused : Refusal → A) (accepted : A)
     → decide (rows ++ more) refused accepted ≡ decide rows refused (decide more refused accepted)
 unfolding decide
-decide-append [] more refused accepted = refl
-decide-append (row ∷ rows) more refused accepted = ap (cond row.holds (refused row.refusal)) (decide-append rows more refused accepted)
+decide_append [] more refused accepted = refl
+decide_append (row ∷ rows) more refused accepted = ap (cond row.holds (refused row.refusal)) (decide_append rows more refused accepted)
 
 -- ---- a list of which no condition holds
 
@@ -48,10 +48,10 @@ passes [] refused accepted p = none_left refused accepted
 passes (row ∷ rows) refused accepted p = holds_not row rows refused accepted p.0 ∙ passes rows refused accepted p.1
 
 -- what was accepted counts only there
-pub passed-agree : {A : Type 0} (rows : List Row) (refused : Refusal → A) (a b : A) → (Passed rows → a ≡ b) → decide rows refused a ≡ decide rows refused b
+pub passed_agree : {A : Type 0} (rows : List Row) (refused : Refusal → A) (a b : A) → (Passed rows → a ≡ b) → decide rows refused a ≡ decide rows refused b
 unfolding decide
-passed-agree [] refused a b h = h tt
-passed-agree (row ∷ rows) refused a b h = by row.holds refl (λ e. passed-agree rows refused a b (λ p. h (e, p)))
+passed_agree [] refused a b h = h tt
+passed_agree (row ∷ rows) refused a b h = by row.holds refl (λ e. passed_agree rows refused a b (λ p. h (e, p)))
   where
     by : (x : Bool) → row.holds ≡ x → (row.holds ≡ false → decide rows refused a ≡ decide rows refused b)
         → cond x (refused row.refusal) (decide rows refused a) ≡ cond x (refused row.refusal) (decide rows refused b)
@@ -59,11 +59,11 @@ passed-agree (row ∷ rows) refused a b h = by row.holds refl (λ e. passed-agre
     by false e rest = rest e
 
 -- an outcome that no refusal gives was accepted there
-pub has-passed : {A : Type 0} (rows : List Row) (refused : Refusal → A) (accepted other : A) → ((r : Refusal) → other ≡ refused r → ⊥)
+pub has_passed : {A : Type 0} (rows : List Row) (refused : Refusal → A) (accepted other : A) → ((r : Refusal) → other ≡ refused r → ⊥)
     → decide rows refused accepted ≡ other → Passed rows
 unfolding decide
-has-passed [] refused accepted other apart e = tt
-has-passed {A} (row ∷ rows) refused accepted other apart e = by row.holds refl e (has-passed rows refused accepted other apart)
+has_passed [] refused accepted other apart e = tt
+has_passed {A} (row ∷ rows) refused accepted other apart e = by row.holds refl e (has_passed rows refused accepted other apart)
   where
     by : (x : Bool) → row.holds ≡ x → cond x (refused row.refusal) (decide rows refused accepted) ≡ other
         → (decide rows refused accepted ≡ other → Passed rows) → Passed (row ∷ rows)

@@ -10,19 +10,19 @@ use borrow.Author.Tests.{lt-ltb, le-ltb, le-leb, lt-leb}
 use Rattle.refusals.specs.declared.Refusal.{Refusal}
 use Rattle.refusals.specs.declared.Refusal.TheVariants.{PositionWrong, NoRoom}
 use Rattle.refusals.specs.Order.{decide}
-use Rattle.refusals.proofs.Deciding.{holds-here, holds_not, none_left}
+use Rattle.refusals.proofs.Deciding.{holds_here, holds_not, none_left}
 use Rattle.clocking.specs.Clock.{Clock}
-use Rattle.releasing.specs.Look.{windowOf, lookRefusals}
+use Rattle.releasing.specs.Look.{window_of, look_refusals}
 
 module _ (c : Clock) (position room : ℕ) {A : Type 0} (refused : Refusal → A) (accepted : A) where
   -- what the refusals say
   abbrev outcome : A
-  outcome = decide (lookRefusals c position room) refused accepted
+  outcome = decide (look_refusals c position room) refused accepted
 
   -- no position is 0
-  pub stop-low : position < 1 → outcome ≡ refused PositionWrong
-  unfolding lookRefusals
-  stop-low h = holds-here _ _ refused accepted (ap (λ (b : Bool). not (b && leb position c.chained)) (lt-leb 1 position h))
+  pub stop_low : position < 1 → outcome ≡ refused PositionWrong
+  unfolding look_refusals
+  stop_low h = holds_here _ _ refused accepted (ap (λ (b : Bool). not (b && leb position c.chained)) (lt-leb 1 position h))
 
   module _ (low : 1 ≤ position) where
     -- by the end of the chain
@@ -30,19 +30,19 @@ module _ (c : Clock) (position room : ℕ) {A : Type 0} (refused : Refusal → A
     by_end e = ap₂ (λ (a b : Bool). not (a && b)) (le-leb 1 position low) e
 
     -- behind it
-    pub stop-high : c.chained < position → outcome ≡ refused PositionWrong
-    unfolding lookRefusals
-    stop-high h = holds-here _ _ refused accepted (by_end (lt-leb position c.chained h))
+    pub stop_high : c.chained < position → outcome ≡ refused PositionWrong
+    unfolding look_refusals
+    stop_high h = holds_here _ _ refused accepted (by_end (lt-leb position c.chained h))
 
     module _ (high : position ≤ c.chained) where
       -- a buffer that is too small
-      pub stop-room : room < length (windowOf c position) → outcome ≡ refused NoRoom
-      unfolding lookRefusals
-      stop-room h = holds_not _ _ refused accepted (by_end (le-leb position c.chained high)) ∙ holds-here _ _ refused accepted (lt-ltb _ _ h)
+      pub stop_room : room < length (window_of c position) → outcome ≡ refused NoRoom
+      unfolding look_refusals
+      stop_room h = holds_not _ _ refused accepted (by_end (le-leb position c.chained high)) ∙ holds_here _ _ refused accepted (lt-ltb _ _ h)
 
       -- nothing is left to refuse
-      pub passed : length (windowOf c position) ≤ room → outcome ≡ accepted
-      unfolding lookRefusals
+      pub passed : length (window_of c position) ≤ room → outcome ≡ accepted
+      unfolding look_refusals
       passed h =
           holds_not _ _ refused accepted (by_end (le-leb position c.chained high))
           ∙ holds_not _ _ refused accepted (le-ltb _ _ h)

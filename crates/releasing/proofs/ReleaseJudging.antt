@@ -14,56 +14,56 @@ use borrow.Author.Tests.{eqb-true, le-leb, ltb-false, not-false}
 use Rattle.refusals.specs.declared.Refusal.{Refusal}
 use Rattle.refusals.specs.declared.Refusal.TheVariants.{TableNotSound}
 use Rattle.refusals.specs.Order.{◌gives◌, decide, Passed}
-use Rattle.refusals.proofs.Deciding.{holds-here, has-passed}
+use Rattle.refusals.proofs.Deciding.{holds_here, has_passed}
 use Rattle.records.specs.declared.commands.Command.{Command}
-use Rattle.records.specs.Record.{recordSize}
-use Rattle.records.specs.Commands.{mostMonitors}
+use Rattle.records.specs.Record.{record_size}
+use Rattle.records.specs.Commands.{most_monitors}
 use Rattle.judging.specs.declared.heads.Judged.TheVariants.{Bad, Good}
 use Rattle.judging.specs.Table.{monitors, sound}
-use Rattle.judging.specs.Refusals.{commandIn, shortRow, commandRow, listedRow, lengthRow}
-use Rattle.judging.specs.Heads.{headJudged}
-use Rattle.judging.proofs.Soundness.{is-sound}
-use Rattle.refusals.proofs.Decided.{is-accepted}
-use Rattle.judging.proofs.Judging.{count-is, by-engine, by-head}
+use Rattle.judging.specs.Refusals.{command_in, short_row, command_row, listed_row, length_row}
+use Rattle.judging.specs.Heads.{head_judged}
+use Rattle.judging.proofs.Soundness.{is_sound}
+use Rattle.refusals.proofs.Decided.{is_accepted}
+use Rattle.judging.proofs.Judging.{count_is, by_engine, by-head}
 use Rattle.clocking.specs.Clock.{Clock}
-use Rattle.releasing.specs.Release.{anotherCount, another, releaseRefusals}
+use Rattle.releasing.specs.Release.{another_count, another, release_refusals}
 use Rattle.releasing.specs.Judged.{judged}
 
 module _ (c : Clock) (table : List ℕ) (four : length c.head ≡ 4) {n : ℕ} (counted : n ≡ cond (sound table) (monitors table) 0) where
   -- the release's refusals are those of the head, behind a first that holds where b
-  by_first : {b : Bool} → not (sound table) || anotherCount c (monitors table) ≡ b → judged c table ≡ by-engine table c.head c.seen counted b
-  unfolding judged releaseRefusals
+  by_first : {b : Bool} → not (sound table) || another_count c (monitors table) ≡ b → judged c table ≡ by_engine table c.head c.seen counted b
+  unfolding judged release_refusals
   by_first e =
       let all : take 4 c.head ≡ c.head = take_all 4 c.head (omega (arith, four)) in
-      ap₂ (λ (b : Bool) (h : List ℕ). decide ((b gives TableNotSound) ∷ shortRow c.seen ∷ commandRow h ∷ listedRow c.head ∷ lengthRow c.seen (commandIn c.head) (monitors table) ∷ []) Bad (Good (commandIn c.head) (monitors table))) e (sym all)
+      ap₂ (λ (b : Bool) (h : List ℕ). decide ((b gives TableNotSound) ∷ short_row c.seen ∷ command_row h ∷ listed_row c.head ∷ length_row c.seen (command_in c.head) (monitors table) ∷ []) Bad (Good (command_in c.head) (monitors table))) e (sym all)
 
   -- by the table: the first refusal
-  first_of : (b : Bool) → anotherCount c n ≡ b → not (sound table) || anotherCount c (monitors table) ≡ not (sound table) || b
+  first_of : (b : Bool) → another_count c n ≡ b → not (sound table) || another_count c (monitors table) ≡ not (sound table) || b
   first_of b e = go (sound table) refl
     where
-      go : (s : Bool) → sound table ≡ s → not (sound table) || anotherCount c (monitors table) ≡ not (sound table) || b
-      go true s = ap (λ (x : Bool). not (sound table) || x) (ap (anotherCount c) (sym (count-is table counted s)) ∙ e)
-      go false s = ap (λ (x : Bool). not x || anotherCount c (monitors table)) s ∙ sym (ap (λ (x : Bool). not x || b) s)
+      go : (s : Bool) → sound table ≡ s → not (sound table) || another_count c (monitors table) ≡ not (sound table) || b
+      go true s = ap (λ (x : Bool). not (sound table) || x) (ap (another_count c) (sym (count_is table counted s)) ∙ e)
+      go false s = ap (λ (x : Bool). not x || another_count c (monitors table)) s ∙ sym (ap (λ (x : Bool). not x || b) s)
 
   -- another count at byte four
-  pub stop-another : anotherCount c n ≡ true → judged c table ≡ Bad TableNotSound
-  stop-another e = by_first (first_of true e ∙ either (not (sound table))) ∙ holds-here _ _ Bad _ refl
+  pub stop_another : another_count c n ≡ true → judged c table ≡ Bad TableNotSound
+  stop_another e = by_first (first_of true e ∙ either (not (sound table))) ∙ holds_here _ _ Bad _ refl
     where
       either : (x : Bool) → x || true ≡ true
       either true = refl
       either false = refl
 
   -- the same count: the head decides
-  pub to-head : anotherCount c n ≡ false → judged c table ≡ headJudged c.head c.seen n
-  to-head e = by_first (first_of false e ∙ or-false (not (sound table))) ∙ by-head table c.head c.seen counted
+  pub to_head : another_count c n ≡ false → judged c table ≡ head_judged c.head c.seen n
+  to_head e = by_first (first_of false e ∙ or-false (not (sound table))) ∙ by-head table c.head c.seen counted
 
 -- ---- what is known of a release that none stops
 
 -- n monitors can act: the table has their records, the clock their windows
 pub record Ready (n : ℕ) (c : Clock) (table : List ℕ) : Type 0 where
-  pub whole : length table ≡ n * recordSize
+  pub whole : length table ≡ n * record_size
   pub same : n ≡ c.chained
-  pub few : n ≤ mostMonitors
+  pub few : n ≤ most_monitors
 
 neither : (a b : Bool) → a || b ≡ false → (a ≡ false) × (b ≡ false)
 neither true b h = absurd (false≢true (sym h))
@@ -73,24 +73,24 @@ module _ (c : Clock) (table : List ℕ) {command : Command} {n : ℕ} (e : judge
   apart : (r : Refusal) → Good command n ≡ Bad r → ⊥
   apart r e = let z : ◌≡◌ {A = ℕ} 0 1 = cc in omega arith
 
-  passed : Passed (releaseRefusals c table)
+  passed : Passed (release_refusals c table)
   unfolding judged
-  passed = has-passed (releaseRefusals c table) Bad _ (Good command n) apart e
+  passed = has_passed (release_refusals c table) Bad _ (Good command n) apart e
 
   its-count : n ≡ monitors table
   unfolding judged
-  its-count = let good = is-accepted (releaseRefusals c table) Bad _ (Good command n) apart e in cc
+  its-count = let good = is_accepted (release_refusals c table) Bad _ (Good command n) apart e in cc
 
   pub ready : Ready n c table
-  unfolding releaseRefusals anotherCount
+  unfolding release_refusals another_count
   ready =
       let first = neither (not (sound table)) (another c table) passed.0 in
-      let s = is-sound table (not-false (sound table) first.0) in
+      let s = is_sound table (not-false (sound table) first.0) in
       let came : leb 4 c.seen ≡ true = le-leb 4 c.seen (ltb-false c.seen 4 passed.1.0) in
       let same = ap (λ (b : Bool). b && not (eqb c.chained (monitors table))) (sym came) ∙ first.1 in
       let at-four : c.chained ≡ monitors table = eqb-true c.chained (monitors table) (not-false _ same) in
       record {
-        whole = s.whole ∙ ap (λ (k : ℕ). k * recordSize) (sym its-count);
+        whole = s.whole ∙ ap (λ (k : ℕ). k * record_size) (sym its-count);
         same = its-count ∙ sym at-four;
-        few = subst⁻¹ (λ (k : ℕ). k ≤ mostMonitors) its-count s.few;
+        few = subst⁻¹ (λ (k : ℕ). k ≤ most_monitors) its-count s.few;
       }

@@ -3,12 +3,12 @@
 use Rattle.std.specs.Prelude.{List, ℕ}
 use Rattle.refusals.specs.Order.{decide}
 use Rattle.judging.specs.Table.{monitors}
-use Rattle.judging.specs.Refusals.{commandIn}
+use Rattle.judging.specs.Refusals.{command_in}
 use Rattle.judging.specs.declared.heads.Judged.{Judged}
 use Rattle.judging.specs.declared.heads.Judged.TheVariants.{Bad, Good}
 use Rattle.clocking.specs.Clock.{Clock}
-use Rattle.releasing.specs.Release.{releaseRefusals}
+use Rattle.releasing.specs.Release.{release_refusals}
 
 -- the first refusal that holds, or the command and the number of monitors
 unfoldable pub judged : Clock → List ℕ → Judged
-judged c table = decide (releaseRefusals c table) Bad (Good (commandIn c.head) (monitors table))
+judged c table = decide (release_refusals c table) Bad (Good (command_in c.head) (monitors table))

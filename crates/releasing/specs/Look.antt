@@ -9,18 +9,18 @@ use Rattle.releasing.specs.declared.looks.Looked.TheVariants.{Refused, Holds}
 use Rattle.clocking.specs.Clock.{Clock}
 
 -- a monitor's window, oldest byte first
-unfoldable pub windowOf : Clock → ℕ → List ℕ
-windowOf c position = get_or c.windows (position - 1) []
+unfoldable pub window_of : Clock → ℕ → List ℕ
+window_of c position = get_or c.windows (position - 1) []
 
-unfoldable pub lookRefusals : Clock → ℕ → ℕ → List Row
-lookRefusals c position room =
+unfoldable pub look_refusals : Clock → ℕ → ℕ → List Row
+look_refusals c position room =
     (not (leb 1 position && leb position c.chained) gives PositionWrong)
-    ∷ (ltb room (length (windowOf c position)) gives NoRoom)
+    ∷ (ltb room (length (window_of c position)) gives NoRoom)
     ∷ []
 
 unfoldable pub looked : Clock → ℕ → ℕ → Looked
-looked c position room = decide (lookRefusals c position room) Refused (Holds (length (windowOf c position)))
+looked c position room = decide (look_refusals c position room) Refused (Holds (length (window_of c position)))
 
 -- the window at the start of a buffer; bytes past it stay
-unfoldable pub outAfter : Clock → ℕ → List ℕ → List ℕ
-outAfter c position out = decide (lookRefusals c position (length out)) (λ r. out) (windowOf c position ++ drop (length (windowOf c position)) out)
+unfoldable pub out_after : Clock → ℕ → List ℕ → List ℕ
+out_after c position out = decide (look_refusals c position (length out)) (λ r. out) (window_of c position ++ drop (length (window_of c position)) out)

@@ -1,9 +1,9 @@
 // A look at one monitor's window, at any time of a frame.
 ghost use Rattle.std.specs.Prelude.{◌≡◌, [], ◌-◌, ◌*◌, ◌<◌, ◌≤◌, min, length, get_or};
-ghost use Rattle.records.specs.Commands.{mostMonitors, payloadSize};
-ghost use Rattle.releasing.specs.Look.{looked, outAfter};
-ghost use Rattle.clock_state.specs.State.{stateSize, chainedIn};
-ghost use Rattle.clocking.specs.Bytes.{clockOf};
+ghost use Rattle.records.specs.Commands.{most_monitors, payload_size};
+ghost use Rattle.releasing.specs.Look.{looked, out_after};
+ghost use Rattle.clock_state.specs.State.{state_size, chained_in};
+ghost use Rattle.clocking.specs.Bytes.{clock_of};
 
 use clock_state::{Kind, STATE_SIZE, WINDOWS, chained_in, kind_in, seen_in};
 use records::PAYLOAD_SIZE;
@@ -18,7 +18,7 @@ pub enum Looked {
 
 // How many of a write's bytes the window of so many bytes at k, counted from 0, holds: the nearest fill first.
 fn held_by(seen: usize, k: usize, width: usize) -> usize
-    requires { (k < mostMonitors) × (width ≤ payloadSize) }
+    requires { (k < most_monitors) × (width ≤ payload_size) }
     ensures { result ≡ min width (seen - 4 - k * width) }
 {
     let before = 4 + width * k;
@@ -31,8 +31,8 @@ fn held_by(seen: usize, k: usize, width: usize) -> usize
 
 // The window at k, counted from 0, oldest byte first.
 pub(crate) fn window_in(state: &[u8], n: usize, k: usize) -> &[u8]
-    requires { (length state.now ≡ stateSize) × (n ≡ chainedIn state.now) × (n ≤ mostMonitors) × (k < n) }
-    ensures { result.now ≡ get_or (clockOf state.now).windows k [] }
+    requires { (length state.now ≡ state_size) × (n ≡ chained_in state.now) × (n ≤ most_monitors) × (k < n) }
+    ensures { result.now ≡ get_or (clock_of state.now).windows k [] }
 {
     match kind_in(state) {
         Kind::Fills(width) => {
@@ -52,8 +52,8 @@ pub(crate) fn window_in(state: &[u8], n: usize, k: usize) -> &[u8]
 // The window of the monitor at a position, oldest byte first, at the start of a buffer, and how many bytes it holds. A refusal
 // changes nothing.
 pub fn look(state: &[u8; STATE_SIZE], position: usize, out: &mut [u8]) -> Looked
-    ensures value { result ≡ looked (clockOf state.now) position (length out.old) }
-    ensures out_after { out.new ≡ outAfter (clockOf state.now) position out.old }
+    ensures value { result ≡ looked (clock_of state.now) position (length out.old) }
+    ensures out_after { out.new ≡ out_after (clock_of state.now) position out.old }
 {
     let n = chained_in(state);
     if position < 1 {
@@ -66,6 +66,6 @@ pub fn look(state: &[u8; STATE_SIZE], position: usize, out: &mut [u8]) -> Looked
     if out.len() < window.len() {
         return Looked::Refused(Refusal::NoRoom);
     }
-    bytes::put(out, 0, window);
+    laying::put(out, 0, window);
     Looked::Holds(window.len())
 }

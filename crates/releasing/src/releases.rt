@@ -1,14 +1,14 @@
 // The end of a frame.
 ghost use Rattle.std.specs.Prelude.{◌≡◌, ◌*◌, ◌≤◌, length};
 ghost use Rattle.laws.specs.Rows.{rows, joined, along};
-ghost use Rattle.records.specs.Record.{recordSize};
-ghost use Rattle.records.specs.Commands.{mostMonitors};
+ghost use Rattle.records.specs.Record.{record_size};
+ghost use Rattle.records.specs.Commands.{most_monitors};
 ghost use Rattle.monitor.specs.Effects.{keeps};
 ghost use Rattle.serving.specs.Served.{takers};
 ghost use Rattle.releasing.specs.Judged.{judged};
-ghost use Rattle.releasing.specs.Release.{anotherCount, released, tableReleased};
-ghost use Rattle.clock_state.specs.State.{chainedIn, idle};
-ghost use Rattle.clocking.specs.Bytes.{clockOf};
+ghost use Rattle.releasing.specs.Release.{another_count, released, table_released};
+ghost use Rattle.clock_state.specs.State.{chained_in, idle};
+ghost use Rattle.clocking.specs.Bytes.{clock_of};
 
 use crate::looks::window_in;
 use chain::Answer;
@@ -19,7 +19,7 @@ use refusals::Refusal;
 
 // Was the table that was lent with byte four one of another count?
 fn another_count(state: &[u8], n: usize) -> bool
-    ensures { result ≡ anotherCount (clockOf state.now) n }
+    ensures { result ≡ another_count (clock_of state.now) n }
 {
     if seen_in(state) < 4 {
         return false;
@@ -29,7 +29,7 @@ fn another_count(state: &[u8], n: usize) -> bool
 
 // What a release is judged: the refusals in the paper's order, the table's, and then those of the first four bytes.
 pub fn judge(state: &[u8; STATE_SIZE], table: &[u8]) -> Judged
-    ensures { result ≡ judged (clockOf state.now) table.now }
+    ensures { result ≡ judged (clock_of state.now) table.now }
 {
     let n = judging::sound_count(table);
     if another_count(state, n) {
@@ -41,9 +41,9 @@ pub fn judge(state: &[u8; STATE_SIZE], table: &[u8]) -> Judged
 
 // Every monitor acts on its own window, and those that took the command are counted.
 fn act_all(table: &mut [u8], command: Command, state: &[u8; STATE_SIZE], n: usize) -> usize
-    requires { (length table.old ≡ n * recordSize) × (n ≡ chainedIn state.now) × (n ≤ mostMonitors) }
-    ensures value { result ≡ takers command (rows recordSize n table.old) (clockOf state.now).windows }
-    ensures table_after { table.new ≡ joined (along (λ r window. keeps command window r) (rows recordSize n table.old) (clockOf state.now).windows) }
+    requires { (length table.old ≡ n * record_size) × (n ≡ chained_in state.now) × (n ≤ most_monitors) }
+    ensures value { result ≡ takers command (rows record_size n table.old) (clock_of state.now).windows }
+    ensures table_after { table.new ≡ joined (along (λ r window. keeps command window r) (rows record_size n table.old) (clock_of state.now).windows) }
 {
     let mut taken = 0;
     let mut k = 0;
@@ -59,8 +59,8 @@ fn act_all(table: &mut [u8], command: Command, state: &[u8; STATE_SIZE], n: usiz
 
 // What comes of a release: each monitor acts on its own window as the state holds it, also where no frame leads to such a state.
 fn finish(state: &[u8; STATE_SIZE], table: &mut [u8]) -> Answer
-    ensures value { result ≡ released (clockOf state.now) table.old }
-    ensures table_after { table.new ≡ tableReleased (clockOf state.now) table.old }
+    ensures value { result ≡ released (clock_of state.now) table.old }
+    ensures table_after { table.new ≡ table_released (clock_of state.now) table.old }
 {
     match judge(state, table) {
         Judged::Bad(refusal) => Answer::Refused(refusal),
@@ -74,9 +74,9 @@ fn finish(state: &[u8; STATE_SIZE], table: &mut [u8]) -> Answer
 
 // Ends a frame: the table becomes what the rules say, and the next frame starts empty. A refusal leaves the table as it is.
 pub fn release(state: &mut [u8; STATE_SIZE], table: &mut [u8]) -> Answer
-    ensures value { result ≡ released (clockOf state.old) table.old }
+    ensures value { result ≡ released (clock_of state.old) table.old }
     ensures state_after { state.new ≡ idle }
-    ensures table_after { table.new ≡ tableReleased (clockOf state.old) table.old }
+    ensures table_after { table.new ≡ table_released (clock_of state.old) table.old }
 {
     let answer = finish(state, table);
     start(state);

@@ -8,19 +8,19 @@ use native.Mathlib.Nat.{lt_of_lt_of_le}
 use native.Mathlib.Omega.{arith}
 use lib.ListN.{get_or}
 use lib.Pow.{pow_pos, pow_mono}
-use Rattle.laws.specs.Bits.{◌⊕◌, bits_of, bitsOfBytes}
+use Rattle.laws.specs.Bits.{◌⊕◌, bits_of, bits_of_bytes}
 use Rattle.laws.proofs.Xor.{xor_below}
 use Rattle.laws.proofs.Tables.{at_each}
 use Rattle.pec.specs.Remainder.{remainder}
-use Rattle.remainders.specs.ByTable.{entry, table_of, tableStep, byTable}
-use Rattle.pec.proofs.Remainder.{remainder-append, remainder-below}
-use Rattle.pec.proofs.ManyBits.{zeros-first, over_below, many-bits}
+use Rattle.remainders.specs.ByTable.{entry, table_of, table_step, by_table}
+use Rattle.pec.proofs.Remainder.{remainder_append, remainder-below}
+use Rattle.pec.proofs.ManyBits.{zeros_first, over_below, many_bits}
 
-pub entry-of-bits : (w g k : ℕ) {x : ℕ} → k ≤ 8 → x < 2 ^ k → entry w g x ≡ remainder w g 0 (bits_of k x)
+pub entry-of_bits : (w g k : ℕ) {x : ℕ} → k ≤ 8 → x < 2 ^ k → entry w g x ≡ remainder w g 0 (bits_of k x)
 unfolding entry
-entry-of-bits w g k {x} hk hx =
+entry-of_bits w g k {x} hk hx =
     let apart : (8 - k) + k ≡ 8 = omega arith in
-    ap (λ (n : ℕ). remainder w g 0 (bits_of n x)) (sym apart) ∙ zeros-first w g (8 - k) k hx
+    ap (λ (n : ℕ). remainder w g 0 (bits_of n x)) (sym apart) ∙ zeros_first w g (8 - k) k hx
 
 -- the index of a step of k bits is a number of k bits
 pub index_below : (w k : ℕ) {r x : ℕ} → r < 2 ^ w → x < 2 ^ k → (r * 2 ^ k / 2 ^ w) ⊕ x < 2 ^ k
@@ -31,19 +31,19 @@ pub table-rule : (w g : ℕ) {j : ℕ} → j < 256 → get_or (table_of w g) j 0
 unfolding table_of
 table-rule w g {j} h = at_each (entry w g) 256 j h
 
-pub table_step : (w g k : ℕ) {r x : ℕ} → k ≤ 8 → r < 2 ^ w → x < 2 ^ k → tableStep w (table_of w g) k r x ≡ remainder w g r (bits_of k x)
-unfolding tableStep
-table_step w g k {r} {x} hk hr hx =
+pub table_step_lem : (w g k : ℕ) {r x : ℕ} → k ≤ 8 → r < 2 ^ w → x < 2 ^ k → table_step w (table_of w g) k r x ≡ remainder w g r (bits_of k x)
+unfolding table_step
+table_step_lem w g k {r} {x} hk hr hx =
     let index = index_below w k hr hx in
-    ap (λ (n : ℕ). (r * 2 ^ k % 2 ^ w) ⊕ n) (table-rule w g (lt_of_lt_of_le index (pow_mono hk)) ∙ entry-of-bits w g k hk index)
-    ∙ sym (many-bits w g k x hr)
+    ap (λ (n : ℕ). (r * 2 ^ k % 2 ^ w) ⊕ n) (table-rule w g (lt_of_lt_of_le index (pow_mono hk)) ∙ entry-of_bits w g k hk index)
+    ∙ sym (many_bits w g k x hr)
 
 -- the two ways agree on every byte string
-pub ways-agree : (w g : ℕ) → g < 2 ^ w → (bytes : List ℕ) → ((i : ℕ) → get_or bytes i 0 < 256)
-    → {r : ℕ} → r < 2 ^ w → byTable w (table_of w g) r bytes ≡ remainder w g r (bitsOfBytes bytes)
-unfolding byTable remainder bitsOfBytes
-ways-agree w g hg [] hb hr = refl
-ways-agree w g hg (b ∷ bs) hb {r} hr =
-    ap (λ (x : ℕ). byTable w (table_of w g) x bs) (table_step w g 8 (omega arith) hr (hb 0))
-    ∙ ways-agree w g hg bs (λ i. hb (suc i)) (remainder-below w (bits_of 8 b) hg hr)
-    ∙ sym (remainder-append w g r (bits_of 8 b) (bitsOfBytes bs))
+pub ways_agree : (w g : ℕ) → g < 2 ^ w → (bytes : List ℕ) → ((i : ℕ) → get_or bytes i 0 < 256)
+    → {r : ℕ} → r < 2 ^ w → by_table w (table_of w g) r bytes ≡ remainder w g r (bits_of_bytes bytes)
+unfolding by_table remainder bits_of_bytes
+ways_agree w g hg [] hb hr = refl
+ways_agree w g hg (b ∷ bs) hb {r} hr =
+    ap (λ (x : ℕ). by_table w (table_of w g) x bs) (table_step_lem w g 8 (omega arith) hr (hb 0))
+    ∙ ways_agree w g hg bs (λ i. hb (suc i)) (remainder-below w (bits_of 8 b) hg hr)
+    ∙ sym (remainder_append w g r (bits_of 8 b) (bits_of_bytes bs))

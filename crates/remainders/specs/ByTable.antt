@@ -15,10 +15,10 @@ table_of w g = tabulate (entry w g) 0 256
 
 -- k bits x at once: the remainder moves up k places, and the k bits that pass out, with those that come, name the entry
 -- that is added
-unfoldable pub tableStep : ℕ → List ℕ → ℕ → ℕ → ℕ → ℕ
-tableStep w table k r x = (r * 2 ^ k % 2 ^ w) ⊕ get_or table ((r * 2 ^ k / 2 ^ w) ⊕ x) 0
+unfoldable pub table_step : ℕ → List ℕ → ℕ → ℕ → ℕ → ℕ
+table_step w table k r x = (r * 2 ^ k % 2 ^ w) ⊕ get_or table ((r * 2 ^ k / 2 ^ w) ⊕ x) 0
 
 -- byte after byte
-unfoldable pub byTable : ℕ → List ℕ → ℕ → List ℕ → ℕ
-byTable w table r [] = r
-byTable w table r (b ∷ bs) = byTable w table (tableStep w table 8 r b) bs
+unfoldable pub by_table : ℕ → List ℕ → ℕ → List ℕ → ℕ
+by_table w table r [] = r
+by_table w table r (b ∷ bs) = by_table w table (table_step w table 8 r b) bs

@@ -1,6 +1,6 @@
 // The remainder bit by bit. Written once over the width: w is the width, g the polynomial below x^w.
 ghost use Rattle.std.specs.Prelude.{◌≡◌};
-ghost use Rattle.laws.specs.Bits.{odd, bits_of, bitsOfBytes};
+ghost use Rattle.laws.specs.Bits.{odd, bits_of, bits_of_bytes};
 ghost use Rattle.pec.specs.Remainder.{step, remainder, Fitting};
 
 // One bit more: the last bit of x.
@@ -35,7 +35,7 @@ pub(crate) fn step_byte(w: u16, g: u16, start: u16, b: u8) -> u16
 // A byte string of any length.
 pub(crate) fn over_bytes(w: u16, g: u16, start: u16, bytes: &[u8]) -> u16
     requires { Fitting w g start }
-    ensures { result ≡ remainder w g start (bitsOfBytes bytes.now) }
+    ensures { result ≡ remainder w g start (bits_of_bytes bytes.now) }
 {
     let mut r = start;
     let mut i = 0;

@@ -1,8 +1,8 @@
 // The check words of a byte string of any length: the two remainders, bit by bit and through a table, and what is sent of the second.
 ghost use Rattle.std.specs.Prelude.{◌≡◌, ◌++◌, ◌^◌, ◌≤◌, ◌<◌};
-ghost use Rattle.laws.specs.Bits.{bits_of, bitsOfBytes};
+ghost use Rattle.laws.specs.Bits.{bits_of, bits_of_bytes};
 ghost use Rattle.pec.specs.Remainder.{remainder};
-ghost use Rattle.pec.specs.Words.{pec15, polynomial10, pec10, dataPec, seal};
+ghost use Rattle.pec.specs.Words.{pec15, polynomial10, pec10, data_pec, seal};
 
 use crate::tables::{PEC10, PEC15};
 use crate::{bit_by_bit, through_table};
@@ -39,7 +39,7 @@ pub fn pec10_bitwise(bytes: &[u8]) -> u16
 // so it is named once and lent to both steps.
 fn pec10_and_bits(bytes: &[u8], k: u16, x: u16) -> u16
     requires { (k ≤ 8) × (x < 2 ^ k) }
-    ensures { result ≡ remainder 10 polynomial10 16 (bitsOfBytes bytes.now ++ bits_of k x) }
+    ensures { result ≡ remainder 10 polynomial10 16 (bits_of_bytes bytes.now ++ bits_of k x) }
 {
     let table = &PEC10;
     let r = through_table::over_bytes(10, POLYNOMIAL_10, table, START, bytes);
@@ -55,7 +55,7 @@ pub fn pec10_by_table(bytes: &[u8]) -> u16
 
 // The 10-bit remainder of a byte string and then the six bits of a counter.
 pub fn data_pec(bytes: &[u8], counter: u8) -> u16
-    ensures { result ≡ dataPec bytes.now counter }
+    ensures { result ≡ data_pec bytes.now counter }
 {
     let bits = counter % 64;
     pec10_and_bits(bytes, 6, bits as u16)

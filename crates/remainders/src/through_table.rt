@@ -1,7 +1,7 @@
 // The same remainder through a table of 256 remainders. Written once over the width: w is the width, g the polynomial
 // below x^w, whose table it is.
 ghost use Rattle.std.specs.Prelude.{◌≡◌, ◌^◌, ◌<◌, ◌≤◌};
-ghost use Rattle.laws.specs.Bits.{bits_of, bitsOfBytes};
+ghost use Rattle.laws.specs.Bits.{bits_of, bits_of_bytes};
 ghost use Rattle.pec.specs.Remainder.{remainder, Fitting};
 ghost use Rattle.remainders.specs.ByTable.{table_of};
 
@@ -22,7 +22,7 @@ pub(crate) fn step_bits(w: u16, g: u16, table: &[u16; 256], k: u16, r: u16, x: u
 pub(crate) fn over_bytes(w: u16, g: u16, table: &[u16; 256], start: u16, bytes: &[u8]) -> u16
     requires fitting { Fitting w g start }
     requires table_value { table.now ≡ table_of w g }
-    ensures { result ≡ remainder w g start (bitsOfBytes bytes.now) }
+    ensures { result ≡ remainder w g start (bits_of_bytes bytes.now) }
 {
     let mut r = start;
     let mut i = 0;

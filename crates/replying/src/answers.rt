@@ -1,35 +1,35 @@
 // Every monitor replies, with no frame judged.
 ghost use Rattle.std.specs.Prelude.{◌≡◌, cond, ◌++◌, map, ◌*◌, ◌≤◌, length, drop};
 ghost use Rattle.laws.specs.Rows.{rows};
-ghost use Rattle.wire.specs.Order.{replyData};
-ghost use Rattle.records.specs.Record.{recordSize};
-ghost use Rattle.records.specs.Commands.{mostMonitors, payloadSize, replyLength};
+ghost use Rattle.wire.specs.Order.{reply_data};
+ghost use Rattle.records.specs.Record.{record_size};
+ghost use Rattle.records.specs.Commands.{most_monitors, payload_size, reply_length};
 ghost use Rattle.reads.specs.Reply.{reply};
 ghost use Rattle.judging.specs.Table.{monitors};
-ghost use Rattle.replying.specs.Replied.{replied, repliesFit, repliesInto};
+ghost use Rattle.replying.specs.Replied.{replied, replies_fit, replies_into};
 
 use judging::{sound_count, whole_table};
 use records::{Command, PAYLOAD_SIZE, Part, RECORD_SIZE};
 
 // The replies of n monitors to a read, nearest monitor first.
 fn write_replies(part: Part, table: &[u8], n: usize, buffer: &mut [u8])
-    requires { (length table.now ≡ n * recordSize) × (n ≤ mostMonitors) × (payloadSize * n ≤ length buffer.old) }
-    ensures { buffer.new ≡ replyData (map (reply part) (rows recordSize n table.now)) ++ drop (payloadSize * n) buffer.old }
+    requires { (length table.now ≡ n * record_size) × (n ≤ most_monitors) × (payload_size * n ≤ length buffer.old) }
+    ensures { buffer.new ≡ reply_data (map (reply part) (rows record_size n table.now)) ++ drop (payload_size * n) buffer.old }
 {
     let mut k = 0;
     while k < n {
         let at = k * RECORD_SIZE;
         let end = at + RECORD_SIZE;
         let eight = reads::reply_of(part, &table[at..end]);
-        bytes::put(buffer, k * PAYLOAD_SIZE, &eight);
+        laying::put(buffer, k * PAYLOAD_SIZE, &eight);
         k += 1;
     }
 }
 
 // The reply to a command, and its length: only a read has one.
 fn write_reply(command: Command, table: &[u8], n: usize, buffer: &mut [u8]) -> usize
-    requires { (length table.now ≡ n * recordSize) × (n ≤ mostMonitors) × (replyLength command n ≤ length buffer.old) }
-    ensures value { result ≡ replyLength command n }
+    requires { (length table.now ≡ n * record_size) × (n ≤ most_monitors) × (reply_length command n ≤ length buffer.old) }
+    ensures value { result ≡ reply_length command n }
     ensures buffer_after { buffer.new ≡ replied command n table.now buffer.old }
 {
     match command {
@@ -46,8 +46,8 @@ fn write_reply(command: Command, table: &[u8], n: usize, buffer: &mut [u8]) -> u
 // The reply of n monitors to a command, at the start of a buffer, and its length. Where the table does not hold n whole records or
 // the reply does not fit, the buffer stays and the answer is 0.
 pub fn replies_of(table: &[u8], command: Command, n: usize, buffer: &mut [u8]) -> usize
-    ensures value { result ≡ cond (repliesFit command n table.now (length buffer.old)) (replyLength command n) 0 }
-    ensures buffer_after { buffer.new ≡ cond (repliesFit command n table.now (length buffer.old)) (replied command n table.now buffer.old) buffer.old }
+    ensures value { result ≡ cond (replies_fit command n table.now (length buffer.old)) (reply_length command n) 0 }
+    ensures buffer_after { buffer.new ≡ cond (replies_fit command n table.now (length buffer.old)) (replied command n table.now buffer.old) buffer.old }
 {
     if !whole_table(table, n) {
         return 0;
@@ -61,8 +61,8 @@ pub fn replies_of(table: &[u8], command: Command, n: usize, buffer: &mut [u8]) -
 // The reply of a sound table to a command, at the start of a buffer, and its length. Where the table is not sound or the reply
 // does not fit, the buffer stays and the answer is 0.
 pub fn reply_all(table: &[u8], command: Command, buffer: &mut [u8]) -> usize
-    ensures value { result ≡ cond (repliesInto command table.now (length buffer.old)) (replyLength command (monitors table.now)) 0 }
-    ensures buffer_after { buffer.new ≡ cond (repliesInto command table.now (length buffer.old)) (replied command (monitors table.now) table.now buffer.old) buffer.old }
+    ensures value { result ≡ cond (replies_into command table.now (length buffer.old)) (reply_length command (monitors table.now)) 0 }
+    ensures buffer_after { buffer.new ≡ cond (replies_into command table.now (length buffer.old)) (replied command (monitors table.now) table.now buffer.old) buffer.old }
 {
     if records::reply_size(command, 1) == 0 {
         return 0;

@@ -12,14 +12,14 @@ use lib.Seq.{take_all}
 use borrow.Author.Tests.{leb-true, leb-false}
 use Rattle.laws.specs.Counts.{count}
 use Rattle.laws.specs.Rows.{rows, joined, along}
-use Rattle.wire.specs.Order.{farthestFirst, writePayloads}
+use Rattle.wire.specs.Order.{farthest_first, write_payloads}
 use Rattle.records.specs.declared.commands.Command.{Command}
 use Rattle.records.specs.declared.commands.Command.TheVariants.{Reads, Writes, Bares, Unlisted}
 use Rattle.records.specs.declared.commands.Write.{Write}
-use Rattle.records.specs.Record.{recordSize}
+use Rattle.records.specs.Record.{record_size}
 use Rattle.records.specs.Commands.{width_of}
 use Rattle.records.proofs.Widths.{width_some}
-use Rattle.monitor.specs.Effects.{goodFor, accepts, takes, keeps}
+use Rattle.monitor.specs.Effects.{good_for, accepts, takes, keeps}
 use Rattle.monitor.proofs.Keeping.{good_length, accepts-not-bad, keeps-bad}
 use Rattle.serving.specs.Served.{takers}
 
@@ -29,9 +29,9 @@ own_of width own = cond (leb (length own) width) own []
 
 -- other bytes than as many as it has are accepted of no write
 not-accepted : (what : Write) (own r : List ℕ) → (length own ≡ width_of (Writes what) → ⊥) → accepts what own r ≡ false
-not-accepted what own r h = accepts-not-bad what own r (by (goodFor what own) refl)
+not-accepted what own r h = accepts-not-bad what own r (by (good_for what own) refl)
   where
-    by : (b : Bool) → goodFor what own ≡ b → goodFor what own ≡ false
+    by : (b : Bool) → good_for what own ≡ b → good_for what own ≡ false
     by true e = absurd (h (good_length what own e))
     by false e = e
 
@@ -85,29 +85,29 @@ few width own = by (leb (length own) width) refl
     by true e = subst⁻¹ (λ (b : Bool). length (cond b own []) ≤ width) e (leb-true (length own) width e)
     by false e = subst⁻¹ (λ (b : Bool). length (cond b own []) ≤ width) e (omega arith)
 
-module _ (c : Command) (own r : List ℕ) (whole : length r ≡ recordSize) where
+module _ (c : Command) (own r : List ℕ) (whole : length r ≡ record_size) where
   abbrev handed : List ℕ
   handed = own_of (width_of c) own
 
-  one-payload : writePayloads (width_of c) 1 handed ≡ handed ∷ []
-  unfolding writePayloads farthestFirst rows
-  one-payload = ap (λ (e : List ℕ). e ∷ []) (take_all (width_of c) handed (few (width_of c) own))
+  one_payload : write_payloads (width_of c) 1 handed ≡ handed ∷ []
+  unfolding write_payloads farthest_first rows
+  one_payload = ap (λ (e : List ℕ). e ∷ []) (take_all (width_of c) handed (few (width_of c) own))
 
-  pub one-taken : eqb (takers c (rows recordSize 1 r) (writePayloads (width_of c) 1 handed)) 1 ≡ takes c own r
+  pub one_taken : eqb (takers c (rows record_size 1 r) (write_payloads (width_of c) 1 handed)) 1 ≡ takes c own r
   unfolding takers rows along count
-  one-taken =
-      ap (λ (os : List (List ℕ)). eqb (count (λ took. took) (along (λ r' e. takes c e r') (rows recordSize 1 r) os)) 1) one-payload
-      ∙ ap (λ (b : Bool). eqb (cond b 1 0 + 0) 1) (ap (takes c handed) (take_all recordSize r (omega arith)) ∙ own-takes c own r)
+  one_taken =
+      ap (λ (os : List (List ℕ)). eqb (count (λ took. took) (along (λ r' e. takes c e r') (rows record_size 1 r) os)) 1) one_payload
+      ∙ ap (λ (b : Bool). eqb (cond b 1 0 + 0) 1) (ap (takes c handed) (take_all record_size r (omega arith)) ∙ own-takes c own r)
       ∙ by (takes c own r)
     where
       by : (b : Bool) → eqb (cond b 1 0 + 0) 1 ≡ b
       by true = refl
       by false = refl
 
-  pub one_kept : joined (along (λ r' e. keeps c e r') (rows recordSize 1 r) (writePayloads (width_of c) 1 handed)) ≡ keeps c own r
+  pub one_kept : joined (along (λ r' e. keeps c e r') (rows record_size 1 r) (write_payloads (width_of c) 1 handed)) ≡ keeps c own r
   unfolding rows along joined
   one_kept =
-      ap (λ (os : List (List ℕ)). joined (along (λ r' e. keeps c e r') (rows recordSize 1 r) os)) one-payload
-      ∙ append-nil (keeps c handed (take recordSize r))
-      ∙ ap (keeps c handed) (take_all recordSize r (omega arith))
+      ap (λ (os : List (List ℕ)). joined (along (λ r' e. keeps c e r') (rows record_size 1 r) os)) one_payload
+      ∙ append-nil (keeps c handed (take record_size r))
+      ∙ ap (keeps c handed) (take_all record_size r (omega arith))
       ∙ own-keeps c own r

@@ -5,17 +5,17 @@ use mathlib.Core.List.{List, []}
 use Prim.Native.Nat.{ℕ, suc, ◌-◌, ◌<◌}
 use lib.ListN.{length, drop, get_or}
 use Rattle.laws.specs.Rows.{row_at}
-use Rattle.wire.proofs.Order.{length-writePayloads, write-at}
+use Rattle.wire.proofs.Order.{length-write_payloads, write_at}
 use Rattle.records.specs.declared.commands.Command.{Command}
 use Rattle.records.specs.Commands.{width_of}
-use Rattle.serving.specs.Served.{payloadsIn}
+use Rattle.serving.specs.Served.{payloads_in}
 
 module _ (c : Command) (n : ℕ) (table frame : List ℕ) where
   -- the own bytes of the monitor at k
-  pub own-bytes : (k : ℕ) → k < n → get_or (payloadsIn c frame n) k [] ≡ row_at (width_of c) (n - suc k) (drop 4 frame)
-  unfolding payloadsIn
-  own-bytes k h = write-at (width_of c) n (drop 4 frame) k [] h
+  pub own-bytes : (k : ℕ) → k < n → get_or (payloads_in c frame n) k [] ≡ row_at (width_of c) (n - suc k) (drop 4 frame)
+  unfolding payloads_in
+  own-bytes k h = write_at (width_of c) n (drop 4 frame) k [] h
 
-  pub length-payloadsIn : length (payloadsIn c frame n) ≡ n
-  unfolding payloadsIn
-  length-payloadsIn = length-writePayloads (width_of c) n (drop 4 frame)
+  pub length-payloads_in : length (payloads_in c frame n) ≡ n
+  unfolding payloads_in
+  length-payloads_in = length-write_payloads (width_of c) n (drop 4 frame)

@@ -8,7 +8,7 @@ use native.Mathlib.Omega.{arith}
 use lib.ListN.{length, length-drop, take, drop, drop_of_length-le}
 use lib.Seq.{take_all, take-nil}
 use Rattle.laws.specs.Rows.{row_at}
-use Rattle.records.specs.Commands.{mostMonitors, payloadSize}
+use Rattle.records.specs.Commands.{most_monitors, payload_size}
 
 module _ (w : ℕ) (payloads : List ℕ) (n k : ℕ) where
   -- counted back from the last: the code's way to the same place
@@ -23,9 +23,9 @@ module _ (w : ℕ) (payloads : List ℕ) (n k : ℕ) where
   whole_part m e = ap (λ (j : ℕ). take j (drop ((n - 1 - k) * w) payloads)) e ∙ sym at_place
 
   -- they end within the monitor's own
-  pub short-part : length payloads ≤ (n - 1 - k) * w + w
+  pub short_part : length payloads ≤ (n - 1 - k) * w + w
       → take (length payloads - (n - 1 - k) * w) (drop ((n - 1 - k) * w) payloads) ≡ row_at w (n - suc k) payloads
-  short-part h =
+  short_part h =
       let at = (n - 1 - k) * w in
       let left : length (drop at payloads) ≤ length payloads - at = omega (arith, length-drop at payloads) in
       let few : length (drop at payloads) ≤ w = omega (arith, length-drop at payloads) in
@@ -38,10 +38,10 @@ module _ (w : ℕ) (payloads : List ℕ) (n k : ℕ) where
 -- ---- no place among them overflows
 
 module _ (w n k : ℕ) (h : k < n) where
-  pub ends-within : (n - 1 - k) * w + w ≤ n * w
-  ends-within =
+  pub ends_within : (n - 1 - k) * w + w ≤ n * w
+  ends_within =
       let one : suc (n - 1 - k) ≤ n = omega arith in
       rw suc-mul at (mul-le-mul_right w one)
 
-  pub few-in-all : n ≤ mostMonitors → w ≤ payloadSize → n * w ≤ mostMonitors * payloadSize
-  few-in-all a b = mul-le-mul a b
+  pub few_in_all : n ≤ most_monitors → w ≤ payload_size → n * w ≤ most_monitors * payload_size
+  few_in_all a b = mul-le-mul a b

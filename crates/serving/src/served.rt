@@ -1,12 +1,12 @@
 // Every monitor acts on its own record and its own bytes, with no frame judged.
 ghost use Rattle.std.specs.Prelude.{◌≡◌, cond, ◌&&◌, [], suc, ◌-◌, ◌*◌, ◌<◌, ◌≤◌, leb, length};
 ghost use Rattle.laws.specs.Rows.{rows, row_at, joined, along};
-ghost use Rattle.wire.specs.Order.{writePayloads};
-ghost use Rattle.records.specs.Record.{recordSize};
-ghost use Rattle.records.specs.Commands.{mostMonitors, payloadSize, width_of};
+ghost use Rattle.wire.specs.Order.{write_payloads};
+ghost use Rattle.records.specs.Record.{record_size};
+ghost use Rattle.records.specs.Commands.{most_monitors, payload_size, width_of};
 ghost use Rattle.monitor.specs.Effects.{keeps};
-ghost use Rattle.judging.specs.Table.{wholeTable};
-ghost use Rattle.serving.specs.Served.{hasRecord, served_at, takesAt, takers};
+ghost use Rattle.judging.specs.Table.{whole_table};
+ghost use Rattle.serving.specs.Served.{has_record, served_at, takes_at, takers};
 
 use judging::whole_table;
 use records::{Command, RECORD_SIZE, width_of};
@@ -14,8 +14,8 @@ use records::{Command, RECORD_SIZE, width_of};
 // The monitor at k of a table, counted from 0, acts on its own record and its own bytes, and whether it took the command
 // comes back. A table with no whole record there stays, and none took it.
 fn act_at(table: &mut [u8], command: Command, k: usize, own: &[u8]) -> bool
-    ensures value { result ≡ (hasRecord k table.old && takesAt k command own.now table.old) }
-    ensures table_after { table.new ≡ cond (hasRecord k table.old) (served_at k command own.now table.old) table.old }
+    ensures value { result ≡ (has_record k table.old && takes_at k command own.now table.old) }
+    ensures table_after { table.new ≡ cond (has_record k table.old) (served_at k command own.now table.old) table.old }
 {
     if table.len() / RECORD_SIZE <= k {
         return false;
@@ -27,7 +27,7 @@ fn act_at(table: &mut [u8], command: Command, k: usize, own: &[u8]) -> bool
 
 // The own bytes of the monitor at k, counted from 0, so many for each; nothing in a bare frame.
 fn payload_in(payloads: &[u8], n: usize, k: usize, width: usize) -> &[u8]
-    requires { (k < n) × (n ≤ mostMonitors) × (width ≤ payloadSize) }
+    requires { (k < n) × (n ≤ most_monitors) × (width ≤ payload_size) }
     ensures { result.now ≡ row_at width (n - suc k) payloads.now }
 {
     let at = (n - 1 - k) * width;
@@ -48,9 +48,9 @@ fn payload_in(payloads: &[u8], n: usize, k: usize, width: usize) -> &[u8]
 // Every monitor acts on its own of the payloads, and those that took the command are counted. Nothing else reaches a monitor's act, so that
 // the compiler keeps all of it in this loop.
 fn serve_whole(table: &mut [u8], command: Command, n: usize, payloads: &[u8]) -> usize
-    requires { (length table.old ≡ n * recordSize) × (n ≤ mostMonitors) }
-    ensures value { result ≡ takers command (rows recordSize n table.old) (writePayloads (width_of command) n payloads.now) }
-    ensures table_after { table.new ≡ joined (along (λ r own. keeps command own r) (rows recordSize n table.old) (writePayloads (width_of command) n payloads.now)) }
+    requires { (length table.old ≡ n * record_size) × (n ≤ most_monitors) }
+    ensures value { result ≡ takers command (rows record_size n table.old) (write_payloads (width_of command) n payloads.now) }
+    ensures table_after { table.new ≡ joined (along (λ r own. keeps command own r) (rows record_size n table.old) (write_payloads (width_of command) n payloads.now)) }
 {
     let width = width_of(command);
     let mut taken = 0;
@@ -67,8 +67,8 @@ fn serve_whole(table: &mut [u8], command: Command, n: usize, payloads: &[u8]) ->
 
 // The same for any table and any n. A table that does not hold n whole records stays, and none took the command.
 pub fn serve(table: &mut [u8], command: Command, n: usize, payloads: &[u8]) -> usize
-    ensures value { result ≡ cond (wholeTable n table.old) (takers command (rows recordSize n table.old) (writePayloads (width_of command) n payloads.now)) 0 }
-    ensures table_after { table.new ≡ cond (wholeTable n table.old) (joined (along (λ r own. keeps command own r) (rows recordSize n table.old) (writePayloads (width_of command) n payloads.now))) table.old }
+    ensures value { result ≡ cond (whole_table n table.old) (takers command (rows record_size n table.old) (write_payloads (width_of command) n payloads.now)) 0 }
+    ensures table_after { table.new ≡ cond (whole_table n table.old) (joined (along (λ r own. keeps command own r) (rows record_size n table.old) (write_payloads (width_of command) n payloads.now))) table.old }
 {
     if !whole_table(table, n) {
         return 0;
@@ -88,8 +88,8 @@ fn own_of(own: &[u8], width: usize) -> &[u8]
 
 // The monitor at k acts by itself, as a chain of one.
 pub fn serve_at(table: &mut [u8], command: Command, k: usize, own: &[u8]) -> bool
-    ensures value { result ≡ (hasRecord k table.old && takesAt k command own.now table.old) }
-    ensures table_after { table.new ≡ cond (hasRecord k table.old) (served_at k command own.now table.old) table.old }
+    ensures value { result ≡ (has_record k table.old && takes_at k command own.now table.old) }
+    ensures table_after { table.new ≡ cond (has_record k table.old) (served_at k command own.now table.old) table.old }
 {
     if k >= table.len() / RECORD_SIZE {
         return false;

@@ -50,7 +50,7 @@ pub(crate) fn built(code: u16, values: &[u8]) -> Frame {
 fn outcome_of(table: Outcome, answer: Answer, reply: [u8; 16]) -> Outcome {
     let came = chain::numbers_of(answer);
     let mut all = table;
-    bytes::put(&mut all, REPLY, &reply);
+    laying::put(&mut all, REPLY, &reply);
     all[NUMBER] = came.number;
     all[TAKEN] = (came.taken % 256) as u8;
     all[LENGTH] = (came.reply % 256) as u8;

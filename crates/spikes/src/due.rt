@@ -42,7 +42,7 @@ fn served(before: Outcome, monitor: usize, takes: bool, at: usize, kept: &[u8]) 
     let record = monitor % 2 * RECORD_SIZE;
     all[record + UNLOCKED] = 0;
     if takes {
-        bytes::put(&mut all, record + at % RECORD_SIZE, kept);
+        laying::put(&mut all, record + at % RECORD_SIZE, kept);
         all[record + COUNTER] = all[record + COUNTER] % 63 + 1;
         all[TAKEN] = wrapping_add_u8(all[TAKEN], 1);
     }

@@ -14,52 +14,52 @@ use Rattle.refusals.specs.declared.Refusal.{Refusal}
 use Rattle.refusals.specs.declared.Refusal.TheVariants.{TableNotSound, FrameShort, CommandWrong, CodeNotListed, LengthWrong, NoRoom, PositionWrong, CountWrong, CodeCleared, BothDamaged}
 use Rattle.refusals.specs.Numbers.{number_of}
 use Rattle.refusals.specs.Order.{Row, decide, Passed}
-use Rattle.refusals.proofs.Deciding.{holds-here, holds_not, decide-map, passes, has-passed}
+use Rattle.refusals.proofs.Deciding.{holds_here, holds_not, decide-map, passes, has_passed}
 use Rattle.laws.specs.Rows.{row_at}
-use Rattle.pec.specs.Words.{counterOf}
-use Rattle.records.specs.Record.{recordSize}
+use Rattle.pec.specs.Words.{counter_of}
+use Rattle.records.specs.Record.{record_size}
 use Rattle.chain.specs.declared.frames.Answer.TheVariants.{Refused as Refuses}
-use Rattle.chain.specs.Frame.{frameRefusals, answer}
-use Rattle.chain.specs.Numbers.{numbersOf}
+use Rattle.chain.specs.Frame.{frame_refusals, answer}
+use Rattle.chain.specs.Numbers.{numbers_of}
 use Rattle.loads.specs.declared.loads.Loaded.TheVariants.{Unloaded, Done}
-use Rattle.loads.specs.Load.{storeRefusals, stored, compareRefusals, compared, loadRefusals, loaded}
-use Rattle.loads.specs.Numbers.{loadNumber}
+use Rattle.loads.specs.Load.{store_refusals, stored, compare_refusals, compared, load_refusals, loaded}
+use Rattle.loads.specs.Numbers.{load_number}
 use Rattle.priorities.specs.declared.outputs.Events.{Events}
 use Rattle.discharge.specs.declared.question.Discharged.TheVariants.{Refused as Unasked}
-use Rattle.discharge.specs.Question.{dischargeRefusals, discharged}
+use Rattle.discharge.specs.Question.{discharge_refusals, discharged}
 use Rattle.releasing.specs.declared.looks.Looked.TheVariants.{Refused as Unseen}
 use Rattle.clocking.specs.Clock.{Clock}
-use Rattle.releasing.specs.Release.{releaseRefusals, released}
-use Rattle.releasing.specs.Look.{lookRefusals, looked}
+use Rattle.releasing.specs.Release.{release_refusals, released}
+use Rattle.releasing.specs.Look.{look_refusals, looked}
 use Rattle.host.specs.declared.frames.Built.TheVariants.{Unbuilt}
 use Rattle.ports.specs.declared.checks.Checked.TheVariants.{Unchecked, Right, CounterDiffers, Damaged}
 use Rattle.ports.specs.declared.ports.Port.TheVariants.{Refused, A, B}
-use Rattle.host.specs.Frames.{buildRefusals, built}
-use Rattle.ports.specs.Verdicts.{isDamaged, isRight, counterDiffers}
-use Rattle.ports.specs.Check.{checkRefusals, checked}
-use Rattle.ports.specs.Ports.{partA, partB, portRefusals, chosen, portOf}
+use Rattle.host.specs.Frames.{build_refusals, built}
+use Rattle.ports.specs.Verdicts.{is_damaged, is_right, counter_differs}
+use Rattle.ports.specs.Check.{check_refusals, checked}
+use Rattle.ports.specs.Ports.{part_a, part_b, port_refusals, chosen, port_of}
 use Rattle.messages.specs.declared.verdicts.Verdict.TheVariants.{Refused as Unjudged, Passed as Good, Failed, Damaged as MessageDamaged, TimedOut}
-use Rattle.messages.specs.Messages.{countIn, flagsIn, messageRight, isPass}
-use Rattle.messages.specs.Verdicts.{verdictRefusals, verdictOf, verdict}
-use Rattle.heartbeats.specs.Steps.{isTimeout, towardsA}
+use Rattle.messages.specs.Messages.{count_in, flags_in, message_right, is_pass}
+use Rattle.messages.specs.Verdicts.{verdict_refusals, verdict_of, verdict}
+use Rattle.heartbeats.specs.Steps.{is_timeout, towards_a}
 use Rattle.passing.specs.declared.operations.Sent.TheVariants.{Unsent, Nothing as None, TowardsA, TowardsB}
 use Rattle.passing.specs.declared.operations.Relayed.TheVariants.{Unrelayed, Stopped, SentOn}
 use Rattle.passing.specs.declared.operations.TimedOut.TheVariants.{Untimed, NoTimeoutMonitor, RanOut}
-use Rattle.passing.specs.Hops.{hopSends}
-use Rattle.passing.specs.Operations.{sentTowards, wakeRefusals, wokenAt, relayRefusals, relayedAt, beaten, timeOutRefusals, timedOut}
+use Rattle.passing.specs.Hops.{hop_sends}
+use Rattle.passing.specs.Operations.{sent_towards, wake_refusals, woken_at, relay_refusals, relayed_at, beaten, time_out_refusals, timed_out}
 use Rattle.readings.specs.declared.pack_summary.Pack.TheVariants.{Refused as Unsummed}
-use Rattle.readings.specs.Readings.{measured, whole_of, summaryOf}
-use Rattle.story.specs.Numbers.{dischargedNumbers, sentNumbers, relayedNumbers, timedNumbers, builtNumbers, checkedNumbers, portNumbers, verdictNumbers, lookedNumbers, packNumbers, summaryRefusals, firstNumber, First}
+use Rattle.readings.specs.Readings.{measured, whole_of, summary_of}
+use Rattle.story.specs.Numbers.{discharged_numbers, sent_numbers, relayed_numbers, timed_numbers, built_numbers, checked_numbers, port_numbers, verdict_numbers, looked_numbers, pack_numbers, summary_refusals, first_number, First}
 
 -- ---- which refusal it is
 
 -- the refusals by their numbers
-refusalOf : ℕ → Refusal
-refusalOf n =
+refusal_of : ℕ → Refusal
+refusal_of n =
     get_or (TableNotSound ∷ FrameShort ∷ CommandWrong ∷ CodeNotListed ∷ LengthWrong ∷ NoRoom ∷ PositionWrong ∷ CountWrong ∷ CodeCleared ∷ BothDamaged ∷ []) (n - 1) TableNotSound
 
-told : (r : Refusal) → refusalOf (number_of r) ≡ r
-unfolding refusalOf
+told : (r : Refusal) → refusal_of (number_of r) ≡ r
+unfolding refusal_of
 told TableNotSound = refl
 told FrameShort = refl
 told CommandWrong = refl
@@ -86,147 +86,147 @@ some_number BothDamaged = omega arith
 
 -- ---- exactly when its condition is the first to hold
 
-pub first-refuses : {A : Type 0} (rows : List Row) (refused : Refusal → A) (accepted : A) (r : Refusal) → First rows r
+pub first_refuses : {A : Type 0} (rows : List Row) (refused : Refusal → A) (accepted : A) (r : Refusal) → First rows r
     → decide rows refused accepted ≡ refused r
-first-refuses (row ∷ rows) refused accepted r (inl h) = holds-here row rows refused accepted h.0 ∙ ap refused h.1
-first-refuses (row ∷ rows) refused accepted r (inr h) = holds_not row rows refused accepted h.0 ∙ first-refuses rows refused accepted r h.1
+first_refuses (row ∷ rows) refused accepted r (inl h) = holds_here row rows refused accepted h.0 ∙ ap refused h.1
+first_refuses (row ∷ rows) refused accepted r (inr h) = holds_not row rows refused accepted h.0 ∙ first_refuses rows refused accepted r h.1
 
-gives-first : (rows : List Row) (r : Refusal) → firstNumber rows ≡ number_of r → First rows r
+gives_first : (rows : List Row) (r : Refusal) → first_number rows ≡ number_of r → First rows r
 unfolding decide
-gives-first [] r e = absurd (omega (arith, some_number r))
-gives-first (row ∷ rows) r e = by row.holds refl e (gives-first rows r)
+gives_first [] r e = absurd (omega (arith, some_number r))
+gives_first (row ∷ rows) r e = by row.holds refl e (gives_first rows r)
   where
-    by : (b : Bool) → row.holds ≡ b → cond b (number_of row.refusal) (firstNumber rows) ≡ number_of r → (firstNumber rows ≡ number_of r → First rows r)
+    by : (b : Bool) → row.holds ≡ b → cond b (number_of row.refusal) (first_number rows) ≡ number_of r → (first_number rows ≡ number_of r → First rows r)
         → First (row ∷ rows) r
-    by true h e rest = inl (h, sym (told row.refusal) ∙ ap refusalOf e ∙ told r)
+    by true h e rest = inl (h, sym (told row.refusal) ∙ ap refusal_of e ∙ told r)
     by false h e rest = inr (h, rest e)
 
-pub number-exactly : (rows : List Row) (r : Refusal) → (firstNumber rows ≡ number_of r) ↔ First rows r
-number-exactly rows r = (gives-first rows r, first-refuses rows number_of 0 r)
+pub number_exactly : (rows : List Row) (r : Refusal) → (first_number rows ≡ number_of r) ↔ First rows r
+number_exactly rows r = (gives_first rows r, first_refuses rows number_of 0 r)
 
-pub zero-exactly : (rows : List Row) → (firstNumber rows ≡ 0) ↔ Passed rows
-zero-exactly rows = (has-passed rows number_of 0 0 (λ r e. omega (arith, some_number r)), passes rows number_of 0)
+pub zero_exactly : (rows : List Row) → (first_number rows ≡ 0) ↔ Passed rows
+zero_exactly rows = (has_passed rows number_of 0 0 (λ r e. omega (arith, some_number r)), passes rows number_of 0)
 
 -- ---- question by question
 
 -- a question's number, whatever its answers are
 number_by : {A : Type 0} (number : A → ℕ) (rows : List Row) (refused : Refusal → A) (accepted : A)
-    → ((r : Refusal) → number (refused r) ≡ number_of r) → number accepted ≡ 0 → number (decide rows refused accepted) ≡ firstNumber rows
+    → ((r : Refusal) → number (refused r) ≡ number_of r) → number accepted ≡ 0 → number (decide rows refused accepted) ≡ first_number rows
 number_by number rows refused accepted each none = decide-map number rows refused accepted ∙ (λ i. decide rows (λ r. each r i) (none i))
 
-pub frame-number : (table frame : List ℕ) (room : ℕ) → (numbersOf (answer table frame room)).number ≡ firstNumber (frameRefusals table frame room)
+pub frame-number : (table frame : List ℕ) (room : ℕ) → (numbers_of (answer table frame room)).number ≡ first_number (frame_refusals table frame room)
 unfolding answer
-frame-number table frame room = number_by (λ a. (numbersOf a).number) (frameRefusals table frame room) Refuses _ (λ r. refl) refl
+frame-number table frame room = number_by (λ a. (numbers_of a).number) (frame_refusals table frame room) Refuses _ (λ r. refl) refl
 
 -- a store, a compare and a load
-done-number : (rows : List Row) → loadNumber (decide rows Unloaded Done) ≡ firstNumber rows
-done-number rows = number_by loadNumber rows Unloaded Done (λ r. refl) refl
+done-number : (rows : List Row) → load_number (decide rows Unloaded Done) ≡ first_number rows
+done-number rows = number_by load_number rows Unloaded Done (λ r. refl) refl
 
-pub store-number : (table : List ℕ) (position : ℕ) (codes : List ℤ) → loadNumber (stored table position codes) ≡ firstNumber (storeRefusals table position codes)
+pub store-number : (table : List ℕ) (position : ℕ) (codes : List ℤ) → load_number (stored table position codes) ≡ first_number (store_refusals table position codes)
 unfolding stored
-store-number table position codes = done-number (storeRefusals table position codes)
+store-number table position codes = done-number (store_refusals table position codes)
 
-pub compare-number : (table : List ℕ) (position : ℕ) → loadNumber (compared table position) ≡ firstNumber (compareRefusals table position)
+pub compare-number : (table : List ℕ) (position : ℕ) → load_number (compared table position) ≡ first_number (compare_refusals table position)
 unfolding compared
-compare-number table position = done-number (compareRefusals table position)
+compare-number table position = done-number (compare_refusals table position)
 
-pub load-number : (table : List ℕ) (position : ℕ) (codes : List ℤ) → loadNumber (loaded table position codes) ≡ firstNumber (loadRefusals table position codes)
+pub load-number : (table : List ℕ) (position : ℕ) (codes : List ℤ) → load_number (loaded table position codes) ≡ first_number (load_refusals table position codes)
 unfolding loaded
-load-number table position codes = done-number (loadRefusals table position codes)
+load-number table position codes = done-number (load_refusals table position codes)
 
-pub discharge-number : (table : List ℕ) (position : ℕ) (events : Events) (phase room : ℕ)
-    → (dischargedNumbers (discharged table position events phase room)).number ≡ firstNumber (dischargeRefusals table position phase room)
+pub discharge_number : (table : List ℕ) (position : ℕ) (events : Events) (phase room : ℕ)
+    → (discharged_numbers (discharged table position events phase room)).number ≡ first_number (discharge_refusals table position phase room)
 unfolding discharged
-discharge-number table position events phase room =
-    number_by (λ d. (dischargedNumbers d).number) (dischargeRefusals table position phase room) Unasked _ (λ r. refl) refl
+discharge_number table position events phase room =
+    number_by (λ d. (discharged_numbers d).number) (discharge_refusals table position phase room) Unasked _ (λ r. refl) refl
 
-pub release-number : (c : Clock) (table : List ℕ) → (numbersOf (released c table)).number ≡ firstNumber (releaseRefusals c table)
+pub release_number : (c : Clock) (table : List ℕ) → (numbers_of (released c table)).number ≡ first_number (release_refusals c table)
 unfolding released
-release-number c table = number_by (λ a. (numbersOf a).number) (releaseRefusals c table) Refuses _ (λ r. refl) refl
+release_number c table = number_by (λ a. (numbers_of a).number) (release_refusals c table) Refuses _ (λ r. refl) refl
 
-pub look-number : (c : Clock) (position room : ℕ) → (lookedNumbers (looked c position room)).number ≡ firstNumber (lookRefusals c position room)
+pub look_number : (c : Clock) (position room : ℕ) → (looked_numbers (looked c position room)).number ≡ first_number (look_refusals c position room)
 unfolding looked
-look-number c position room = number_by (λ l. (lookedNumbers l).number) (lookRefusals c position room) Unseen _ (λ r. refl) refl
+look_number c position room = number_by (λ l. (looked_numbers l).number) (look_refusals c position room) Unseen _ (λ r. refl) refl
 
-pub built-number : (code n : ℕ) (values : List ℕ) (room : ℕ) → (builtNumbers (built code n values room)).number ≡ firstNumber (buildRefusals code n values room)
+pub built-number : (code n : ℕ) (values : List ℕ) (room : ℕ) → (built_numbers (built code n values room)).number ≡ first_number (build_refusals code n values room)
 unfolding built
-built-number code n values room = number_by (λ b. (builtNumbers b).number) (buildRefusals code n values room) Unbuilt _ (λ r. refl) refl
+built-number code n values room = number_by (λ b. (built_numbers b).number) (build_refusals code n values room) Unbuilt _ (λ r. refl) refl
 
-pub checked-number : (payload : List ℕ) (expected : ℕ) → (checkedNumbers (checked payload expected)).number ≡ firstNumber (checkRefusals payload expected)
+pub checked-number : (payload : List ℕ) (expected : ℕ) → (checked_numbers (checked payload expected)).number ≡ first_number (check_refusals payload expected)
 unfolding checked
 checked-number payload expected =
-    number_by (λ c. (checkedNumbers c).number) (checkRefusals payload expected) Unchecked _ (λ r. refl) (each (isDamaged payload) (counterDiffers payload expected))
+    number_by (λ c. (checked_numbers c).number) (check_refusals payload expected) Unchecked _ (λ r. refl) (each (is_damaged payload) (counter_differs payload expected))
   where
-    each : (damaged differs : Bool) → (checkedNumbers (cond damaged Damaged (cond differs (CounterDiffers (counterOf payload)) Right))).number ≡ 0
+    each : (damaged differs : Bool) → (checked_numbers (cond damaged Damaged (cond differs (CounterDiffers (counter_of payload)) Right))).number ≡ 0
     each true differs = refl
     each false true = refl
     each false false = refl
 
-pub port-number : (a b : List ℕ) (n k expected : ℕ) → (portNumbers (portOf a b n k expected)).number ≡ firstNumber (portRefusals a b n k expected)
-unfolding portOf chosen
-port-number a b n k expected =
-    number_by (λ p. (portNumbers p).number) (portRefusals a b n k expected) Refused _ (λ r. refl)
-    (each (isRight (partA a n k) expected) (isRight (partB b n k) expected) (counterDiffers (partA a n k) expected))
+pub port_number : (a b : List ℕ) (n k expected : ℕ) → (port_numbers (port_of a b n k expected)).number ≡ first_number (port_refusals a b n k expected)
+unfolding port_of chosen
+port_number a b n k expected =
+    number_by (λ p. (port_numbers p).number) (port_refusals a b n k expected) Refused _ (λ r. refl)
+    (each (is_right (part_a a n k) expected) (is_right (part_b b n k) expected) (counter_differs (part_a a n k) expected))
   where
-    each : (r s t : Bool) → (portNumbers (cond r (A false) (cond s (B false) (cond t (A true) (B true))))).number ≡ 0
+    each : (r s t : Bool) → (port_numbers (cond r (A false) (cond s (B false) (cond t (A true) (B true))))).number ≡ 0
     each true s t = refl
     each false true t = refl
     each false false true = refl
     each false false false = refl
 
 -- what is sent, or sent on, or no timeout monitor, is no refusal
-sent-accepted : (r bytes : List ℕ) → (sentNumbers (sentTowards r bytes)).number ≡ 0
-unfolding sentTowards
-sent-accepted r bytes = by (eqb (length bytes) 0) (towardsA r)
+sent_accepted : (r bytes : List ℕ) → (sent_numbers (sent_towards r bytes)).number ≡ 0
+unfolding sent_towards
+sent_accepted r bytes = by (eqb (length bytes) 0) (towards_a r)
   where
-    by : (none toA : Bool) → (sentNumbers (cond none None (cond toA TowardsA TowardsB))).number ≡ 0
+    by : (none toA : Bool) → (sent_numbers (cond none None (cond toA TowardsA TowardsB))).number ≡ 0
     by true toA = refl
     by false true = refl
     by false false = refl
 
 module _ (table : List ℕ) (position : ℕ) where
-  pub wake-number : (room : ℕ) → (sentNumbers (wokenAt table position room)).number ≡ firstNumber (wakeRefusals table position room)
-  unfolding wokenAt
-  wake-number room = number_by (λ x. (sentNumbers x).number) (wakeRefusals table position room) Unsent _ (λ r. refl) (sent-accepted _ _)
+  pub wake_number : (room : ℕ) → (sent_numbers (woken_at table position room)).number ≡ first_number (wake_refusals table position room)
+  unfolding woken_at
+  wake_number room = number_by (λ x. (sent_numbers x).number) (wake_refusals table position room) Unsent _ (λ r. refl) (sent_accepted _ _)
 
-  pub beat-number : (room : ℕ) → (sentNumbers (beaten table position room)).number ≡ firstNumber (wakeRefusals table position room)
+  pub beat_number : (room : ℕ) → (sent_numbers (beaten table position room)).number ≡ first_number (wake_refusals table position room)
   unfolding beaten
-  beat-number room = number_by (λ x. (sentNumbers x).number) (wakeRefusals table position room) Unsent _ (λ r. refl) (sent-accepted _ _)
+  beat_number room = number_by (λ x. (sent_numbers x).number) (wake_refusals table position room) Unsent _ (λ r. refl) (sent_accepted _ _)
 
-  pub relay-number : (message : List ℕ) (room : ℕ) → (relayedNumbers (relayedAt table position message room)).number ≡ firstNumber (relayRefusals table position (length message) room)
-  unfolding relayedAt
-  relay-number message room =
-      number_by (λ x. (relayedNumbers x).number) (relayRefusals table position (length message) room) Unrelayed _ (λ r. refl)
-      (by (eqb (length (hopSends (position - 1) message table)) 0))
+  pub relay_number : (message : List ℕ) (room : ℕ) → (relayed_numbers (relayed_at table position message room)).number ≡ first_number (relay_refusals table position (length message) room)
+  unfolding relayed_at
+  relay_number message room =
+      number_by (λ x. (relayed_numbers x).number) (relay_refusals table position (length message) room) Unrelayed _ (λ r. refl)
+      (by (eqb (length (hop_sends (position - 1) message table)) 0))
     where
-      by : (none : Bool) → (relayedNumbers (cond none Stopped SentOn)).number ≡ 0
+      by : (none : Bool) → (relayed_numbers (cond none Stopped SentOn)).number ≡ 0
       by true = refl
       by false = refl
 
-  pub time-number : (timedNumbers (timedOut table position)).number ≡ firstNumber (timeOutRefusals table position)
-  unfolding timedOut
-  time-number =
-      number_by (λ x. (timedNumbers x).number) (timeOutRefusals table position) Untimed _ (λ r. refl) (by (isTimeout (row_at recordSize (position - 1) table)))
+  pub time_number : (timed_numbers (timed_out table position)).number ≡ first_number (time_out_refusals table position)
+  unfolding timed_out
+  time_number =
+      number_by (λ x. (timed_numbers x).number) (time_out_refusals table position) Untimed _ (λ r. refl) (by (is_timeout (row_at record_size (position - 1) table)))
     where
-      by : (its : Bool) → (timedNumbers (cond its RanOut NoTimeoutMonitor)).number ≡ 0
+      by : (its : Bool) → (timed_numbers (cond its RanOut NoTimeoutMonitor)).number ≡ 0
       by true = refl
       by false = refl
 
-pub verdict-number : (bytes : List ℕ) (late : Bool) → (verdictNumbers (verdict bytes late)).number ≡ firstNumber (verdictRefusals bytes late)
-unfolding verdict verdictOf
+pub verdict-number : (bytes : List ℕ) (late : Bool) → (verdict_numbers (verdict bytes late)).number ≡ first_number (verdict_refusals bytes late)
+unfolding verdict verdict_of
 verdict-number bytes late =
-    number_by (λ v. (verdictNumbers v).number) (verdictRefusals bytes late) Unjudged _ (λ r. refl) (each late (messageRight bytes) (isPass (countIn bytes) (flagsIn bytes)))
+    number_by (λ v. (verdict_numbers v).number) (verdict_refusals bytes late) Unjudged _ (λ r. refl) (each late (message_right bytes) (is_pass (count_in bytes) (flags_in bytes)))
   where
-    each : (l r p : Bool) → (verdictNumbers (cond l TimedOut (cond (not r) MessageDamaged (cond p Good (Failed (countIn bytes) (flagsIn bytes)))))).number ≡ 0
+    each : (l r p : Bool) → (verdict_numbers (cond l TimedOut (cond (not r) MessageDamaged (cond p Good (Failed (count_in bytes) (flags_in bytes)))))).number ≡ 0
     each true r p = refl
     each false false p = refl
     each false true true = refl
     each false true false = refl
 
-pub summary-number : (codes : List ℤ) → (packNumbers (summaryOf codes)).number ≡ firstNumber (summaryRefusals codes)
-unfolding summaryOf whole_of
-summary-number codes = number_by (λ p. (packNumbers p).number) (summaryRefusals codes) Unsummed _ (λ r. refl) (whole (measured codes))
+pub summary_number : (codes : List ℤ) → (pack_numbers (summary_of codes)).number ≡ first_number (summary_refusals codes)
+unfolding summary_of whole_of
+summary_number codes = number_by (λ p. (pack_numbers p).number) (summary_refusals codes) Unsummed _ (λ r. refl) (whole (measured codes))
   where
-    whole : (ms : List ℤ) → (packNumbers (whole_of ms)).number ≡ 0
+    whole : (ms : List ℤ) → (pack_numbers (whole_of ms)).number ≡ 0
     whole [] = refl
     whole (m ∷ ms) = refl

@@ -14,80 +14,80 @@ use lib.Seq.{take_at}
 use borrow.Author.Tests.{le-ltb, eq-eqb, eqb-true, not-false}
 use Rattle.laws.specs.Counts.{count}
 use Rattle.laws.specs.Rows.{rows}
-use Rattle.laws.proofs.Rows.{length-rows, length-joined, every-image, along-same}
-use Rattle.wire.specs.Order.{replyData}
-use Rattle.wire.proofs.Order.{every-writePayloads}
+use Rattle.laws.proofs.Rows.{length-rows, length-joined, every_image, along-same}
+use Rattle.wire.specs.Order.{reply_data}
+use Rattle.wire.proofs.Order.{every_write_payloads}
 use Rattle.refusals.specs.declared.Refusal.{Refusal}
 use Rattle.refusals.specs.Order.{decide, Passed}
-use Rattle.pec.specs.Words.{sealedRight}
-use Rattle.refusals.proofs.Deciding.{decide-append, passes, passed-agree}
+use Rattle.pec.specs.Words.{sealed_right}
+use Rattle.refusals.proofs.Deciding.{decide_append, passes, passed_agree}
 use Rattle.records.specs.declared.commands.Command.{Command}
 use Rattle.records.specs.declared.commands.Command.TheVariants.{Reads, Writes, Bares, Unlisted}
 use Rattle.records.specs.declared.commands.Write.{Write}
 use Rattle.records.specs.declared.record.Part.{Part}
-use Rattle.records.specs.Record.{recordSize, inLpcm}
-use Rattle.records.specs.Commands.{dataSize, payloadSize, width_of, frameLength, replyLength}
-use Rattle.writes.specs.Writes.{rulesOf}
-use Rattle.monitor.specs.Effects.{goodFor, accepts}
+use Rattle.records.specs.Record.{record_size, in_lpcm}
+use Rattle.records.specs.Commands.{data_size, payload_size, width_of, frame_length, reply_length}
+use Rattle.writes.specs.Writes.{rules_of}
+use Rattle.monitor.specs.Effects.{good_for, accepts}
 use Rattle.reads.specs.Reply.{reply}
 use Rattle.reads.proofs.Showing.{length-reply}
 use Rattle.chain.specs.declared.frames.Answer.{Answer}
 use Rattle.chain.specs.declared.frames.Answer.TheVariants.{Refused, Accepted}
 use Rattle.judging.specs.Table.{monitors}
-use Rattle.judging.specs.Refusals.{commandIn, roomRow}
-use Rattle.serving.specs.Served.{takers, payloadsIn, takenBy, kept}
+use Rattle.judging.specs.Refusals.{command_in, room_row}
+use Rattle.serving.specs.Served.{takers, payloads_in, taken_by, kept}
 use Rattle.replying.specs.Replied.{replied}
-use Rattle.chain.specs.Frame.{frameRefusals, answer, tableAfter, replyAfter}
+use Rattle.chain.specs.Frame.{frame_refusals, answer, table_after, reply_after}
 use Rattle.replying.proofs.OwnReply.{length-replied}
 use Rattle.refusals.proofs.Decided.{either_way}
-use Rattle.serving.proofs.Taken.{taken-read, taken-bare, taken_none}
+use Rattle.serving.proofs.Taken.{taken_read, taken_bare, taken_none}
 use Rattle.clocking.specs.Clock.{Clock, start, answered}
-use Rattle.releasing.specs.Release.{released, tableReleased}
-use Rattle.clocked.specs.Frames.{clockedAll, answeredAll}
-use Rattle.clock_state.specs.State.{stateSize, idle}
-use Rattle.clocking.specs.Bytes.{clockOf, stateAfter}
-use Rattle.clocking.proofs.Known.{reply-short}
-use Rattle.clocking.proofs.Lengths.{length-stateAfter}
-use Rattle.clocking.proofs.View.{view, view-idle}
-use Rattle.clocked.proofs.Whole.{released-whole, table-released-whole, reply-whole}
-use Rattle.story.proofs.Operations.{decide-three, stepTo}
-use Rattle.story.specs.Runs.{Frame, Seen, Answered, Step, replyBytes, ruleRefusals, takesWrite, takersOf, replies, obeyed, ruled, stateAfterAll, cameBack}
+use Rattle.releasing.specs.Release.{released, table_released}
+use Rattle.clocked.specs.Frames.{clocked_all, answered_all}
+use Rattle.clock_state.specs.State.{state_size, idle}
+use Rattle.clocking.specs.Bytes.{clock_of, state_after}
+use Rattle.clocking.proofs.Known.{reply_short}
+use Rattle.clocking.proofs.Lengths.{length-state_after}
+use Rattle.clocking.proofs.View.{view, view_idle}
+use Rattle.clocked.proofs.Whole.{released-whole, table_released-whole, reply-whole}
+use Rattle.story.proofs.Operations.{decide_three, step_to}
+use Rattle.story.specs.Runs.{Frame, Seen, Answered, Step, reply_bytes, rule_refusals, takes_write, takers_of, replies, obeyed, ruled, state_after_all, came_back}
 
 -- ---- what an accepted frame makes, in the rules' words
 
 -- what a monitor takes of a write is what the rules say, of as many own bytes as the write has
-rules-take : (c : Write) (r own : List ℕ) → length own ≡ width_of (Writes c) → accepts c own r ≡ takesWrite c r own
-unfolding accepts takesWrite goodFor
-rules-take c r own l = ap (λ (b : Bool). not (inLpcm r) && b) (by (rulesOf c).needs_check)
+rules-take : (c : Write) (r own : List ℕ) → length own ≡ width_of (Writes c) → accepts c own r ≡ takes_write c r own
+unfolding accepts takes_write good_for
+rules-take c r own l = ap (λ (b : Bool). not (in_lpcm r) && b) (by (rules_of c).needs_check)
   where
-    by : (needs : Bool) → cond needs (sealedRight (dataSize c) own) (eqb (length own) (width_of (Writes c))) ≡ not needs || sealedRight (dataSize c) own
+    by : (needs : Bool) → cond needs (sealed_right (data_size c) own) (eqb (length own) (width_of (Writes c))) ≡ not needs || sealed_right (data_size c) own
     by true = refl
     by false = eq-eqb (length own) (width_of (Writes c)) l
 
 -- so as many take it
-pub same-takers : (c : Command) (n : ℕ) (table frame : List ℕ) → length frame ≡ frameLength c n → takenBy c n table frame ≡ takersOf c n table frame
-unfolding takersOf
-same-takers (Reads part) n table frame whole = taken-read part n table frame
+pub same-takers : (c : Command) (n : ℕ) (table frame : List ℕ) → length frame ≡ frame_length c n → taken_by c n table frame ≡ takers_of c n table frame
+unfolding takers_of
+same-takers (Reads part) n table frame whole = taken_read part n table frame
 same-takers (Writes c) n table frame whole =
-    unfold takenBy takers payloadsIn in
+    unfold taken_by takers payloads_in in
     ap (count (λ took. took))
-    (along-same (λ r own. accepts c own r) (takesWrite c) (width_of (Writes c)) (rules-take c) (rows recordSize n table)
-    (payloadsIn (Writes c) frame n) (every-writePayloads (width_of (Writes c)) n (drop 4 frame) (omega (arith, length-drop 4 frame, whole, mul_comm n (width_of (Writes c))))))
-same-takers (Bares c) n table frame whole = taken-bare c n table frame
+    (along-same (λ r own. accepts c own r) (takes_write c) (width_of (Writes c)) (rules-take c) (rows record_size n table)
+    (payloads_in (Writes c) frame n) (every_write_payloads (width_of (Writes c)) n (drop 4 frame) (omega (arith, length-drop 4 frame, whole, mul_comm n (width_of (Writes c))))))
+same-takers (Bares c) n table frame whole = taken_bare c n table frame
 same-takers Unlisted n table frame whole = taken_none n table frame
 
-pub length-replies : (part : Part) (n : ℕ) (table : List ℕ) → length (replyData (map (reply part) (rows recordSize n table))) ≡ payloadSize * n
-unfolding replyData
+pub length-replies : (part : Part) (n : ℕ) (table : List ℕ) → length (reply_data (map (reply part) (rows record_size n table))) ≡ payload_size * n
+unfolding reply_data
 length-replies part n table =
-    let all = map (reply part) (rows recordSize n table) in
-    length-joined payloadSize all (every-image payloadSize (reply part) (length-reply part) (rows recordSize n table))
-    ∙ ap (λ (m : ℕ). m * payloadSize) (length-map (rows recordSize n table) (reply part) ∙ length-rows recordSize n table)
-    ∙ mul_comm n payloadSize
+    let all = map (reply part) (rows record_size n table) in
+    length-joined payload_size all (every_image payload_size (reply part) (length-reply part) (rows record_size n table))
+    ∙ ap (λ (m : ℕ). m * payload_size) (length-map (rows record_size n table) (reply part) ∙ length-rows record_size n table)
+    ∙ mul_comm n payload_size
 
 -- the reply is the first bytes of the buffer
-same-replies : (c : Command) (n : ℕ) (table buffer : List ℕ) → take (replyLength c n) (replied c n table buffer) ≡ replies c n table
+same-replies : (c : Command) (n : ℕ) (table buffer : List ℕ) → take (reply_length c n) (replied c n table buffer) ≡ replies c n table
 unfolding replied replies
-same-replies (Reads part) n table buffer = take_at _ _ (payloadSize * n) (length-replies part n table)
+same-replies (Reads part) n table buffer = take_at _ _ (payload_size * n) (length-replies part n table)
 same-replies (Writes c) n table buffer = refl
 same-replies (Bares c) n table buffer = refl
 same-replies Unlisted n table buffer = refl
@@ -95,97 +95,97 @@ same-replies Unlisted n table buffer = refl
 -- ---- a whole frame
 
 -- what is seen of an answer and a buffer
-abbrev seenIn : Answer → List ℕ → Seen
-seenIn said left = Answered said (take (replyBytes said) left)
+abbrev seen_in : Answer → List ℕ → Seen
+seen_in said left = Answered said (take (reply_bytes said) left)
 
-module _ (table frame buffer : List ℕ) (room : payloadSize * monitors table ≤ length buffer) where
+module _ (table frame buffer : List ℕ) (room : payload_size * monitors table ≤ length buffer) where
   abbrev c : Command
-  c = commandIn frame
+  c = command_in frame
 
   abbrev n : ℕ
   n = monitors table
 
   -- refusal 6 does not hold
-  no-sixth : {A : Type 0} (refused : Refusal → A) (accepted : A)
-      → decide (frameRefusals table frame (length buffer)) refused accepted ≡ decide (ruleRefusals table frame) refused accepted
-  unfolding frameRefusals ruleRefusals
-  no-sixth refused accepted =
-      let sixth = roomRow (length buffer) c n ∷ [] in
-      decide-append (ruleRefusals table frame) sixth refused accepted
-      ∙ ap (decide (ruleRefusals table frame) refused) (passes sixth refused accepted (le-ltb (length buffer) (replyLength c n) (le_trans (reply-short c n) room), tt))
+  no_sixth : {A : Type 0} (refused : Refusal → A) (accepted : A)
+      → decide (frame_refusals table frame (length buffer)) refused accepted ≡ decide (rule_refusals table frame) refused accepted
+  unfolding frame_refusals rule_refusals
+  no_sixth refused accepted =
+      let sixth = room_row (length buffer) c n ∷ [] in
+      decide_append (rule_refusals table frame) sixth refused accepted
+      ∙ ap (decide (rule_refusals table frame) refused) (passes sixth refused accepted (le-ltb (length buffer) (reply_length c n) (le_trans (reply_short c n) room), tt))
 
   -- a frame that no refusal stops has the length for its command
-  whole-frame : Passed (ruleRefusals table frame) → length frame ≡ frameLength c n
-  unfolding ruleRefusals
-  whole-frame p = eqb-true (length frame) (frameLength c n) (not-false _ p.1.1.1.1.0)
+  whole-frame : Passed (rule_refusals table frame) → length frame ≡ frame_length c n
+  unfolding rule_refusals
+  whole-frame p = eqb-true (length frame) (frame_length c n) (not-false _ p.1.1.1.1.0)
 
-  pub frame_step : stepTo (tableAfter table frame (length buffer)) (seenIn (answer table frame (length buffer)) (replyAfter table frame buffer)) ≡ ruled table (Frame frame)
-  unfolding tableAfter answer replyAfter ruled obeyed kept
+  pub frame_step : step_to (table_after table frame (length buffer)) (seen_in (answer table frame (length buffer)) (reply_after table frame buffer)) ≡ ruled table (Frame frame)
+  unfolding table_after answer reply_after ruled obeyed kept
   frame_step =
-      let rows = frameRefusals table frame (length buffer) in
-      decide-three seenIn rows table Refused buffer _ _ _
-      ∙ no-sixth (λ r. stepTo table (Answered (Refused r) [])) _
-      ∙ passed-agree (ruleRefusals table frame) (λ r. stepTo table (Answered (Refused r) [])) _ _
-      (λ p. ap₂ (λ (taken : ℕ) (back : List ℕ). stepTo (kept c n table frame) (Answered (Accepted taken (replyLength c n)) back))
+      let rows = frame_refusals table frame (length buffer) in
+      decide_three seen_in rows table Refused buffer _ _ _
+      ∙ no_sixth (λ r. step_to table (Answered (Refused r) [])) _
+      ∙ passed_agree (rule_refusals table frame) (λ r. step_to table (Answered (Refused r) [])) _ _
+      (λ p. ap₂ (λ (taken : ℕ) (back : List ℕ). step_to (kept c n table frame) (Answered (Accepted taken (reply_length c n)) back))
       (same-takers c n table frame (whole-frame p)) (same-replies c n table buffer))
 
   -- the buffer stays as long as it was
-  pub length-after : length (replyAfter table frame buffer) ≡ length buffer
-  unfolding replyAfter
+  pub length-after : length (reply_after table frame buffer) ≡ length buffer
+  unfolding reply_after
   length-after =
-      either_way (λ (left : List ℕ). length left ≡ length buffer) (frameRefusals table frame (length buffer)) (λ r. buffer) (replied c n table buffer)
-      (λ r. refl) (length-replied c n table buffer (le_trans (reply-short c n) room))
+      either_way (λ (left : List ℕ). length left ≡ length buffer) (frame_refusals table frame (length buffer)) (λ r. buffer) (replied c n table buffer)
+      (λ r. refl) (length-replied c n table buffer (le_trans (reply_short c n) room))
 
 -- ---- a clocked frame
 
 -- the state stands for the clock, byte by byte
-view-all : (table frame state : List ℕ) → length state ≡ stateSize → clockOf (stateAfterAll table frame state) ≡ clockedAll table frame (clockOf state)
-unfolding stateAfterAll clockedAll
-view-all table [] state sized = refl
-view-all table (byte ∷ frame) state sized =
-    view-all table frame (stateAfter table byte state) (length-stateAfter table byte state sized) ∙ ap (clockedAll table frame) (view table byte state sized)
+view_all : (table frame state : List ℕ) → length state ≡ state_size → clock_of (state_after_all table frame state) ≡ clocked_all table frame (clock_of state)
+unfolding state_after_all clocked_all
+view_all table [] state sized = refl
+view_all table (byte ∷ frame) state sized =
+    view_all table frame (state_after table byte state) (length-state_after table byte state sized) ∙ ap (clocked_all table frame) (view table byte state sized)
 
-same_back : (table frame state : List ℕ) → length state ≡ stateSize → cameBack table frame state ≡ answeredAll table frame (clockOf state)
-unfolding cameBack answeredAll
+same_back : (table frame state : List ℕ) → length state ≡ state_size → came_back table frame state ≡ answered_all table frame (clock_of state)
+unfolding came_back answered_all
 same_back table [] state sized = refl
 same_back table (byte ∷ frame) state sized =
-    ap (λ (back : List ℕ). answered (clockOf state) ∷ back)
-    (same_back table frame (stateAfter table byte state) (length-stateAfter table byte state sized) ∙ ap (answeredAll table frame) (view table byte state sized))
+    ap (λ (back : List ℕ). answered (clock_of state) ∷ back)
+    (same_back table frame (state_after table byte state) (length-state_after table byte state sized) ∙ ap (answered_all table frame) (view table byte state sized))
 
-length-idle : length idle ≡ stateSize
+length-idle : length idle ≡ state_size
 unfolding idle
-length-idle = length-replicate {A = ℕ} stateSize 0
+length-idle = length-replicate {A = ℕ} state_size 0
 
 -- a buffer for a full reply
 abbrev pub full : List ℕ → List ℕ
-full table = replicate (payloadSize * monitors table) 0
+full table = replicate (payload_size * monitors table) 0
 
-pub has_room : (table : List ℕ) → payloadSize * monitors table ≤ length (full table)
-has_room table = omega (arith, length-replicate {A = ℕ} (payloadSize * monitors table) 0)
+pub has_room : (table : List ℕ) → payload_size * monitors table ≤ length (full table)
+has_room table = omega (arith, length-replicate {A = ℕ} (payload_size * monitors table) 0)
 
 module _ (table frame : List ℕ) where
   -- from the start
-  pub clock-whole : clockOf (stateAfterAll table frame idle) ≡ clockedAll table frame start
-  clock-whole = view-all table frame idle length-idle ∙ ap (clockedAll table frame) view-idle
+  pub clock-whole : clock_of (state_after_all table frame idle) ≡ clocked_all table frame start
+  clock-whole = view_all table frame idle length-idle ∙ ap (clocked_all table frame) view_idle
 
-  pub back_whole : cameBack table frame idle ≡ answeredAll table frame start
-  back_whole = same_back table frame idle length-idle ∙ ap (answeredAll table frame) view-idle
+  pub back_whole : came_back table frame idle ≡ answered_all table frame start
+  back_whole = same_back table frame idle length-idle ∙ ap (answered_all table frame) view_idle
 
   -- what came back begins as a buffer for a full reply does
   same-reply : (said : Answer) → answer table frame (length (full table)) ≡ said
-      → take (replyBytes said) (drop 4 (answeredAll table frame start)) ≡ take (replyBytes said) (replyAfter table frame (full table))
+      → take (reply_bytes said) (drop 4 (answered_all table frame start)) ≡ take (reply_bytes said) (reply_after table frame (full table))
   same-reply (Refused r) e = refl
   same-reply (Accepted taken bytes) e = reply-whole table frame (full table) taken bytes e
 
-  abbrev stepBy : Clock → List ℕ → Step
-  stepBy clock back = stepTo (tableReleased clock table) (seenIn (released clock table) (drop 4 back))
+  abbrev step_by : Clock → List ℕ → Step
+  step_by clock back = step_to (table_released clock table) (seen_in (released clock table) (drop 4 back))
 
-  pub clocked-step : stepBy (clockOf (stateAfterAll table frame idle)) (cameBack table frame idle) ≡ ruled table (Frame frame)
+  pub clocked-step : step_by (clock_of (state_after_all table frame idle)) (came_back table frame idle) ≡ ruled table (Frame frame)
   clocked-step =
-      let clock = clockedAll table frame start in
-      let back = drop 4 (answeredAll table frame start) in
+      let clock = clocked_all table frame start in
+      let back = drop 4 (answered_all table frame start) in
       let said = answer table frame (length (full table)) in
-      ap₂ stepBy clock-whole back_whole
-      ∙ ap₂ (λ (after : List ℕ) (a : Answer). stepTo after (seenIn a back)) (table-released-whole table frame (length (full table)) (has_room table)) (released-whole table frame (length (full table)) (has_room table))
-      ∙ ap (λ (left : List ℕ). stepTo (tableAfter table frame (length (full table))) (Answered said left)) (same-reply said refl)
+      ap₂ step_by clock-whole back_whole
+      ∙ ap₂ (λ (after : List ℕ) (a : Answer). step_to after (seen_in a back)) (table_released-whole table frame (length (full table)) (has_room table)) (released-whole table frame (length (full table)) (has_room table))
+      ∙ ap (λ (left : List ℕ). step_to (table_after table frame (length (full table))) (Answered said left)) (same-reply said refl)
       ∙ frame_step table frame (full table) (has_room table)

@@ -12,109 +12,109 @@ use lib.Dec.{lit≤}
 use lib.IntN.{pos}
 use lib.ListN.{get_or, take, drop}
 use borrow.Author.Tests.{le-ltb, le-leb}
-use Rattle.laws.specs.Bits.{◌⊕◌, odd, bits_of, bitsOfBytes}
+use Rattle.laws.specs.Bits.{◌⊕◌, odd, bits_of, bits_of_bytes}
 use Rattle.laws.specs.Counts.{all, count, same}
 use Rattle.laws.specs.Rows.{rows, row_at, joined}
 use Rattle.laws.specs.Tables.{tabulate}
-use Rattle.laws.proofs.BitStrings.{are-bytes}
+use Rattle.laws.proofs.BitStrings.{are_bytes}
 use Rattle.laws.proofs.Counts.{and-false}
 use Rattle.pec.specs.Remainder.{once, step, remainder}
 use Rattle.pec.specs.Spikes.{Spike}
-use Rattle.pec.specs.Words.{twoBytes, word_at, pec15, commandCheck, commandRight, dataPec, seal, sealedRight}
-use Rattle.pec.proofs.Spikes.{spike-of-parts}
-use Rattle.wire.specs.Order.{farthestFirst, writeData, writePayloads}
+use Rattle.pec.specs.Words.{two_bytes, word_at, pec15, command_check, command_right, data_pec, seal, sealed_right}
+use Rattle.pec.proofs.Spikes.{spike_of_parts}
+use Rattle.wire.specs.Order.{farthest_first, write_data, write_payloads}
 use Rattle.refusals.specs.declared.Refusal.TheVariants.{CommandWrong}
 use Rattle.refusals.specs.Order.{Passed}
 use Rattle.records.specs.declared.commands.Bare.TheVariants.{Mute, Unmute}
 use Rattle.records.specs.declared.commands.Command.TheVariants.{Writes, Bares}
 use Rattle.records.specs.declared.commands.Write.TheVariants.{Wrcfgb, Wrrr}
-use Rattle.records.specs.Record.{configurationB, unlocked, recordSize, inLpcm, bytes_of, byteIn, byte_of, onBytes}
-use Rattle.records.specs.Commands.{commands, commandOf, mostMonitors, registerSize, payloadSize}
-use Rattle.writes.specs.Writes.{rulesOf}
-use Rattle.writes.proofs.Written.{opens-always}
+use Rattle.records.specs.Record.{configuration_b, unlocked, record_size, in_lpcm, bytes_of, byte_in, byte_of, on_bytes}
+use Rattle.records.specs.Commands.{commands, command_of, most_monitors, register_size, payload_size}
+use Rattle.writes.specs.Writes.{rules_of}
+use Rattle.writes.proofs.Written.{opens_always}
 use Rattle.monitor.specs.Effects.{locked, counted, done, keeps}
-use Rattle.monitor.proofs.Keeping.{right-good, accepts-awake}
+use Rattle.monitor.proofs.Keeping.{right-good, accepts_awake}
 use Rattle.chain.specs.declared.frames.Answer.TheVariants.{Refused, Accepted}
 use Rattle.judging.specs.Table.{monitors, sound}
-use Rattle.judging.specs.Refusals.{commandIn}
-use Rattle.serving.specs.Served.{Awake, payloadsIn}
-use Rattle.chain.specs.Frame.{frameRefusals, answer, tableAfter}
+use Rattle.judging.specs.Refusals.{command_in}
+use Rattle.serving.specs.Served.{Awake, payloads_in}
+use Rattle.chain.specs.Frame.{frame_refusals, answer, table_after}
 use Rattle.thresholds.specs.Thresholds.{signed, upper, vov}
-use Rattle.host.specs.Frames.{headSize, sealed, body, frame_for, buildRefusals}
-use Rattle.story.specs.Spikes.{Ours, StruckData, StruckCommand, ownIn, unhit, unhitAwake}
-use Rattle.story.proofs.Accepted.{write-answer-awake, bare-answer, kept_at}
+use Rattle.host.specs.Frames.{head_size, sealed, body, frame_for, build_refusals}
+use Rattle.story.specs.Spikes.{Ours, StruckData, StruckCommand, own_in, unhit, unhit_awake}
+use Rattle.story.proofs.Accepted.{write_answer_awake, bare_answer, kept_at}
 use Rattle.story.proofs.ReadBack.{stores-whole}
 use Rattle.story.proofs.EitherSide.{with}
-use Rattle.story.proofs.Spoilt.{came-passes, came-command, struck-answer}
-use Rattle.story.proofs.Spikes.{struck-spoilt, struck-refused-any}
+use Rattle.story.proofs.Spoilt.{came-passes, came-command, struck_answer}
+use Rattle.story.proofs.Spikes.{struck_spoilt, struck_refused_any}
 
 -- WRCFGB to two monitors: the near one is to get VUV 250 and VOV 875, steps of 2.4 mV above 1.5 V: 2.1 V and 3.6 V
-abbrev pub writeSent : List ℕ
-writeSent =
+abbrev pub write_sent : List ℕ
+write_sent =
     0x00 ∷ 0x24 ∷ 0xB1 ∷ 0x9E
     ∷ 0xF4 ∷ 0x51 ∷ 0x46 ∷ 0x00 ∷ 0x00 ∷ 0x10 ∷ 0x03 ∷ 0x2A
     ∷ 0xFA ∷ 0xB0 ∷ 0x36 ∷ 0x00 ∷ 0x00 ∷ 0x00 ∷ 0x02 ∷ 0x8A ∷ []
 
-abbrev pub nearSent : List ℕ
-nearSent = 0xFA ∷ 0xB0 ∷ 0x36 ∷ 0x00 ∷ 0x00 ∷ 0x00 ∷ 0x02 ∷ 0x8A ∷ []
+abbrev pub near_sent : List ℕ
+near_sent = 0xFA ∷ 0xB0 ∷ 0x36 ∷ 0x00 ∷ 0x00 ∷ 0x00 ∷ 0x02 ∷ 0x8A ∷ []
 
 -- all of ten bits in a row turned over, the last five of the far payload and the first five of the near one
-abbrev pub writeTen : List ℕ
-writeTen =
+abbrev pub write_ten : List ℕ
+write_ten =
     0x00 ∷ 0x24 ∷ 0xB1 ∷ 0x9E
     ∷ 0xF4 ∷ 0x51 ∷ 0x46 ∷ 0x00 ∷ 0x00 ∷ 0x10 ∷ 0x03 ∷ 0x35
     ∷ 0x02 ∷ 0xB0 ∷ 0x36 ∷ 0x00 ∷ 0x00 ∷ 0x00 ∷ 0x02 ∷ 0x8A ∷ []
 
 -- six of eleven bits in a row turned over, all in the near payload: its VOV is 2027, 6.36 V, and its byte of the discharge timer F0
-abbrev pub writeCame : List ℕ
-writeCame =
+abbrev pub write_came : List ℕ
+write_came =
     0x00 ∷ 0x24 ∷ 0xB1 ∷ 0x9E
     ∷ 0xF4 ∷ 0x51 ∷ 0x46 ∷ 0x00 ∷ 0x00 ∷ 0x10 ∷ 0x03 ∷ 0x2A
     ∷ 0xFA ∷ 0xB0 ∷ 0x7E ∷ 0xF0 ∷ 0x00 ∷ 0x00 ∷ 0x02 ∷ 0x8A ∷ []
 
-abbrev pub nearCame : List ℕ
-nearCame = 0xFA ∷ 0xB0 ∷ 0x7E ∷ 0xF0 ∷ 0x00 ∷ 0x00 ∷ 0x02 ∷ 0x8A ∷ []
+abbrev pub near_came : List ℕ
+near_came = 0xFA ∷ 0xB0 ∷ 0x7E ∷ 0xF0 ∷ 0x00 ∷ 0x00 ∷ 0x02 ∷ 0x8A ∷ []
 
 -- MUTE; the 0 after its check turned over; and eight of sixteen bits in a row turned over: UNMUTE
-abbrev pub muteSent : List ℕ
-muteSent = 0x00 ∷ 0x28 ∷ 0xE8 ∷ 0x0E ∷ []
+abbrev pub mute_sent : List ℕ
+mute_sent = 0x00 ∷ 0x28 ∷ 0xE8 ∷ 0x0E ∷ []
 
-abbrev pub muteLast : List ℕ
-muteLast = 0x00 ∷ 0x28 ∷ 0xE8 ∷ 0x0F ∷ []
+abbrev pub mute_last : List ℕ
+mute_last = 0x00 ∷ 0x28 ∷ 0xE8 ∷ 0x0F ∷ []
 
-abbrev pub muteCame : List ℕ
-muteCame = 0x00 ∷ 0x29 ∷ 0x63 ∷ 0x3C ∷ []
+abbrev pub mute_came : List ℕ
+mute_came = 0x00 ∷ 0x29 ∷ 0x63 ∷ 0x3C ∷ []
 
 pub record Sharp : Type 0 where
   -- ten places over the border of the two payloads: it is a struck write, and neither monitor takes it
-  ten : StruckData (Writes Wrcfgb) 2 writeSent writeTen
-  ten-taken : (table : List ℕ) (room : ℕ) → sound table ≡ true → monitors table ≡ 2 → answer table writeTen room ≡ Accepted 0 0
+  ten : StruckData (Writes Wrcfgb) 2 write_sent write_ten
+  ten_taken : (table : List ℕ) (room : ℕ) → sound table ≡ true → monitors table ≡ 2 → answer table write_ten room ≡ Accepted 0 0
   -- eleven places behind the command of the same frame: both monitors take it, where neither is in LPCM
-  eleven-ours : Ours (Writes Wrcfgb) 2 writeSent
-  eleven : Spike 11 writeSent writeCame
-  eleven-head : take headSize writeCame ≡ take headSize writeSent
-  eleven-taken : (table : List ℕ) (room : ℕ) → sound table ≡ true → monitors table ≡ 2 → Awake 2 table → answer table writeCame room ≡ Accepted 2 0
+  eleven_ours : Ours (Writes Wrcfgb) 2 write_sent
+  eleven : Spike 11 write_sent write_came
+  eleven_head : take head_size write_came ≡ take head_size write_sent
+  eleven_taken : (table : List ℕ) (room : ℕ) → sound table ≡ true → monitors table ≡ 2 → Awake 2 table → answer table write_came room ≡ Accepted 2 0
   -- the near one stores what came, and counts: another VOV; the far one does as with the frame that was sent
-  eleven-stored : (table : List ℕ) (room : ℕ) → sound table ≡ true → monitors table ≡ 2 → inLpcm (row_at recordSize 0 table) ≡ false
-      → row_at recordSize 0 (tableAfter table writeCame room) ≡ onBytes configurationB (λ i old. get_or nearCame i 0) (counted (locked (row_at recordSize 0 table)))
-  eleven-vov : (vov (with configurationB (take registerSize nearSent)) ≡ record { 0 = pos 875 }) × (vov (with configurationB (take registerSize nearCame)) ≡ record { 0 = pos 2027 })
-  eleven-far : (table : List ℕ) (room : ℕ) → sound table ≡ true → monitors table ≡ 2
-      → row_at recordSize 1 (tableAfter table writeCame room) ≡ row_at recordSize 1 (tableAfter table writeSent room)
+  eleven_stored : (table : List ℕ) (room : ℕ) → sound table ≡ true → monitors table ≡ 2 → in_lpcm (row_at record_size 0 table) ≡ false
+      → row_at record_size 0 (table_after table write_came room) ≡ on_bytes configuration_b (λ i old. get_or near_came i 0) (counted (locked (row_at record_size 0 table)))
+  eleven_vov : (vov (with configuration_b (take register_size near_sent)) ≡ record { 0 = pos 875 }) × (vov (with configuration_b (take register_size near_came)) ≡ record { 0 = pos 2027 })
+  eleven_far : (table : List ℕ) (room : ℕ) → sound table ≡ true → monitors table ≡ 2
+      → row_at record_size 1 (table_after table write_came room) ≡ row_at record_size 1 (table_after table write_sent room)
   -- the last place of a command alone: it is a struck command, for any number of monitors, and it is refused
-  last-place : (n : ℕ) → 1 ≤ n → n ≤ mostMonitors → StruckCommand (Bares Mute) n muteSent muteLast
-  last-refused : (table : List ℕ) (room : ℕ) → sound table ≡ true → answer table muteLast room ≡ Refused CommandWrong
+  last_place : (n : ℕ) → 1 ≤ n → n ≤ most_monitors → StruckCommand (Bares Mute) n mute_sent mute_last
+  last-refused : (table : List ℕ) (room : ℕ) → sound table ≡ true → answer table mute_last room ≡ Refused CommandWrong
   -- sixteen places of the same command: all take it, and each ends its mute
-  sixteen-ours : (n : ℕ) → 1 ≤ n → n ≤ mostMonitors → Ours (Bares Mute) n muteSent
-  sixteen : Spike 16 muteSent muteCame
-  sixteen-taken : (table : List ℕ) (room : ℕ) → sound table ≡ true → answer table muteCame room ≡ Accepted (monitors table) 0
-  sixteen-unmutes : (table : List ℕ) (room : ℕ) → sound table ≡ true → (k : ℕ) → k < monitors table
-      → row_at recordSize k (tableAfter table muteCame room) ≡ done Unmute (counted (locked (row_at recordSize k table)))
+  sixteen-ours : (n : ℕ) → 1 ≤ n → n ≤ most_monitors → Ours (Bares Mute) n mute_sent
+  sixteen : Spike 16 mute_sent mute_came
+  sixteen-taken : (table : List ℕ) (room : ℕ) → sound table ≡ true → answer table mute_came room ≡ Accepted (monitors table) 0
+  sixteen_unmutes : (table : List ℕ) (room : ℕ) → sound table ≡ true → (k : ℕ) → k < monitors table
+      → row_at record_size k (table_after table mute_came room) ≡ done Unmute (counted (locked (row_at record_size k table)))
 
 -- ---- the write
 
-pub eleven-is-ours : Ours (Writes Wrcfgb) 2 writeSent
-unfolding commandOf commands buildRefusals frame_for body sealed seal twoBytes commandCheck pec15 dataPec writeData farthestFirst joined rows once step remainder bits_of bitsOfBytes ◌⊕◌ xor odd
-eleven-is-ours =
+pub eleven_is_ours : Ours (Writes Wrcfgb) 2 write_sent
+unfolding command_of commands build_refusals frame_for body sealed seal two_bytes command_check pec15 data_pec write_data farthest_first joined rows once step remainder bits_of bits_of_bytes ◌⊕◌ xor odd
+eleven_is_ours =
     record {
       code = 0x0024;
       values = 0xFA ∷ 0xB0 ∷ 0x36 ∷ 0x00 ∷ 0x00 ∷ 0x00 ∷ 0xF4 ∷ 0x51 ∷ 0x46 ∷ 0x00 ∷ 0x00 ∷ 0x10 ∷ [];
@@ -123,139 +123,139 @@ eleven-is-ours =
       built = refl;
     }
 
-ten-struck : StruckData (Writes Wrcfgb) 2 writeSent writeTen
-unfolding all bitsOfBytes bits_of odd
-ten-struck =
+ten_struck : StruckData (Writes Wrcfgb) 2 write_sent write_ten
+unfolding all bits_of_bytes bits_of odd
+ten_struck =
     record {
-      ours = eleven-is-ours;
-      spike = spike-of-parts 10 91 (are-bytes writeSent refl) (are-bytes writeTen refl) refl refl (λ e. false≢true (sym e)) refl;
+      ours = eleven_is_ours;
+      spike = spike_of_parts 10 91 (are_bytes write_sent refl) (are_bytes write_ten refl) refl refl (λ e. false≢true (sym e)) refl;
       same_head = refl;
     }
 
-both-hit : (table : List ℕ) → unhitAwake (Writes Wrcfgb) 2 table writeSent writeTen ≡ 0
-unfolding unhitAwake unhit ownIn row_at same count tabulate
-both-hit table =
-    ap₂ (λ (near far : Bool). cond near 1 0 + (cond far 1 0 + 0)) (and-false (not (inLpcm (row_at recordSize 0 table)))) (and-false (not (inLpcm (row_at recordSize 1 table))))
+both_hit : (table : List ℕ) → unhit_awake (Writes Wrcfgb) 2 table write_sent write_ten ≡ 0
+unfolding unhit_awake unhit own_in row_at same count tabulate
+both_hit table =
+    ap₂ (λ (near far : Bool). cond near 1 0 + (cond far 1 0 + 0)) (and-false (not (in_lpcm (row_at record_size 0 table)))) (and-false (not (in_lpcm (row_at record_size 1 table))))
 
-pub not-wrrr : Wrcfgb ≡ Wrrr → ⊥
-not-wrrr e = let z : ◌≡◌ {A = ℕ} 0 1 = cc in omega arith
+pub not_wrrr : Wrcfgb ≡ Wrrr → ⊥
+not_wrrr e = let z : ◌≡◌ {A = ℕ} 0 1 = cc in omega arith
 
-eleven-spike : Spike 11 writeSent writeCame
-unfolding all bitsOfBytes bits_of odd
-eleven-spike = spike-of-parts 11 113 (are-bytes writeSent refl) (are-bytes writeCame refl) refl refl (λ e. false≢true (sym e)) refl
+eleven_spike : Spike 11 write_sent write_came
+unfolding all bits_of_bytes bits_of odd
+eleven_spike = spike_of_parts 11 113 (are_bytes write_sent refl) (are_bytes write_came refl) refl refl (λ e. false≢true (sym e)) refl
 
 module _ (table : List ℕ) (room : ℕ) (s : sound table ≡ true) (two : monitors table ≡ 2) where
-  ten-is-taken : answer table writeTen room ≡ Accepted 0 0
-  ten-is-taken =
-      struck-answer table s Wrcfgb (struck-spoilt (subst⁻¹ (λ (n : ℕ). StruckData (Writes Wrcfgb) n writeSent writeTen) two ten-struck)) not-wrrr room
-      ∙ ap (λ (n : ℕ). Accepted (unhitAwake (Writes Wrcfgb) n table writeSent writeTen) 0) two
-      ∙ ap (λ (taken : ℕ). Accepted taken 0) (both-hit table)
+  ten_is_taken : answer table write_ten room ≡ Accepted 0 0
+  ten_is_taken =
+      struck_answer table s Wrcfgb (struck_spoilt (subst⁻¹ (λ (n : ℕ). StruckData (Writes Wrcfgb) n write_sent write_ten) two ten_struck)) not_wrrr room
+      ∙ ap (λ (n : ℕ). Accepted (unhit_awake (Writes Wrcfgb) n table write_sent write_ten) 0) two
+      ∙ ap (λ (taken : ℕ). Accepted taken 0) (both_hit table)
 
-  ours-here : Ours (Writes Wrcfgb) (monitors table) writeSent
-  ours-here = subst⁻¹ (λ (n : ℕ). Ours (Writes Wrcfgb) n writeSent) two eleven-is-ours
+  ours_here : Ours (Writes Wrcfgb) (monitors table) write_sent
+  ours_here = subst⁻¹ (λ (n : ℕ). Ours (Writes Wrcfgb) n write_sent) two eleven_is_ours
 
-  eleven-passes : Passed (frameRefusals table writeCame room)
-  eleven-passes = came-passes table writeSent writeCame s ours-here refl refl room
+  eleven_passes : Passed (frame_refusals table write_came room)
+  eleven_passes = came-passes table write_sent write_came s ours_here refl refl room
 
-  eleven-its : commandIn writeCame ≡ Writes Wrcfgb
-  eleven-its = came-command table writeSent writeCame s ours-here refl refl
+  eleven_its : command_in write_came ≡ Writes Wrcfgb
+  eleven_its = came-command table write_sent write_came s ours_here refl refl
 
-  both_right : count (sealedRight 6) (payloadsIn (Writes Wrcfgb) writeCame 2) ≡ 2
-  unfolding payloadsIn writePayloads farthestFirst rows count sealedRight word_at dataPec once step remainder bits_of bitsOfBytes ◌⊕◌ xor odd
+  both_right : count (sealed_right 6) (payloads_in (Writes Wrcfgb) write_came 2) ≡ 2
+  unfolding payloads_in write_payloads farthest_first rows count sealed_right word_at data_pec once step remainder bits_of bits_of_bytes ◌⊕◌ xor odd
   both_right = refl
 
-  eleven-is-taken : Awake 2 table → answer table writeCame room ≡ Accepted 2 0
-  eleven-is-taken awake =
-      write-answer-awake table writeCame room eleven-passes Wrcfgb not-wrrr eleven-its (λ k h. awake k (omega (arith, two)))
-      ∙ ap (λ (n : ℕ). Accepted (count (sealedRight 6) (payloadsIn (Writes Wrcfgb) writeCame n)) 0) two
+  eleven_is_taken : Awake 2 table → answer table write_came room ≡ Accepted 2 0
+  eleven_is_taken awake =
+      write_answer_awake table write_came room eleven_passes Wrcfgb not_wrrr eleven_its (λ k h. awake k (omega (arith, two)))
+      ∙ ap (λ (n : ℕ). Accepted (count (sealed_right 6) (payloads_in (Writes Wrcfgb) write_came n)) 0) two
       ∙ ap (λ (taken : ℕ). Accepted taken 0) both_right
 
-  near-right : sealedRight 6 (row_at payloadSize 1 (drop headSize writeCame)) ≡ true
-  unfolding row_at sealedRight word_at dataPec once step remainder bits_of bitsOfBytes ◌⊕◌ xor odd
-  near-right = refl
+  near_right : sealed_right 6 (row_at payload_size 1 (drop head_size write_came)) ≡ true
+  unfolding row_at sealed_right word_at data_pec once step remainder bits_of bits_of_bytes ◌⊕◌ xor odd
+  near_right = refl
 
-  eleven-is-stored : inLpcm (row_at recordSize 0 table) ≡ false
-      → row_at recordSize 0 (tableAfter table writeCame room) ≡ onBytes configurationB (λ i old. get_or nearCame i 0) (counted (locked (row_at recordSize 0 table)))
+  eleven_is_stored : in_lpcm (row_at record_size 0 table) ≡ false
+      → row_at record_size 0 (table_after table write_came room) ≡ on_bytes configuration_b (λ i old. get_or near_came i 0) (counted (locked (row_at record_size 0 table)))
   unfolding row_at
-  eleven-is-stored awake =
-      let r = row_at recordSize 0 table in
-      let own = row_at payloadSize 1 (drop headSize writeCame) in
-      kept_at table writeCame room eleven-passes eleven-its 0 (omega arith)
-      ∙ ap (λ (n : ℕ). keeps (Writes Wrcfgb) (row_at payloadSize (n - 1) (drop headSize writeCame)) r) two
-      ∙ stores-whole Wrcfgb refl refl refl own r (accepts-awake Wrcfgb own r awake ∙ right-good Wrcfgb own near-right) (opens-always (rulesOf Wrcfgb) (byte_of unlocked r) refl)
-      (λ i h. are-bytes own (unfold all in refl) i)
+  eleven_is_stored awake =
+      let r = row_at record_size 0 table in
+      let own = row_at payload_size 1 (drop head_size write_came) in
+      kept_at table write_came room eleven_passes eleven_its 0 (omega arith)
+      ∙ ap (λ (n : ℕ). keeps (Writes Wrcfgb) (row_at payload_size (n - 1) (drop head_size write_came)) r) two
+      ∙ stores-whole Wrcfgb refl refl refl own r (accepts_awake Wrcfgb own r awake ∙ right-good Wrcfgb own near_right) (opens_always (rules_of Wrcfgb) (byte_of unlocked r) refl)
+      (λ i h. are_bytes own (unfold all in refl) i)
 
-  eleven-far-as-sent : row_at recordSize 1 (tableAfter table writeCame room) ≡ row_at recordSize 1 (tableAfter table writeSent room)
+  eleven_far_as_sent : row_at record_size 1 (table_after table write_came room) ≡ row_at record_size 1 (table_after table write_sent room)
   unfolding row_at
-  eleven-far-as-sent =
-      let r = row_at recordSize 1 table in
-      kept_at table writeCame room eleven-passes eleven-its 1 (omega arith)
-      ∙ ap (λ (n : ℕ). keeps (Writes Wrcfgb) (row_at payloadSize (n - 2) (drop headSize writeCame)) r) two
-      ∙ ap (λ (n : ℕ). keeps (Writes Wrcfgb) (row_at payloadSize (n - 2) (drop headSize writeSent)) r) (sym two)
-      ∙ sym (kept_at table writeSent room (came-passes table writeSent writeSent s ours-here refl refl room) (came-command table writeSent writeSent s ours-here refl refl) 1 (omega arith))
+  eleven_far_as_sent =
+      let r = row_at record_size 1 table in
+      kept_at table write_came room eleven_passes eleven_its 1 (omega arith)
+      ∙ ap (λ (n : ℕ). keeps (Writes Wrcfgb) (row_at payload_size (n - 2) (drop head_size write_came)) r) two
+      ∙ ap (λ (n : ℕ). keeps (Writes Wrcfgb) (row_at payload_size (n - 2) (drop head_size write_sent)) r) (sym two)
+      ∙ sym (kept_at table write_sent room (came-passes table write_sent write_sent s ours_here refl refl room) (came-command table write_sent write_sent s ours_here refl refl) 1 (omega arith))
 
 -- ---- the command
 
-sixteen-is-ours : (n : ℕ) → 1 ≤ n → n ≤ mostMonitors → Ours (Bares Mute) n muteSent
-unfolding commandOf commands buildRefusals frame_for body twoBytes commandCheck pec15 once step remainder bits_of bitsOfBytes ◌⊕◌ xor odd
-sixteen-is-ours n some few =
+sixteen_is_ours : (n : ℕ) → 1 ≤ n → n ≤ most_monitors → Ours (Bares Mute) n mute_sent
+unfolding command_of commands build_refusals frame_for body two_bytes command_check pec15 once step remainder bits_of bits_of_bytes ◌⊕◌ xor odd
+sixteen_is_ours n some few =
     record {
       code = 0x0028;
       values = [];
       its = refl;
-      passed = (refl, (ap₂ (λ (a b : Bool). not (a && b)) (le-leb 1 n some) (le-leb n mostMonitors few), (refl, (refl, tt))));
+      passed = (refl, (ap₂ (λ (a b : Bool). not (a && b)) (le-leb 1 n some) (le-leb n most_monitors few), (refl, (refl, tt))));
       built = refl;
     }
 
-sixteen-spike : Spike 16 muteSent muteCame
-unfolding all bitsOfBytes bits_of odd
-sixteen-spike = spike-of-parts 16 15 (are-bytes muteSent refl) (are-bytes muteCame refl) refl refl (λ e. false≢true (sym e)) refl
+sixteen-spike : Spike 16 mute_sent mute_came
+unfolding all bits_of_bytes bits_of odd
+sixteen-spike = spike_of_parts 16 15 (are_bytes mute_sent refl) (are_bytes mute_came refl) refl refl (λ e. false≢true (sym e)) refl
 
-last-struck : (n : ℕ) → 1 ≤ n → n ≤ mostMonitors → StruckCommand (Bares Mute) n muteSent muteLast
-unfolding all bitsOfBytes bits_of odd
-last-struck n some few =
+last_struck : (n : ℕ) → 1 ≤ n → n ≤ most_monitors → StruckCommand (Bares Mute) n mute_sent mute_last
+unfolding all bits_of_bytes bits_of odd
+last_struck n some few =
     record {
-      ours = sixteen-is-ours n some few;
-      spike = spike-of-parts 15 31 (are-bytes muteSent refl) (are-bytes muteLast refl) refl refl (λ e. false≢true (sym e)) refl;
-      hit-head = λ e. let there = ap (λ (bs : List ℕ). get_or bs 3 0) e in omega (arith, there);
+      ours = sixteen_is_ours n some few;
+      spike = spike_of_parts 15 31 (are_bytes mute_sent refl) (are_bytes mute_last refl) refl refl (λ e. false≢true (sym e)) refl;
+      hit_head = λ e. let there = ap (λ (bs : List ℕ). get_or bs 3 0) e in omega (arith, there);
     }
 
 module _ (table : List ℕ) (room : ℕ) (s : sound table ≡ true) where
-  last-is-refused : answer table muteLast room ≡ Refused CommandWrong
-  last-is-refused = struck-refused-any (last-struck 1 (lit≤ tt) (lit≤ tt)) table room s
+  last_is_refused : answer table mute_last room ≡ Refused CommandWrong
+  last_is_refused = struck_refused_any (last_struck 1 (lit≤ tt) (lit≤ tt)) table room s
 
-  sixteen-its : commandIn muteCame ≡ Bares Unmute
-  unfolding commandIn commandOf commands word_at
+  sixteen-its : command_in mute_came ≡ Bares Unmute
+  unfolding command_in command_of commands word_at
   sixteen-its = refl
 
-  sixteen-passes : Passed (frameRefusals table muteCame room)
-  unfolding frameRefusals commandIn commandOf commands commandRight word_at pec15 once step remainder bits_of bitsOfBytes ◌⊕◌ xor odd
+  sixteen-passes : Passed (frame_refusals table mute_came room)
+  unfolding frame_refusals command_in command_of commands command_right word_at pec15 once step remainder bits_of bits_of_bytes ◌⊕◌ xor odd
   sixteen-passes = (ap not s, (refl, (refl, (refl, (refl, (le-ltb room 0 (omega arith), tt))))))
 
-  sixteen-is-taken : answer table muteCame room ≡ Accepted (monitors table) 0
-  sixteen-is-taken = bare-answer table muteCame room sixteen-passes Unmute sixteen-its
+  sixteen_is_taken : answer table mute_came room ≡ Accepted (monitors table) 0
+  sixteen_is_taken = bare_answer table mute_came room sixteen-passes Unmute sixteen-its
 
-  sixteen-ends-it : (k : ℕ) → k < monitors table → row_at recordSize k (tableAfter table muteCame room) ≡ done Unmute (counted (locked (row_at recordSize k table)))
+  sixteen_ends_it : (k : ℕ) → k < monitors table → row_at record_size k (table_after table mute_came room) ≡ done Unmute (counted (locked (row_at record_size k table)))
   unfolding keeps
-  sixteen-ends-it k h = kept_at table muteCame room sixteen-passes sixteen-its k h
+  sixteen_ends_it k h = kept_at table mute_came room sixteen-passes sixteen-its k h
 
 pub sharp : Sharp
-unfolding signed vov upper byteIn bytes_of
+unfolding signed vov upper byte_in bytes_of
 sharp =
     record {
-      ten = ten-struck;
-      ten-taken = ten-is-taken;
-      eleven-ours = eleven-is-ours;
-      eleven = eleven-spike;
-      eleven-head = refl;
-      eleven-taken = eleven-is-taken;
-      eleven-stored = eleven-is-stored;
-      eleven-vov = (refl, refl);
-      eleven-far = eleven-far-as-sent;
-      last-place = last-struck;
-      last-refused = last-is-refused;
-      sixteen-ours = sixteen-is-ours;
+      ten = ten_struck;
+      ten_taken = ten_is_taken;
+      eleven_ours = eleven_is_ours;
+      eleven = eleven_spike;
+      eleven_head = refl;
+      eleven_taken = eleven_is_taken;
+      eleven_stored = eleven_is_stored;
+      eleven_vov = (refl, refl);
+      eleven_far = eleven_far_as_sent;
+      last_place = last_struck;
+      last-refused = last_is_refused;
+      sixteen-ours = sixteen_is_ours;
       sixteen = sixteen-spike;
-      sixteen-taken = sixteen-is-taken;
-      sixteen-unmutes = sixteen-ends-it;
+      sixteen-taken = sixteen_is_taken;
+      sixteen_unmutes = sixteen_ends_it;
     }

@@ -10,48 +10,48 @@ use lib.Dec.{eqb}
 use lib.ListN.{length}
 use Rattle.laws.specs.Rows.{row_at}
 use Rattle.refusals.specs.declared.Refusal.{Refusal}
-use Rattle.records.specs.Record.{recordSize}
+use Rattle.records.specs.Record.{record_size}
 use Rattle.chain.specs.declared.frames.Answer.TheVariants.{Refused}
 use Rattle.chain.proofs.Refused.{accepted-apart}
-use Rattle.refusals.proofs.Decided.{stays-so}
+use Rattle.refusals.proofs.Decided.{stays_so}
 use Rattle.priorities.specs.declared.outputs.Events.{Events}
 use Rattle.discharge.specs.declared.question.Discharged.TheVariants.{Refused as Unasked, On}
-use Rattle.discharge.specs.Question.{dischargeRefusals, discharged, outputsAfter}
-use Rattle.heartbeats.specs.Steps.{isTimeout, towardsA}
+use Rattle.discharge.specs.Question.{discharge_refusals, discharged, outputs_after}
+use Rattle.heartbeats.specs.Steps.{is_timeout, towards_a}
 use Rattle.passing.specs.declared.operations.Sent.TheVariants.{Unsent, Nothing as None, TowardsA, TowardsB}
 use Rattle.passing.specs.declared.operations.Relayed.TheVariants.{Unrelayed, Stopped, SentOn}
 use Rattle.passing.specs.declared.operations.TimedOut.TheVariants.{Untimed, NoTimeoutMonitor, RanOut}
-use Rattle.passing.specs.Hops.{hopSends}
-use Rattle.passing.specs.Operations.{sentTowards, wakeRefusals, wokenAt, tableAfterWake, outAfterWake, relayRefusals, relayedAt, tableAfterRelay, outAfterRelay, beaten, tableAfterBeat, outAfterBeat, timeOutRefusals, timedOut, tableAfterTimeOut}
+use Rattle.passing.specs.Hops.{hop_sends}
+use Rattle.passing.specs.Operations.{sent_towards, wake_refusals, woken_at, table_after_wake, out_after_wake, relay_refusals, relayed_at, table_after_relay, out_after_relay, beaten, table_after_beat, out_after_beat, time_out_refusals, timed_out, table_after_time_out}
 use Rattle.releasing.specs.declared.looks.Looked.TheVariants.{Refused as Unseen, Holds}
 use Rattle.clocking.specs.Clock.{Clock}
-use Rattle.releasing.specs.Release.{releaseRefusals, released, tableReleased}
-use Rattle.releasing.specs.Look.{lookRefusals, looked, outAfter}
+use Rattle.releasing.specs.Release.{release_refusals, released, table_released}
+use Rattle.releasing.specs.Look.{look_refusals, looked, out_after}
 use Rattle.host.specs.declared.frames.Built.TheVariants.{Unbuilt, Length}
 use Rattle.ports.specs.declared.ports.Port.TheVariants.{Refused as Unported}
-use Rattle.host.specs.Frames.{buildRefusals, built, bufferAfter}
-use Rattle.ports.specs.Ports.{partA, partB, portOf, byPort}
+use Rattle.host.specs.Frames.{build_refusals, built, buffer_after}
+use Rattle.ports.specs.Ports.{part_a, part_b, port_of, by_port}
 use Rattle.ports.specs.Parts.{bytes_of}
 
 -- a release
-pub refused-release : (c : Clock) (table : List ℕ) (r : Refusal) → released c table ≡ Refused r → tableReleased c table ≡ table
-unfolding released tableReleased
-refused-release c table r e = stays-so (releaseRefusals c table) Refused _ r table _ (accepted-apart _ _ r) e
+pub refused_release : (c : Clock) (table : List ℕ) (r : Refusal) → released c table ≡ Refused r → table_released c table ≡ table
+unfolding released table_released
+refused_release c table r e = stays_so (release_refusals c table) Refused _ r table _ (accepted-apart _ _ r) e
 
 -- the discharge outputs
 on-apart : (n : ℕ) (r : Refusal) → On n ≡ Unasked r → ⊥
 on-apart n r e = let z : ◌≡◌ {A = ℕ} 0 1 = cc in omega arith
 
-pub refused-discharge : (table : List ℕ) (position : ℕ) (events : Events) (phase : ℕ) (out : List ℕ) (r : Refusal)
-    → discharged table position events phase (length out) ≡ Unasked r → outputsAfter table position events phase out ≡ out
-unfolding discharged outputsAfter
-refused-discharge table position events phase out r e =
-    stays-so (dischargeRefusals table position phase (length out)) Unasked _ r out _ (on-apart _ r) e
+pub refused_discharge : (table : List ℕ) (position : ℕ) (events : Events) (phase : ℕ) (out : List ℕ) (r : Refusal)
+    → discharged table position events phase (length out) ≡ Unasked r → outputs_after table position events phase out ≡ out
+unfolding discharged outputs_after
+refused_discharge table position events phase out r e =
+    stays_so (discharge_refusals table position phase (length out)) Unasked _ r out _ (on-apart _ r) e
 
 -- a heartbeat: what comes of it where no refusal holds is no refusal
-sent-apart : (r bytes : List ℕ) (e : Refusal) → sentTowards r bytes ≡ Unsent e → ⊥
-unfolding sentTowards
-sent-apart r bytes e = by (eqb (length bytes) 0) (towardsA r)
+sent_apart : (r bytes : List ℕ) (e : Refusal) → sent_towards r bytes ≡ Unsent e → ⊥
+unfolding sent_towards
+sent_apart r bytes e = by (eqb (length bytes) 0) (towards_a r)
   where
     by : (none toA : Bool) → cond none None (cond toA TowardsA TowardsB) ≡ Unsent e → ⊥
     by true toA q = let z : ◌≡◌ {A = ℕ} 0 1 = cc in omega arith
@@ -59,34 +59,34 @@ sent-apart r bytes e = by (eqb (length bytes) 0) (towardsA r)
     by false false q = let z : ◌≡◌ {A = ℕ} 0 1 = cc in omega arith
 
 module _ (table : List ℕ) (position : ℕ) (out : List ℕ) (r : Refusal) where
-  pub refused-wake : wokenAt table position (length out) ≡ Unsent r → (tableAfterWake table position (length out) ≡ table) × (outAfterWake table position out ≡ out)
-  unfolding wokenAt tableAfterWake outAfterWake
-  refused-wake e =
-      let rows = wakeRefusals table position (length out) in
-      (stays-so rows Unsent _ r table _ (sent-apart _ _ r) e, stays-so rows Unsent _ r out _ (sent-apart _ _ r) e)
+  pub refused_wake : woken_at table position (length out) ≡ Unsent r → (table_after_wake table position (length out) ≡ table) × (out_after_wake table position out ≡ out)
+  unfolding woken_at table_after_wake out_after_wake
+  refused_wake e =
+      let rows = wake_refusals table position (length out) in
+      (stays_so rows Unsent _ r table _ (sent_apart _ _ r) e, stays_so rows Unsent _ r out _ (sent_apart _ _ r) e)
 
-  pub refused-beat : beaten table position (length out) ≡ Unsent r → (tableAfterBeat table position (length out) ≡ table) × (outAfterBeat table position out ≡ out)
-  unfolding beaten tableAfterBeat outAfterBeat
-  refused-beat e =
-      let rows = wakeRefusals table position (length out) in
-      (stays-so rows Unsent _ r table _ (sent-apart _ _ r) e, stays-so rows Unsent _ r out _ (sent-apart _ _ r) e)
+  pub refused_beat : beaten table position (length out) ≡ Unsent r → (table_after_beat table position (length out) ≡ table) × (out_after_beat table position out ≡ out)
+  unfolding beaten table_after_beat out_after_beat
+  refused_beat e =
+      let rows = wake_refusals table position (length out) in
+      (stays_so rows Unsent _ r table _ (sent_apart _ _ r) e, stays_so rows Unsent _ r out _ (sent_apart _ _ r) e)
 
-  pub refused-relay : (message : List ℕ) → relayedAt table position message (length out) ≡ Unrelayed r
-      → (tableAfterRelay table position message (length out) ≡ table) × (outAfterRelay table position message out ≡ out)
-  unfolding relayedAt tableAfterRelay outAfterRelay
-  refused-relay message e =
-      let rows = relayRefusals table position (length message) (length out) in
-      let sent = apart (eqb (length (hopSends (position - 1) message table)) 0) in
-      (stays-so rows Unrelayed _ r table _ sent e, stays-so rows Unrelayed _ r out _ sent e)
+  pub refused_relay : (message : List ℕ) → relayed_at table position message (length out) ≡ Unrelayed r
+      → (table_after_relay table position message (length out) ≡ table) × (out_after_relay table position message out ≡ out)
+  unfolding relayed_at table_after_relay out_after_relay
+  refused_relay message e =
+      let rows = relay_refusals table position (length message) (length out) in
+      let sent = apart (eqb (length (hop_sends (position - 1) message table)) 0) in
+      (stays_so rows Unrelayed _ r table _ sent e, stays_so rows Unrelayed _ r out _ sent e)
     where
       apart : (none : Bool) → cond none Stopped SentOn ≡ Unrelayed r → ⊥
       apart true q = let z : ◌≡◌ {A = ℕ} 0 1 = cc in omega arith
       apart false q = let z : ◌≡◌ {A = ℕ} 0 1 = cc in omega arith
 
-pub refused-time : (table : List ℕ) (position : ℕ) (r : Refusal) → timedOut table position ≡ Untimed r → tableAfterTimeOut table position ≡ table
-unfolding timedOut tableAfterTimeOut
-refused-time table position r e =
-    stays-so (timeOutRefusals table position) Untimed _ r table _ (apart (isTimeout (row_at recordSize (position - 1) table))) e
+pub refused_time : (table : List ℕ) (position : ℕ) (r : Refusal) → timed_out table position ≡ Untimed r → table_after_time_out table position ≡ table
+unfolding timed_out table_after_time_out
+refused_time table position r e =
+    stays_so (time_out_refusals table position) Untimed _ r table _ (apart (is_timeout (row_at record_size (position - 1) table))) e
   where
     apart : (its : Bool) → cond its RanOut NoTimeoutMonitor ≡ Untimed r → ⊥
     apart true q = let z : ◌≡◌ {A = ℕ} 0 1 = cc in omega arith
@@ -96,20 +96,20 @@ refused-time table position r e =
 holds-apart : (n : ℕ) (r : Refusal) → Holds n ≡ Unseen r → ⊥
 holds-apart n r e = let z : ◌≡◌ {A = ℕ} 0 1 = cc in omega arith
 
-pub refused-look : (c : Clock) (position : ℕ) (out : List ℕ) (r : Refusal) → looked c position (length out) ≡ Unseen r → outAfter c position out ≡ out
-unfolding looked outAfter
-refused-look c position out r e = stays-so (lookRefusals c position (length out)) Unseen _ r out _ (holds-apart _ r) e
+pub refused_look : (c : Clock) (position : ℕ) (out : List ℕ) (r : Refusal) → looked c position (length out) ≡ Unseen r → out_after c position out ≡ out
+unfolding looked out_after
+refused_look c position out r e = stays_so (look_refusals c position (length out)) Unseen _ r out _ (holds-apart _ r) e
 
 -- a host's frame
 length-apart : (n : ℕ) (r : Refusal) → Length n ≡ Unbuilt r → ⊥
 length-apart n r e = let z : ◌≡◌ {A = ℕ} 0 1 = cc in omega arith
 
-pub refused-build : (code n : ℕ) (values buffer : List ℕ) (r : Refusal) → built code n values (length buffer) ≡ Unbuilt r
-    → bufferAfter code n values buffer ≡ buffer
-unfolding built bufferAfter
-refused-build code n values buffer r e = stays-so (buildRefusals code n values (length buffer)) Unbuilt _ r buffer _ (length-apart _ r) e
+pub refused_build : (code n : ℕ) (values buffer : List ℕ) (r : Refusal) → built code n values (length buffer) ≡ Unbuilt r
+    → buffer_after code n values buffer ≡ buffer
+unfolding built buffer_after
+refused_build code n values buffer r e = stays_so (build_refusals code n values (length buffer)) Unbuilt _ r buffer _ (length-apart _ r) e
 
 -- two ports: beside a refusal number the part handed back is empty
-pub refused-part : (a b : List ℕ) (n k expected : ℕ) (r : Refusal) → portOf a b n k expected ≡ Unported r → bytes_of a b n k expected ≡ []
+pub refused-part : (a b : List ℕ) (n k expected : ℕ) (r : Refusal) → port_of a b n k expected ≡ Unported r → bytes_of a b n k expected ≡ []
 unfolding bytes_of
-refused-part a b n k expected r e = ap (byPort [] (partA a n k) (partB b n k)) e
+refused-part a b n k expected r e = ap (by_port [] (part_a a n k) (part_b b n k)) e

@@ -14,121 +14,121 @@ use Rattle.refusals.specs.declared.Refusal.{Refusal}
 use Rattle.refusals.specs.declared.Refusal.TheVariants.{NoRoom}
 use Rattle.refusals.specs.Numbers.{number_of}
 use Rattle.refusals.specs.Order.{decide}
-use Rattle.refusals.proofs.Deciding.{decide-map, decide-append}
+use Rattle.refusals.proofs.Deciding.{decide-map, decide_append}
 use Rattle.chain.specs.declared.frames.Answer.TheVariants.{Refused}
-use Rattle.chain.specs.Frame.{frameRefusals, answer}
+use Rattle.chain.specs.Frame.{frame_refusals, answer}
 use Rattle.priorities.specs.declared.outputs.Events.{Events}
 use Rattle.discharge.specs.declared.question.Discharged.TheVariants.{Refused as Unasked}
-use Rattle.discharge.specs.Question.{dischargeRefusals, discharged}
+use Rattle.discharge.specs.Question.{discharge_refusals, discharged}
 use Rattle.releasing.specs.declared.looks.Looked.TheVariants.{Refused as Unseen}
 use Rattle.clocking.specs.Clock.{Clock}
-use Rattle.releasing.specs.Release.{releaseRefusals, released}
-use Rattle.releasing.specs.Look.{lookRefusals, looked}
+use Rattle.releasing.specs.Release.{release_refusals, released}
+use Rattle.releasing.specs.Look.{look_refusals, looked}
 use Rattle.host.specs.declared.frames.Built.TheVariants.{Unbuilt}
 use Rattle.ports.specs.declared.checks.Checked.{Checked}
 use Rattle.ports.specs.declared.checks.Checked.TheVariants.{Unchecked, Right, CounterDiffers, Damaged}
 use Rattle.ports.specs.declared.ports.Port.{Port}
 use Rattle.ports.specs.declared.ports.Port.TheVariants.{Refused as Unported, A, B}
-use Rattle.host.specs.Frames.{buildRefusals, built}
-use Rattle.ports.specs.Check.{checkRefusals, checked}
+use Rattle.host.specs.Frames.{build_refusals, built}
+use Rattle.ports.specs.Check.{check_refusals, checked}
 use Rattle.messages.specs.declared.verdicts.Verdict.TheVariants.{Refused as Unjudged, Passed as Good, Failed, Damaged as MessageDamaged, TimedOut}
-use Rattle.messages.specs.Messages.{countIn, flagsIn, messageRight, isPass}
-use Rattle.messages.specs.Verdicts.{verdictRefusals, verdictOf, verdict}
-use Rattle.ports.specs.Ports.{portRefusals, portOf}
+use Rattle.messages.specs.Messages.{count_in, flags_in, message_right, is_pass}
+use Rattle.messages.specs.Verdicts.{verdict_refusals, verdict_of, verdict}
+use Rattle.ports.specs.Ports.{port_refusals, port_of}
 use Rattle.passing.specs.declared.operations.Sent.{Sent}
 use Rattle.passing.specs.declared.operations.Sent.TheVariants.{Unsent, Nothing as None, TowardsA, TowardsB}
 use Rattle.passing.specs.declared.operations.Relayed.{Relayed}
 use Rattle.passing.specs.declared.operations.Relayed.TheVariants.{Unrelayed, Stopped, SentOn}
 use Rattle.passing.specs.declared.operations.TimedOut.{TimedOut as Timed}
 use Rattle.passing.specs.declared.operations.TimedOut.TheVariants.{Untimed, NoTimeoutMonitor, RanOut}
-use Rattle.passing.specs.Operations.{wakeRefusals, wokenAt, relayRefusals, relayedAt, beaten, timeOutRefusals, timedOut}
+use Rattle.passing.specs.Operations.{wake_refusals, woken_at, relay_refusals, relayed_at, beaten, time_out_refusals, timed_out}
 use Rattle.readings.specs.declared.pack_summary.Pack.{Pack}
 use Rattle.readings.specs.declared.pack_summary.Pack.TheVariants.{Refused as Unsummed, Nothing, Whole}
-use Rattle.readings.specs.Readings.{measured, whole_of, summaryOf}
-use Rattle.story.specs.Numbers.{checkedNumbers, portNumbers, sentNumbers, relayedNumbers, timedNumbers, firstNumber, summaryRefusals}
-use Rattle.story.proofs.Numbers.{checked-number as told-checked, port-number as told-port, wake-number as told-wake, beat-number as told-beat, relay-number as told-relay, time-number as told-time}
+use Rattle.readings.specs.Readings.{measured, whole_of, summary_of}
+use Rattle.story.specs.Numbers.{checked_numbers, port_numbers, sent_numbers, relayed_numbers, timed_numbers, first_number, summary_refusals}
+use Rattle.story.proofs.Numbers.{checked-number as told-checked, port_number as told-port, wake_number as told-wake, beat_number as told-beat, relay_number as told-relay, time_number as told-time}
 use Rattle.packing.specs.Packed.{Parts, refused, accepted}
-use Rattle.door.specs.Answers.{builtParts, checkedParts, portParts, verdictParts}
-use Rattle.door.specs.Volts.{summarySize, roomRow, summaryParts, summaryOut}
-use Rattle.oskorbine.specs.Answers.{frameParts, dischargedParts, sentParts, relayedParts, timedParts, lookedParts}
+use Rattle.door.specs.Answers.{built_parts, checked_parts, port_parts, verdict_parts}
+use Rattle.door.specs.Volts.{summary_size, room_row, summary_parts, summary_out}
+use Rattle.oskorbine.specs.Answers.{frame_parts, discharged_parts, sent_parts, relayed_parts, timed_parts, looked_parts}
 
-pub frame-number : (table frame : List ℕ) (room : ℕ) → (frameParts (answer table frame room)).number ≡ firstNumber (frameRefusals table frame room)
+pub frame-number : (table frame : List ℕ) (room : ℕ) → (frame_parts (answer table frame room)).number ≡ first_number (frame_refusals table frame room)
 unfolding answer
-frame-number table frame room = decide-map (λ x. (frameParts x).number) (frameRefusals table frame room) Refused _
+frame-number table frame room = decide-map (λ x. (frame_parts x).number) (frame_refusals table frame room) Refused _
 
-pub release-number : (c : Clock) (table : List ℕ) → (frameParts (released c table)).number ≡ firstNumber (releaseRefusals c table)
+pub release_number : (c : Clock) (table : List ℕ) → (frame_parts (released c table)).number ≡ first_number (release_refusals c table)
 unfolding released
-release-number c table = decide-map (λ x. (frameParts x).number) (releaseRefusals c table) Refused _
+release_number c table = decide-map (λ x. (frame_parts x).number) (release_refusals c table) Refused _
 
-pub discharge-number : (table : List ℕ) (position : ℕ) (events : Events) (phase room : ℕ)
-    → (dischargedParts (discharged table position events phase room)).number ≡ firstNumber (dischargeRefusals table position phase room)
+pub discharge_number : (table : List ℕ) (position : ℕ) (events : Events) (phase room : ℕ)
+    → (discharged_parts (discharged table position events phase room)).number ≡ first_number (discharge_refusals table position phase room)
 unfolding discharged
-discharge-number table position events phase room = decide-map (λ x. (dischargedParts x).number) (dischargeRefusals table position phase room) Unasked _
+discharge_number table position events phase room = decide-map (λ x. (discharged_parts x).number) (discharge_refusals table position phase room) Unasked _
 
-pub look-number : (c : Clock) (position room : ℕ) → (lookedParts (looked c position room)).number ≡ firstNumber (lookRefusals c position room)
+pub look_number : (c : Clock) (position room : ℕ) → (looked_parts (looked c position room)).number ≡ first_number (look_refusals c position room)
 unfolding looked
-look-number c position room = decide-map (λ x. (lookedParts x).number) (lookRefusals c position room) Unseen _
+look_number c position room = decide-map (λ x. (looked_parts x).number) (look_refusals c position room) Unseen _
 
-pub built-number : (code n : ℕ) (values : List ℕ) (room : ℕ) → (builtParts (built code n values room)).number ≡ firstNumber (buildRefusals code n values room)
+pub built-number : (code n : ℕ) (values : List ℕ) (room : ℕ) → (built_parts (built code n values room)).number ≡ first_number (build_refusals code n values room)
 unfolding built
-built-number code n values room = decide-map (λ x. (builtParts x).number) (buildRefusals code n values room) Unbuilt _
+built-number code n values room = decide-map (λ x. (built_parts x).number) (build_refusals code n values room) Unbuilt _
 
 -- the parts of an answer of a check, of two ports and of a heartbeat have the number that demand 1 has
-same-checked : (c : Checked) → (checkedParts c).number ≡ (checkedNumbers c).number
+same-checked : (c : Checked) → (checked_parts c).number ≡ (checked_numbers c).number
 same-checked (Unchecked r) = refl
 same-checked Right = refl
 same-checked (CounterDiffers c) = refl
 same-checked Damaged = refl
 
-same-port : (n k : ℕ) (p : Port) → (portParts n k p).number ≡ (portNumbers p).number
-same-port n k (Unported r) = refl
-same-port n k (A true) = refl
-same-port n k (A false) = refl
-same-port n k (B true) = refl
-same-port n k (B false) = refl
+same_port : (n k : ℕ) (p : Port) → (port_parts n k p).number ≡ (port_numbers p).number
+same_port n k (Unported r) = refl
+same_port n k (A true) = refl
+same_port n k (A false) = refl
+same_port n k (B true) = refl
+same_port n k (B false) = refl
 
-same_sent : (s : Sent) → (sentParts s).number ≡ (sentNumbers s).number
+same_sent : (s : Sent) → (sent_parts s).number ≡ (sent_numbers s).number
 same_sent (Unsent r) = refl
 same_sent None = refl
 same_sent TowardsA = refl
 same_sent TowardsB = refl
 
-same-relayed : (m : Relayed) → (relayedParts m).number ≡ (relayedNumbers m).number
+same-relayed : (m : Relayed) → (relayed_parts m).number ≡ (relayed_numbers m).number
 same-relayed (Unrelayed r) = refl
 same-relayed Stopped = refl
 same-relayed SentOn = refl
 
-same-timed : (t : Timed) → (timedParts t).number ≡ (timedNumbers t).number
-same-timed (Untimed r) = refl
-same-timed NoTimeoutMonitor = refl
-same-timed RanOut = refl
+same_timed : (t : Timed) → (timed_parts t).number ≡ (timed_numbers t).number
+same_timed (Untimed r) = refl
+same_timed NoTimeoutMonitor = refl
+same_timed RanOut = refl
 
-pub checked-number : (payload : List ℕ) (expected : ℕ) → (checkedParts (checked payload expected)).number ≡ firstNumber (checkRefusals payload expected)
+pub checked-number : (payload : List ℕ) (expected : ℕ) → (checked_parts (checked payload expected)).number ≡ first_number (check_refusals payload expected)
 checked-number payload expected = same-checked (checked payload expected) ∙ told-checked payload expected
 
-pub port-number : (a b : List ℕ) (n k expected : ℕ) → (portParts n k (portOf a b n k expected)).number ≡ firstNumber (portRefusals a b n k expected)
-port-number a b n k expected = same-port n k (portOf a b n k expected) ∙ told-port a b n k expected
+pub port_number : (a b : List ℕ) (n k expected : ℕ) → (port_parts n k (port_of a b n k expected)).number ≡ first_number (port_refusals a b n k expected)
+port_number a b n k expected = same_port n k (port_of a b n k expected) ∙ told-port a b n k expected
 
 module _ (table : List ℕ) (position : ℕ) where
-  pub wake-number : (room : ℕ) → (sentParts (wokenAt table position room)).number ≡ firstNumber (wakeRefusals table position room)
-  wake-number room = same_sent (wokenAt table position room) ∙ told-wake table position room
+  pub wake_number : (room : ℕ) → (sent_parts (woken_at table position room)).number ≡ first_number (wake_refusals table position room)
+  wake_number room = same_sent (woken_at table position room) ∙ told-wake table position room
 
-  pub beat-number : (room : ℕ) → (sentParts (beaten table position room)).number ≡ firstNumber (wakeRefusals table position room)
-  beat-number room = same_sent (beaten table position room) ∙ told-beat table position room
+  pub beat_number : (room : ℕ) → (sent_parts (beaten table position room)).number ≡ first_number (wake_refusals table position room)
+  beat_number room = same_sent (beaten table position room) ∙ told-beat table position room
 
-  pub relay-number : (message : List ℕ) (room : ℕ) → (relayedParts (relayedAt table position message room)).number ≡ firstNumber (relayRefusals table position (length message) room)
-  relay-number message room = same-relayed (relayedAt table position message room) ∙ told-relay table position message room
+  pub relay_number : (message : List ℕ) (room : ℕ) → (relayed_parts (relayed_at table position message room)).number ≡ first_number (relay_refusals table position (length message) room)
+  relay_number message room = same-relayed (relayed_at table position message room) ∙ told-relay table position message room
 
-  pub time-number : (timedParts (timedOut table position)).number ≡ firstNumber (timeOutRefusals table position)
-  time-number = same-timed (timedOut table position) ∙ told-time table position
+  pub time_number : (timed_parts (timed_out table position)).number ≡ first_number (time_out_refusals table position)
+  time_number = same_timed (timed_out table position) ∙ told-time table position
 
-pub verdict-number : (bytes : List ℕ) (late : Bool) → (verdictParts (verdict bytes late)).number ≡ firstNumber (verdictRefusals bytes late)
-unfolding verdict verdictOf
+pub verdict-number : (bytes : List ℕ) (late : Bool) → (verdict_parts (verdict bytes late)).number ≡ first_number (verdict_refusals bytes late)
+unfolding verdict verdict_of
 verdict-number bytes late =
-    decide-map (λ x. (verdictParts x).number) (verdictRefusals bytes late) Unjudged _
-    ∙ ap (decide (verdictRefusals bytes late) number_of) (none late (messageRight bytes) (isPass (countIn bytes) (flagsIn bytes)))
+    decide-map (λ x. (verdict_parts x).number) (verdict_refusals bytes late) Unjudged _
+    ∙ ap (decide (verdict_refusals bytes late) number_of) (none late (message_right bytes) (is_pass (count_in bytes) (flags_in bytes)))
   where
-    none : (l r p : Bool) → (verdictParts (cond l TimedOut (cond (not r) MessageDamaged (cond p Good (Failed (countIn bytes) (flagsIn bytes)))))).number ≡ 0
+    none : (l r p : Bool) → (verdict_parts (cond l TimedOut (cond (not r) MessageDamaged (cond p Good (Failed (count_in bytes) (flags_in bytes)))))).number ≡ 0
     none true r p = refl
     none false false p = refl
     none false true true = refl
@@ -137,33 +137,33 @@ verdict-number bytes late =
 -- ---- a summary
 
 -- 8, then 6
-pub summary-number : (codes : List ℤ) (room : ℕ)
-    → (summaryParts (summaryOf codes) room).number ≡ firstNumber (summaryRefusals codes ++ roomRow room ∷ [])
-unfolding summaryOf whole_of
-summary-number codes room =
-    decide-map (λ x. (summaryParts x room).number) (summaryRefusals codes) Unsummed (whole_of (measured codes))
-    ∙ ap (decide (summaryRefusals codes) number_of) (by-room (measured codes))
-    ∙ sym (decide-append (summaryRefusals codes) (roomRow room ∷ []) number_of 0)
+pub summary_number : (codes : List ℤ) (room : ℕ)
+    → (summary_parts (summary_of codes) room).number ≡ first_number (summary_refusals codes ++ room_row room ∷ [])
+unfolding summary_of whole_of
+summary_number codes room =
+    decide-map (λ x. (summary_parts x room).number) (summary_refusals codes) Unsummed (whole_of (measured codes))
+    ∙ ap (decide (summary_refusals codes) number_of) (by_room (measured codes))
+    ∙ sym (decide_append (summary_refusals codes) (room_row room ∷ []) number_of 0)
   where
-    by-room : (ms : List ℤ) → (summaryParts (whole_of ms) room).number ≡ firstNumber (roomRow room ∷ [])
-    by-room [] = decide-map (λ p. p.number) (roomRow room ∷ []) refused _
-    by-room (m ∷ ms) = decide-map (λ p. p.number) (roomRow room ∷ []) refused _
+    by_room : (ms : List ℤ) → (summary_parts (whole_of ms) room).number ≡ first_number (room_row room ∷ [])
+    by_room [] = decide-map (λ p. p.number) (room_row room ∷ []) refused _
+    by_room (m ∷ ms) = decide-map (λ p. p.number) (room_row room ∷ []) refused _
 
 -- where it is refused the buffer stays
-pub summary-stays : (codes : List ℤ) (out : List Float) (r : Refusal) → summaryParts (summaryOf codes) (length out) ≡ refused r
-    → summaryOut (summaryOf codes) out ≡ out
+pub summary_stays : (codes : List ℤ) (out : List Float) (r : Refusal) → summary_parts (summary_of codes) (length out) ≡ refused r
+    → summary_out (summary_of codes) out ≡ out
 unfolding decide
-summary-stays codes out r = by (summaryOf codes)
+summary_stays codes out r = by (summary_of codes)
   where
     stays : (cells : ℕ) (written : List Float) (b : Bool) → cond b (refused NoRoom) (accepted 1 cells) ≡ refused r → cond b out written ≡ out
     stays cells written true e = refl
     stays cells written false e = absurd (omega (arith, ap (λ (p : Parts). p.first) e))
 
-    by : (p : Pack) → summaryParts p (length out) ≡ refused r → summaryOut p out ≡ out
+    by : (p : Pack) → summary_parts p (length out) ≡ refused r → summary_out p out ≡ out
     by (Unsummed r') e = refl
     by Nothing e = refl
-    by (Whole s) e = stays s.cells _ (ltb (length out) summarySize) e
+    by (Whole s) e = stays s.cells _ (ltb (length out) summary_size) e
 
 -- and where all cells are cleared
-pub nothing-stays : (codes : List ℤ) (out : List Float) → summaryOf codes ≡ Nothing → summaryOut (summaryOf codes) out ≡ out
-nothing-stays codes out e = ap (λ (p : Pack). summaryOut p out) e
+pub nothing_stays : (codes : List ℤ) (out : List Float) → summary_of codes ≡ Nothing → summary_out (summary_of codes) out ≡ out
+nothing_stays codes out e = ap (λ (p : Pack). summary_out p out) e

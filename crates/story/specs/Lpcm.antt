@@ -7,19 +7,19 @@ use Rattle.records.specs.declared.commands.Command.{Command}
 use Rattle.records.specs.declared.commands.Command.TheVariants.{Reads, Writes, Bares, Unlisted}
 
 -- CMC_EN after a command
-abbrev pub enabledBy : Bare → Bool → Bool
-enabledBy Mute on = on
-enabledBy Unmute on = on
-enabledBy Rstcc on = on
-enabledBy Ulrr on = on
-enabledBy Clrcell on = on
-enabledBy Snap on = on
-enabledBy Unsnap on = on
-enabledBy Cmen on = true
-enabledBy Cmdis on = false
+abbrev pub enabled_by : Bare → Bool → Bool
+enabled_by Mute on = on
+enabled_by Unmute on = on
+enabled_by Rstcc on = on
+enabled_by Ulrr on = on
+enabled_by Clrcell on = on
+enabled_by Snap on = on
+enabled_by Unsnap on = on
+enabled_by Cmen on = true
+enabled_by Cmdis on = false
 
-abbrev pub enabledAfter : Command → Bool → Bool
-enabledAfter (Reads p) on = on
-enabledAfter (Writes c) on = on
-enabledAfter (Bares c) on = enabledBy c on
-enabledAfter Unlisted on = on
+abbrev pub enabled_after : Command → Bool → Bool
+enabled_after (Reads p) on = on
+enabled_after (Writes c) on = on
+enabled_after (Bares c) on = enabled_by c on
+enabled_after Unlisted on = on

@@ -3,55 +3,55 @@
 -- Assumes nothing.
 use Rattle.std.specs.Prelude.{◌≡◌, Bool, true, false, cond, not, ◌&&◌, List, [], map, reverse, ℕ, ◌-◌, ◌*◌, ◌≤◌, ◌<◌, length}
 use Rattle.laws.specs.Rows.{rows, row_at}
-use Rattle.wire.specs.Order.{replyData}
+use Rattle.wire.specs.Order.{reply_data}
 use Rattle.records.specs.declared.commands.Command.TheVariants.{Writes}
 use Rattle.records.specs.declared.commands.Write.{Write}
 use Rattle.records.specs.declared.record.Part.{Part}
-use Rattle.records.specs.Record.{recordSize, counter, inLpcm, byte_of}
-use Rattle.records.specs.Commands.{payloadSize}
-use Rattle.monitor.specs.Effects.{nextCount}
+use Rattle.records.specs.Record.{record_size, counter, in_lpcm, byte_of}
+use Rattle.records.specs.Commands.{payload_size}
+use Rattle.monitor.specs.Effects.{next_count}
 use Rattle.reads.specs.Reply.{reply}
 use Rattle.judging.specs.Table.{monitors}
-use Rattle.chain.specs.Frame.{tableAfter, replyAfter}
+use Rattle.chain.specs.Frame.{table_after, reply_after}
 use Rattle.host.specs.Frames.{frame_for}
 use Rattle.ports.specs.declared.checks.Checked.TheVariants.{Right, CounterDiffers}
 use Rattle.ports.specs.declared.ports.Port.TheVariants.{A, B}
-use Rattle.ports.specs.Verdicts.{isDamaged}
+use Rattle.ports.specs.Verdicts.{is_damaged}
 use Rattle.ports.specs.Check.{checked}
-use Rattle.ports.specs.Ports.{partA, partB, portOf}
+use Rattle.ports.specs.Ports.{part_a, part_b, port_of}
 use Rattle.story.specs.Spikes.{unhit}
 
 -- n monitors have one counter
 abbrev pub OneCounter : ℕ → List ℕ → ℕ → Type 0
-OneCounter n table old = (k : ℕ) → k < n → byte_of counter (row_at recordSize k table) ≡ old
+OneCounter n table old = (k : ℕ) → k < n → byte_of counter (row_at record_size k table) ≡ old
 
 -- what a read of our host leaves in a buffer, after a frame
-abbrev pub readAfter : List ℕ → List ℕ → ℕ → ℕ → List ℕ → List ℕ
-readAfter table frame room code buffer = replyAfter (tableAfter table frame room) (frame_for code (monitors table) []) buffer
+abbrev pub read_after : List ℕ → List ℕ → ℕ → ℕ → List ℕ → List ℕ
+read_after table frame room code buffer = reply_after (table_after table frame room) (frame_for code (monitors table) []) buffer
 
 -- what n monitors reply to a read as it comes to port A, and to port B
-abbrev pub fromA : Part → ℕ → List ℕ → List ℕ
-fromA part n table = replyData (map (reply part) (rows recordSize n table))
+abbrev pub from_a : Part → ℕ → List ℕ → List ℕ
+from_a part n table = reply_data (map (reply part) (rows record_size n table))
 
-abbrev pub fromB : Part → ℕ → List ℕ → List ℕ
-fromB part n table = replyData (reverse (map (reply part) (rows recordSize n table)))
+abbrev pub from_b : Part → ℕ → List ℕ → List ℕ
+from_b part n table = reply_data (reverse (map (reply part) (rows record_size n table)))
 
 -- monitor k's reply, k counted from 1, as our host sees it from both ports: right against the counter that it expects, or with another, the one received. Asked
 -- by two ports the host answers from A, where A's bytes came damaged from B, and where B's did from A
 pub record SeenAs (part : Part) (n : ℕ) (table : List ℕ) (k expected : ℕ) (right : Bool) (received : ℕ) : Type 0 where
-  pub at_a : checked (partA (fromA part n table) n k) expected ≡ cond right Right (CounterDiffers received)
-  pub at_b : checked (partB (fromB part n table) n k) expected ≡ cond right Right (CounterDiffers received)
-  pub from-both : portOf (fromA part n table) (fromB part n table) n k expected ≡ A (not right)
-  pub a-damaged : (a : List ℕ) → length a ≡ payloadSize * n → isDamaged (partA a n k) ≡ true → portOf a (fromB part n table) n k expected ≡ B (not right)
-  pub b-damaged : (b : List ℕ) → length b ≡ payloadSize * n → isDamaged (partB b n k) ≡ true → portOf (fromA part n table) b n k expected ≡ A (not right)
+  pub at_a : checked (part_a (from_a part n table) n k) expected ≡ cond right Right (CounterDiffers received)
+  pub at_b : checked (part_b (from_b part n table) n k) expected ≡ cond right Right (CounterDiffers received)
+  pub from_both : port_of (from_a part n table) (from_b part n table) n k expected ≡ A (not right)
+  pub a_damaged : (a : List ℕ) → length a ≡ payload_size * n → is_damaged (part_a a n k) ≡ true → port_of a (from_b part n table) n k expected ≡ B (not right)
+  pub b_damaged : (b : List ℕ) → length b ≡ payload_size * n → is_damaged (part_b b n k) ≡ true → port_of (from_a part n table) b n k expected ≡ A (not right)
 
 -- each monitor of a table is seen so after a write that came with some monitors' checks wrong, against the counter after its own: right where it was not hit and is
 -- not in LPCM, and with the counter that it had where it was or is
 abbrev pub EachSeen : Write → Part → List ℕ → List ℕ → List ℕ → List ℕ → Type 0
 EachSeen c part table sent came after =
     (k : ℕ) → 1 ≤ k → k ≤ monitors table
-    → let r = row_at recordSize (k - 1) table in
-    SeenAs part (monitors table) after k (nextCount (byte_of counter r)) (not (inLpcm r) && unhit (Writes c) (monitors table) sent came (k - 1)) (byte_of counter r)
+    → let r = row_at record_size (k - 1) table in
+    SeenAs part (monitors table) after k (next_count (byte_of counter r)) (not (in_lpcm r) && unhit (Writes c) (monitors table) sent came (k - 1)) (byte_of counter r)
 
 -- some monitor of them is seen with another counter
 pub record SomeDiffer (part : Part) (n : ℕ) (table : List ℕ) (expected received : ℕ) : Type 0 where

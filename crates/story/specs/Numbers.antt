@@ -28,7 +28,7 @@ use Rattle.passing.specs.declared.operations.TimedOut.TheVariants.{Untimed, NoTi
 use Rattle.readings.specs.declared.pack_summary.Pack.{Pack}
 use Rattle.readings.specs.declared.pack_summary.Pack.TheVariants.{Refused as Unsummed, Nothing, Whole}
 use Rattle.readings.specs.declared.pack_summary.Summary.{Summary}
-use Rattle.readings.specs.Readings.{mostCodes}
+use Rattle.readings.specs.Readings.{most_codes}
 
 -- a number, and what comes with it where it is 0
 pub record Numbered (Value : Type 0) : Type 0 where
@@ -36,77 +36,77 @@ pub record Numbered (Value : Type 0) : Type 0 where
   pub values : List Value
 
 -- the discharge outputs: how many are on. Their bytes come beside it
-abbrev pub dischargedNumbers : Discharged → Numbered ℕ
-dischargedNumbers (Unasked r) = record { number = number_of r; values = [] }
-dischargedNumbers (On n) = record { number = 0; values = n ∷ [] }
+abbrev pub discharged_numbers : Discharged → Numbered ℕ
+discharged_numbers (Unasked r) = record { number = number_of r; values = [] }
+discharged_numbers (On n) = record { number = 0; values = n ∷ [] }
 
 -- a manager that wakes, and a whole heartbeat: the port that a message is sent towards, or left at. Its bytes come beside it
-abbrev pub sentNumbers : Sent → Numbered ℕ
-sentNumbers (Unsent r) = record { number = number_of r; values = [] }
-sentNumbers None = record { number = 0; values = 0 ∷ [] }
-sentNumbers TowardsA = record { number = 0; values = 1 ∷ [] }
-sentNumbers TowardsB = record { number = 0; values = 2 ∷ [] }
+abbrev pub sent_numbers : Sent → Numbered ℕ
+sent_numbers (Unsent r) = record { number = number_of r; values = [] }
+sent_numbers None = record { number = 0; values = 0 ∷ [] }
+sent_numbers TowardsA = record { number = 0; values = 1 ∷ [] }
+sent_numbers TowardsB = record { number = 0; values = 2 ∷ [] }
 
 -- a message that reaches a monitor: is it sent on
-abbrev pub relayedNumbers : Relayed → Numbered Bool
-relayedNumbers (Unrelayed r) = record { number = number_of r; values = [] }
-relayedNumbers Stopped = record { number = 0; values = false ∷ [] }
-relayedNumbers SentOn = record { number = 0; values = true ∷ [] }
+abbrev pub relayed_numbers : Relayed → Numbered Bool
+relayed_numbers (Unrelayed r) = record { number = number_of r; values = [] }
+relayed_numbers Stopped = record { number = 0; values = false ∷ [] }
+relayed_numbers SentOn = record { number = 0; values = true ∷ [] }
 
 -- the time that runs out: is it a timeout monitor's
-abbrev pub timedNumbers : Timed → Numbered Bool
-timedNumbers (Untimed r) = record { number = number_of r; values = [] }
-timedNumbers NoTimeoutMonitor = record { number = 0; values = false ∷ [] }
-timedNumbers RanOut = record { number = 0; values = true ∷ [] }
+abbrev pub timed_numbers : Timed → Numbered Bool
+timed_numbers (Untimed r) = record { number = number_of r; values = [] }
+timed_numbers NoTimeoutMonitor = record { number = 0; values = false ∷ [] }
+timed_numbers RanOut = record { number = 0; values = true ∷ [] }
 
 -- a host's frame: its length
-abbrev pub builtNumbers : Built → Numbered ℕ
-builtNumbers (Unbuilt r) = record { number = number_of r; values = [] }
-builtNumbers (Length n) = record { number = 0; values = n ∷ [] }
+abbrev pub built_numbers : Built → Numbered ℕ
+built_numbers (Unbuilt r) = record { number = number_of r; values = [] }
+built_numbers (Length n) = record { number = 0; values = n ∷ [] }
 
 -- the check of one payload: which of the three, and where its counter differs the one received
-abbrev pub checkedNumbers : Checked → Numbered ℕ
-checkedNumbers (Unchecked r) = record { number = number_of r; values = [] }
-checkedNumbers Right = record { number = 0; values = 1 ∷ [] }
-checkedNumbers Damaged = record { number = 0; values = 2 ∷ [] }
-checkedNumbers (CounterDiffers c) = record { number = 0; values = 3 ∷ c ∷ [] }
+abbrev pub checked_numbers : Checked → Numbered ℕ
+checked_numbers (Unchecked r) = record { number = number_of r; values = [] }
+checked_numbers Right = record { number = 0; values = 1 ∷ [] }
+checked_numbers Damaged = record { number = 0; values = 2 ∷ [] }
+checked_numbers (CounterDiffers c) = record { number = 0; values = 3 ∷ c ∷ [] }
 
 -- the two ports: which of them, and whether its counter differs. The bytes come from the function beside it
-abbrev pub portNumbers : Port → Numbered ℕ
-portNumbers (Refused r) = record { number = number_of r; values = [] }
-portNumbers (A false) = record { number = 0; values = 1 ∷ [] }
-portNumbers (B false) = record { number = 0; values = 2 ∷ [] }
-portNumbers (A true) = record { number = 0; values = 3 ∷ [] }
-portNumbers (B true) = record { number = 0; values = 4 ∷ [] }
+abbrev pub port_numbers : Port → Numbered ℕ
+port_numbers (Refused r) = record { number = number_of r; values = [] }
+port_numbers (A false) = record { number = 0; values = 1 ∷ [] }
+port_numbers (B false) = record { number = 0; values = 2 ∷ [] }
+port_numbers (A true) = record { number = 0; values = 3 ∷ [] }
+port_numbers (B true) = record { number = 0; values = 4 ∷ [] }
 
 -- the verdict on a heartbeat: which of the four, and where it failed the count and the flags
-abbrev pub verdictNumbers : Verdict → Numbered ℕ
-verdictNumbers (Unjudged r) = record { number = number_of r; values = [] }
-verdictNumbers Passed = record { number = 0; values = 1 ∷ [] }
-verdictNumbers (Failed count flags) = record { number = 0; values = 2 ∷ count ∷ flags ∷ [] }
-verdictNumbers MessageDamaged = record { number = 0; values = 3 ∷ [] }
-verdictNumbers TimedOut = record { number = 0; values = 4 ∷ [] }
+abbrev pub verdict_numbers : Verdict → Numbered ℕ
+verdict_numbers (Unjudged r) = record { number = number_of r; values = [] }
+verdict_numbers Passed = record { number = 0; values = 1 ∷ [] }
+verdict_numbers (Failed count flags) = record { number = 0; values = 2 ∷ count ∷ flags ∷ [] }
+verdict_numbers MessageDamaged = record { number = 0; values = 3 ∷ [] }
+verdict_numbers TimedOut = record { number = 0; values = 4 ∷ [] }
 
 -- a look at a window: how many bytes it holds
-abbrev pub lookedNumbers : Looked → Numbered ℕ
-lookedNumbers (Unseen r) = record { number = number_of r; values = [] }
-lookedNumbers (Holds n) = record { number = 0; values = n ∷ [] }
+abbrev pub looked_numbers : Looked → Numbered ℕ
+looked_numbers (Unseen r) = record { number = number_of r; values = [] }
+looked_numbers (Holds n) = record { number = 0; values = n ∷ [] }
 
 -- a summary; none where all cells are cleared
-abbrev pub packNumbers : Pack → Numbered Summary
-packNumbers (Unsummed r) = record { number = number_of r; values = [] }
-packNumbers Nothing = record { number = 0; values = [] }
-packNumbers (Whole s) = record { number = 0; values = s ∷ [] }
+abbrev pub pack_numbers : Pack → Numbered Summary
+pack_numbers (Unsummed r) = record { number = number_of r; values = [] }
+pack_numbers Nothing = record { number = 0; values = [] }
+pack_numbers (Whole s) = record { number = 0; values = s ∷ [] }
 
 -- what a summary's refusal asks
-abbrev pub summaryRefusals : List ℤ → List Row
-summaryRefusals codes = (not (leb 1 (length codes) && leb (length codes) mostCodes) gives CountWrong) ∷ []
+abbrev pub summary_refusals : List ℤ → List Row
+summary_refusals codes = (not (leb 1 (length codes) && leb (length codes) most_codes) gives CountWrong) ∷ []
 
 -- ---- the first refusal that holds
 
 -- its number, and 0 where none does
-abbrev pub firstNumber : List Row → ℕ
-firstNumber rows = decide rows number_of 0
+abbrev pub first_number : List Row → ℕ
+first_number rows = decide rows number_of 0
 
 -- r's condition holds, and none before it
 abbrev pub First : List Row → Refusal → Type 0

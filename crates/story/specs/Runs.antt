@@ -5,28 +5,28 @@
 use Rattle.std.specs.Prelude.{Bool, not, ◌&&◌, ◌||◌, List, [], ◌∷◌, map, ℕ, ◌-◌, ◌*◌, ◌≤◌, ℤ, length, take, drop}
 use Rattle.laws.specs.Counts.{count}
 use Rattle.laws.specs.Rows.{rows, row_at, joined, along}
-use Rattle.pec.specs.Words.{sealedRight}
-use Rattle.wire.specs.Order.{replyData}
+use Rattle.pec.specs.Words.{sealed_right}
+use Rattle.wire.specs.Order.{reply_data}
 use Rattle.refusals.specs.Order.{Row, decide}
 use Rattle.records.specs.declared.commands.Command.{Command}
 use Rattle.records.specs.declared.commands.Command.TheVariants.{Reads, Writes, Bares, Unlisted}
 use Rattle.records.specs.declared.commands.Write.{Write}
-use Rattle.records.specs.Record.{recordSize, inLpcm}
-use Rattle.writes.specs.Writes.{rulesOf}
+use Rattle.records.specs.Record.{record_size, in_lpcm}
+use Rattle.writes.specs.Writes.{rules_of}
 use Rattle.monitor.specs.Effects.{keeps}
 use Rattle.reads.specs.Reply.{reply}
-use Rattle.records.specs.Commands.{dataSize, payloadSize, replyLength}
+use Rattle.records.specs.Commands.{data_size, payload_size, reply_length}
 use Rattle.chain.specs.declared.frames.Answer.{Answer}
 use Rattle.chain.specs.declared.frames.Answer.TheVariants.{Refused, Accepted}
-use Rattle.judging.specs.Table.{monitors, changedAt}
-use Rattle.judging.specs.Refusals.{commandIn, tableRow, shortRow, commandRow, listedRow, lengthRow}
-use Rattle.serving.specs.Served.{payloadsIn}
-use Rattle.chain.specs.Frame.{answer, tableAfter, replyAfter}
-use Rattle.chain.specs.Numbers.{numbersOf}
+use Rattle.judging.specs.Table.{monitors, changed_at}
+use Rattle.judging.specs.Refusals.{command_in, table_row, short_row, command_row, listed_row, length_row}
+use Rattle.serving.specs.Served.{payloads_in}
+use Rattle.chain.specs.Frame.{answer, table_after, reply_after}
+use Rattle.chain.specs.Numbers.{numbers_of}
 use Rattle.cells.specs.Cells.{store, compare}
 use Rattle.loads.specs.declared.loads.Loaded.{Loaded}
 use Rattle.loads.specs.declared.loads.Loaded.TheVariants.{Unloaded, Done}
-use Rattle.loads.specs.Load.{storeRefusals, stored, tableAfterStore, compareRefusals, compared, tableAfterCompare}
+use Rattle.loads.specs.Load.{store_refusals, stored, table_after_store, compare_refusals, compared, table_after_compare}
 use Rattle.heartbeats.specs.Steps.{late}
 use Rattle.passing.specs.declared.operations.Sent.{Sent}
 use Rattle.passing.specs.declared.operations.Sent.TheVariants.{Unsent}
@@ -34,31 +34,31 @@ use Rattle.passing.specs.declared.operations.Relayed.{Relayed}
 use Rattle.passing.specs.declared.operations.Relayed.TheVariants.{Unrelayed}
 use Rattle.passing.specs.declared.operations.TimedOut.{TimedOut}
 use Rattle.passing.specs.declared.operations.TimedOut.TheVariants.{Untimed}
-use Rattle.passing.specs.Hops.{wakeSends, wakeLeaves, hopSends, hopLeaves, beatSends, beatLeaves}
+use Rattle.passing.specs.Hops.{wake_sends, wake_leaves, hop_sends, hop_leaves, beat_sends, beat_leaves}
 use Rattle.passing.specs.Operations.{
-  handedOut,
-  sentTowards,
-  sentOn,
-  ranOut,
-  wakeRefusals,
-  wokenAt,
-  tableAfterWake,
-  outAfterWake,
-  relayRefusals,
-  relayedAt,
-  tableAfterRelay,
-  outAfterRelay,
+  handed_out,
+  sent_towards,
+  sent_on,
+  ran_out,
+  wake_refusals,
+  woken_at,
+  table_after_wake,
+  out_after_wake,
+  relay_refusals,
+  relayed_at,
+  table_after_relay,
+  out_after_relay,
   beaten,
-  tableAfterBeat,
-  outAfterBeat,
-  timeOutRefusals,
-  timedOut,
-  tableAfterTimeOut,
+  table_after_beat,
+  out_after_beat,
+  time_out_refusals,
+  timed_out,
+  table_after_time_out,
 }
 use Rattle.clocking.specs.Clock.{answered}
-use Rattle.releasing.specs.Release.{released, tableReleased}
+use Rattle.releasing.specs.Release.{released, table_released}
 use Rattle.clock_state.specs.State.{idle}
-use Rattle.clocking.specs.Bytes.{clockOf, stateAfter}
+use Rattle.clocking.specs.Bytes.{clock_of, state_after}
 
 -- ---- what happens to a chain, and what is seen of it
 
@@ -103,8 +103,8 @@ abbrev pub saw : Seen → Left → Left
 saw one later = record { table = later.table; seen = one ∷ later.seen }
 
 -- how many bytes of a reply an answer tells of
-abbrev pub replyBytes : Answer → ℕ
-replyBytes a = (numbersOf a).reply
+abbrev pub reply_bytes : Answer → ℕ
+reply_bytes a = (numbers_of a).reply
 
 -- ---- by the rules
 
@@ -114,29 +114,29 @@ pub record Step : Type 0 where
   pub seen : Seen
 
 -- refusals 1 to 5, in their order: a full reply always has room
-unfoldable pub ruleRefusals : List ℕ → List ℕ → List Row
-ruleRefusals table frame =
-    tableRow table
-    ∷ shortRow (length frame)
-    ∷ commandRow (take 4 frame)
-    ∷ listedRow frame
-    ∷ lengthRow (length frame) (commandIn frame) (monitors table)
+unfoldable pub rule_refusals : List ℕ → List ℕ → List Row
+rule_refusals table frame =
+    table_row table
+    ∷ short_row (length frame)
+    ∷ command_row (take 4 frame)
+    ∷ listed_row frame
+    ∷ length_row (length frame) (command_in frame) (monitors table)
     ∷ []
 
 -- a monitor takes a write: it is not in LPCM, and its own bytes are right, or the write does not need its check right
-unfoldable pub takesWrite : Write → List ℕ → List ℕ → Bool
-takesWrite c r own = not (inLpcm r) && (not (rulesOf c).needs_check || sealedRight (dataSize c) own)
+unfoldable pub takes_write : Write → List ℕ → List ℕ → Bool
+takes_write c r own = not (in_lpcm r) && (not (rules_of c).needs_check || sealed_right (data_size c) own)
 
 -- how many of n monitors took a frame: of a write those that take it, each by its own record and its own bytes, of any other listed command all
-unfoldable pub takersOf : Command → ℕ → List ℕ → List ℕ → ℕ
-takersOf (Writes c) n table frame = count (λ took. took) (along (takesWrite c) (rows recordSize n table) (payloadsIn (Writes c) frame n))
-takersOf (Reads part) n table frame = n
-takersOf (Bares c) n table frame = n
-takersOf Unlisted n table frame = 0
+unfoldable pub takers_of : Command → ℕ → List ℕ → List ℕ → ℕ
+takers_of (Writes c) n table frame = count (λ took. took) (along (takes_write c) (rows record_size n table) (payloads_in (Writes c) frame n))
+takers_of (Reads part) n table frame = n
+takers_of (Bares c) n table frame = n
+takers_of Unlisted n table frame = 0
 
 -- what n monitors reply, nearest first
 unfoldable pub replies : Command → ℕ → List ℕ → List ℕ
-replies (Reads part) n table = replyData (map (reply part) (rows recordSize n table))
+replies (Reads part) n table = reply_data (map (reply part) (rows record_size n table))
 replies (Writes c) n table = []
 replies (Bares c) n table = []
 replies Unlisted n table = []
@@ -145,102 +145,102 @@ replies Unlisted n table = []
 unfoldable pub obeyed : Command → ℕ → List ℕ → List ℕ → Step
 obeyed c n table frame =
     record {
-      table = joined (along (λ r own. keeps c own r) (rows recordSize n table) (payloadsIn c frame n));
-      seen = Answered (Accepted (takersOf c n table frame) (replyLength c n)) (replies c n table);
+      table = joined (along (λ r own. keeps c own r) (rows record_size n table) (payloads_in c frame n));
+      seen = Answered (Accepted (takers_of c n table frame) (reply_length c n)) (replies c n table);
     }
 
 -- a refusal gives its number and changes nothing
 unfoldable pub operated : List ℕ → Operation → Step
 operated table (Store position codes) =
-    decide (storeRefusals table position codes) (λ r. record { table = table; seen = StoreAnswered (Unloaded r) })
-    (record { table = changedAt (position - 1) (store codes) table; seen = StoreAnswered Done })
+    decide (store_refusals table position codes) (λ r. record { table = table; seen = StoreAnswered (Unloaded r) })
+    (record { table = changed_at (position - 1) (store codes) table; seen = StoreAnswered Done })
 operated table (Compare position) =
-    decide (compareRefusals table position) (λ r. record { table = table; seen = CompareAnswered (Unloaded r) })
-    (record { table = changedAt (position - 1) compare table; seen = CompareAnswered Done })
+    decide (compare_refusals table position) (λ r. record { table = table; seen = CompareAnswered (Unloaded r) })
+    (record { table = changed_at (position - 1) compare table; seen = CompareAnswered Done })
 operated table (Wake position out) =
     let k = position - 1 in
-    decide (wakeRefusals table position (length out)) (λ r. record { table = table; seen = WakeAnswered (Unsent r) out })
-    (record { table = wakeLeaves k table; seen = WakeAnswered (sentTowards (row_at recordSize k table) (wakeSends k table)) (handedOut (wakeSends k table) out) })
+    decide (wake_refusals table position (length out)) (λ r. record { table = table; seen = WakeAnswered (Unsent r) out })
+    (record { table = wake_leaves k table; seen = WakeAnswered (sent_towards (row_at record_size k table) (wake_sends k table)) (handed_out (wake_sends k table) out) })
 operated table (Relay position message out) =
     let k = position - 1 in
-    decide (relayRefusals table position (length message) (length out)) (λ r. record { table = table; seen = RelayAnswered (Unrelayed r) out })
-    (record { table = hopLeaves k message table; seen = RelayAnswered (sentOn (hopSends k message table)) (handedOut (hopSends k message table) out) })
+    decide (relay_refusals table position (length message) (length out)) (λ r. record { table = table; seen = RelayAnswered (Unrelayed r) out })
+    (record { table = hop_leaves k message table; seen = RelayAnswered (sent_on (hop_sends k message table)) (handed_out (hop_sends k message table) out) })
 operated table (Heartbeat position out) =
     let k = position - 1 in
-    decide (wakeRefusals table position (length out)) (λ r. record { table = table; seen = HeartbeatAnswered (Unsent r) out })
-    (record { table = beatLeaves k table; seen = HeartbeatAnswered (sentTowards (row_at recordSize k table) (beatSends k table)) (handedOut (beatSends k table) out) })
+    decide (wake_refusals table position (length out)) (λ r. record { table = table; seen = HeartbeatAnswered (Unsent r) out })
+    (record { table = beat_leaves k table; seen = HeartbeatAnswered (sent_towards (row_at record_size k table) (beat_sends k table)) (handed_out (beat_sends k table) out) })
 operated table (TimeOut position) =
     let k = position - 1 in
-    decide (timeOutRefusals table position) (λ r. record { table = table; seen = TimeOutAnswered (Untimed r) })
-    (record { table = changedAt k late table; seen = TimeOutAnswered (ranOut (row_at recordSize k table)) })
+    decide (time_out_refusals table position) (λ r. record { table = table; seen = TimeOutAnswered (Untimed r) })
+    (record { table = changed_at k late table; seen = TimeOutAnswered (ran_out (row_at record_size k table)) })
 
 unfoldable pub ruled : List ℕ → Event → Step
 ruled table (Frame frame) =
-    decide (ruleRefusals table frame) (λ r. record { table = table; seen = Answered (Refused r) [] }) (obeyed (commandIn frame) (monitors table) table frame)
+    decide (rule_refusals table frame) (λ r. record { table = table; seen = Answered (Refused r) [] }) (obeyed (command_in frame) (monitors table) table frame)
 ruled table (Beside operation) = operated table operation
 
-unfoldable pub byRules : List ℕ → List Event → Left
-byRules table [] = record { table = table; seen = [] }
-byRules table (event ∷ events) = saw (ruled table event).seen (byRules (ruled table event).table events)
+unfoldable pub by_rules : List ℕ → List Event → Left
+by_rules table [] = record { table = table; seen = [] }
+by_rules table (event ∷ events) = saw (ruled table event).seen (by_rules (ruled table event).table events)
 
 -- ---- an operation, which goes by no engine: `loads::store` promises `stored` and `tableAfterStore`, `loads::compare` `compared` and `tableAfterCompare`,
 -- `passing::wake` `wokenAt`, `tableAfterWake` and `outAfterWake`, `passing::relay` `relayedAt`, `tableAfterRelay` and `outAfterRelay`, `passing::heartbeat`
 -- `beaten`, `tableAfterBeat` and `outAfterBeat`, and `passing::time_out` `timedOut` and `tableAfterTimeOut`
 
 unfoldable pub promised : List ℕ → Operation → Step
-promised table (Store position codes) = record { table = tableAfterStore table position codes; seen = StoreAnswered (stored table position codes) }
-promised table (Compare position) = record { table = tableAfterCompare table position; seen = CompareAnswered (compared table position) }
+promised table (Store position codes) = record { table = table_after_store table position codes; seen = StoreAnswered (stored table position codes) }
+promised table (Compare position) = record { table = table_after_compare table position; seen = CompareAnswered (compared table position) }
 promised table (Wake position out) =
-    record { table = tableAfterWake table position (length out); seen = WakeAnswered (wokenAt table position (length out)) (outAfterWake table position out) }
+    record { table = table_after_wake table position (length out); seen = WakeAnswered (woken_at table position (length out)) (out_after_wake table position out) }
 promised table (Relay position message out) =
     record {
-      table = tableAfterRelay table position message (length out);
-      seen = RelayAnswered (relayedAt table position message (length out)) (outAfterRelay table position message out);
+      table = table_after_relay table position message (length out);
+      seen = RelayAnswered (relayed_at table position message (length out)) (out_after_relay table position message out);
     }
 promised table (Heartbeat position out) =
-    record { table = tableAfterBeat table position (length out); seen = HeartbeatAnswered (beaten table position (length out)) (outAfterBeat table position out) }
-promised table (TimeOut position) = record { table = tableAfterTimeOut table position; seen = TimeOutAnswered (timedOut table position) }
+    record { table = table_after_beat table position (length out); seen = HeartbeatAnswered (beaten table position (length out)) (out_after_beat table position out) }
+promised table (TimeOut position) = record { table = table_after_time_out table position; seen = TimeOutAnswered (timed_out table position) }
 
 -- ---- by whole frames: `chain::handle` promises `answer`, `tableAfter` and `replyAfter`. A reply buffer is lent, and lent again as it was left; a reply is its
 -- first bytes
 
-unfoldable pub byFrames : List ℕ → List ℕ → List Event → Left
-byFrames table buffer [] = record { table = table; seen = [] }
-byFrames table buffer (Frame frame ∷ events) =
+unfoldable pub by_frames : List ℕ → List ℕ → List Event → Left
+by_frames table buffer [] = record { table = table; seen = [] }
+by_frames table buffer (Frame frame ∷ events) =
     let said = answer table frame (length buffer) in
-    let left = replyAfter table frame buffer in
-    saw (Answered said (take (replyBytes said) left)) (byFrames (tableAfter table frame (length buffer)) left events)
-byFrames table buffer (Beside operation ∷ events) =
-    let step = promised table operation in saw step.seen (byFrames step.table buffer events)
+    let left = reply_after table frame buffer in
+    saw (Answered said (take (reply_bytes said) left)) (by_frames (table_after table frame (length buffer)) left events)
+by_frames table buffer (Beside operation ∷ events) =
+    let step = promised table operation in saw step.seen (by_frames step.table buffer events)
 
 -- ---- by clocked bytes: `clocked::start` promises `idle` of the state, `clocked::clock` `stateAfter` and the byte `answered`, and
 -- `clocked::release` `released`, `tableReleased`, and `idle` of the state. A state is lent, and lent again as it was left; a reply is
 -- what came back after the fourth byte
 
 -- the state after the bytes of a frame, one by one
-unfoldable pub stateAfterAll : List ℕ → List ℕ → List ℕ → List ℕ
-stateAfterAll table [] state = state
-stateAfterAll table (byte ∷ bytes) state = stateAfterAll table bytes (stateAfter table byte state)
+unfoldable pub state_after_all : List ℕ → List ℕ → List ℕ → List ℕ
+state_after_all table [] state = state
+state_after_all table (byte ∷ bytes) state = state_after_all table bytes (state_after table byte state)
 
 -- the byte that came back for each
-unfoldable pub cameBack : List ℕ → List ℕ → List ℕ → List ℕ
-cameBack table [] state = []
-cameBack table (byte ∷ bytes) state = answered (clockOf state) ∷ cameBack table bytes (stateAfter table byte state)
+unfoldable pub came_back : List ℕ → List ℕ → List ℕ → List ℕ
+came_back table [] state = []
+came_back table (byte ∷ bytes) state = answered (clock_of state) ∷ came_back table bytes (state_after table byte state)
 
 -- a state that a frame is started with, whatever its bytes were
 abbrev pub started : List ℕ → List ℕ
 started state = idle
 
 -- a frame is started, its bytes are clocked in, and it is released
-unfoldable pub byBytes : List ℕ → List ℕ → List Event → Left
-byBytes table state [] = record { table = table; seen = [] }
-byBytes table state (Frame frame ∷ events) =
-    let clock = clockOf (stateAfterAll table frame (started state)) in
+unfoldable pub by_bytes : List ℕ → List ℕ → List Event → Left
+by_bytes table state [] = record { table = table; seen = [] }
+by_bytes table state (Frame frame ∷ events) =
+    let clock = clock_of (state_after_all table frame (started state)) in
     let said = released clock table in
-    let back = drop 4 (cameBack table frame (started state)) in
-    saw (Answered said (take (replyBytes said) back)) (byBytes (tableReleased clock table) idle events)
-byBytes table state (Beside operation ∷ events) =
-    let step = promised table operation in saw step.seen (byBytes step.table state events)
+    let back = drop 4 (came_back table frame (started state)) in
+    saw (Answered said (take (reply_bytes said) back)) (by_bytes (table_released clock table) idle events)
+by_bytes table state (Beside operation ∷ events) =
+    let step = promised table operation in saw step.seen (by_bytes step.table state events)
 
 -- ---- by either engine
 
@@ -252,9 +252,9 @@ pub data Engine : Type 0 where
 
 -- a reply buffer has room for eight bytes a monitor; any state will do
 abbrev pub Ready : Engine → List ℕ → Type 0
-Ready (WholeFrames buffer) table = payloadSize * monitors table ≤ length buffer
+Ready (WholeFrames buffer) table = payload_size * monitors table ≤ length buffer
 Ready (ClockedBytes state) table = Unit {0}
 
 abbrev pub by : Engine → List ℕ → List Event → Left
-by (WholeFrames buffer) table events = byFrames table buffer events
-by (ClockedBytes state) table events = byBytes table state events
+by (WholeFrames buffer) table events = by_frames table buffer events
+by (ClockedBytes state) table events = by_bytes table state events

@@ -2,41 +2,41 @@
 -- Assumes nothing.
 use Rattle.std.specs.Prelude.{◌≡◌, Bool, true, false, List, [], ◌∷◌, ◌++◌, ℕ, zero, suc, length, take}
 use Rattle.laws.specs.Rows.{row_at, joined}
-use Rattle.pec.specs.Words.{commandRight}
+use Rattle.pec.specs.Words.{command_right}
 use Rattle.refusals.specs.Order.{Passed}
 use Rattle.records.specs.declared.commands.Bare.{Bare}
 use Rattle.records.specs.declared.commands.Bare.TheVariants.{Mute, Unmute, Rstcc, Ulrr, Clrcell, Snap, Unsnap, Cmen, Cmdis}
 use Rattle.records.specs.declared.commands.Command.{Command}
 use Rattle.records.specs.declared.commands.Command.TheVariants.{Reads, Writes, Bares, Unlisted}
 use Rattle.records.specs.declared.record.Part.{Part}
-use Rattle.records.specs.Commands.{rdcva, rdcvb, rdcvc, rdcvd, rdcve, rdcvf, registerSize, payloadSize}
-use Rattle.judging.specs.Refusals.{commandIn}
-use Rattle.story.specs.Runs.{Event, Frame, Beside, Seen, Answered, StoreAnswered, CompareAnswered, WakeAnswered, RelayAnswered, HeartbeatAnswered, TimeOutAnswered, ruleRefusals}
+use Rattle.records.specs.Commands.{rdcva, rdcvb, rdcvc, rdcvd, rdcve, rdcvf, register_size, payload_size}
+use Rattle.judging.specs.Refusals.{command_in}
+use Rattle.story.specs.Runs.{Event, Frame, Beside, Seen, Answered, StoreAnswered, CompareAnswered, WakeAnswered, RelayAnswered, HeartbeatAnswered, TimeOutAnswered, rule_refusals}
 
 -- ---- SNAP_ST after a command
 
-abbrev pub snappedBy : Bare → Bool → Bool
-snappedBy Mute on = on
-snappedBy Unmute on = on
-snappedBy Rstcc on = on
-snappedBy Ulrr on = on
-snappedBy Clrcell on = on
-snappedBy Snap on = true
-snappedBy Unsnap on = false
-snappedBy Cmen on = on
-snappedBy Cmdis on = on
+abbrev pub snapped_by : Bare → Bool → Bool
+snapped_by Mute on = on
+snapped_by Unmute on = on
+snapped_by Rstcc on = on
+snapped_by Ulrr on = on
+snapped_by Clrcell on = on
+snapped_by Snap on = true
+snapped_by Unsnap on = false
+snapped_by Cmen on = on
+snapped_by Cmdis on = on
 
-abbrev pub snappedAfter : Command → Bool → Bool
-snappedAfter (Reads p) on = on
-snappedAfter (Writes c) on = on
-snappedAfter (Bares c) on = snappedBy c on
-snappedAfter Unlisted on = on
+abbrev pub snapped_after : Command → Bool → Bool
+snapped_after (Reads p) on = on
+snapped_after (Writes c) on = on
+snapped_after (Bares c) on = snapped_by c on
+snapped_after Unlisted on = on
 
 -- ---- lists of events without some one bare command
 
 -- an event that is one: its four bytes, with their check right
 abbrev pub Is : Bare → Event → Type 0
-Is c (Frame frame) = (length frame ≡ 4) × ((commandRight (take 4 frame) ≡ true) × (commandIn frame ≡ Bares c))
+Is c (Frame frame) = (length frame ≡ 4) × ((command_right (take 4 frame) ≡ true) × (command_in frame ≡ Bares c))
 Is c (Beside operation) = ⊥
 
 abbrev pub Without : Bare → List Event → Type 0
@@ -46,28 +46,28 @@ Without c (event ∷ events) = (Is c event → ⊥) × Without c events
 -- ---- what a monitor shows
 
 -- the reply that was seen of an event; none of an operation beside frames
-abbrev pub replyOf : Seen → List ℕ
-replyOf (Answered said bytes) = bytes
-replyOf (StoreAnswered said) = []
-replyOf (CompareAnswered said) = []
-replyOf (WakeAnswered said out) = []
-replyOf (RelayAnswered said out) = []
-replyOf (HeartbeatAnswered said out) = []
-replyOf (TimeOutAnswered said) = []
+abbrev pub reply_of : Seen → List ℕ
+reply_of (Answered said bytes) = bytes
+reply_of (StoreAnswered said) = []
+reply_of (CompareAnswered said) = []
+reply_of (WakeAnswered said out) = []
+reply_of (RelayAnswered said out) = []
+reply_of (HeartbeatAnswered said out) = []
+reply_of (TimeOutAnswered said) = []
 
 -- and at a place of what was seen, counted from 0
-abbrev pub replyAt : ℕ → List Seen → List ℕ
-replyAt i [] = []
-replyAt zero (one ∷ later) = replyOf one
-replyAt (suc i) (one ∷ later) = replyAt i later
+abbrev pub reply_at : ℕ → List Seen → List ℕ
+reply_at i [] = []
+reply_at zero (one ∷ later) = reply_of one
+reply_at (suc i) (one ∷ later) = reply_at i later
 
 -- what the monitor at k shows in a reply: the first six of its eight bytes
-abbrev pub shownAt : ℕ → List ℕ → List ℕ
-shownAt k reply = take registerSize (row_at payloadSize k reply)
+abbrev pub shown_at : ℕ → List ℕ → List ℕ
+shown_at k reply = take register_size (row_at payload_size k reply)
 
 -- and of a read that stands behind a first frame and other events, in what was seen of them all
-abbrev pub shownBehind : List Event → ℕ → List Seen → List ℕ
-shownBehind before k seen = shownAt k (replyAt (suc (length before)) seen)
+abbrev pub shown_behind : List Event → ℕ → List Seen → List ℕ
+shown_behind before k seen = shown_at k (reply_at (suc (length before)) seen)
 
 -- a read of a part that stands in a list of events, with no c before it. It is accepted, by the table that the events begin with: what
 -- is accepted of a frame goes by the table's soundness and its monitors alone, and both stay
@@ -77,8 +77,8 @@ pub record ReadIn (c : Bare) (events : List Event) (table : List ℕ) (p : Part)
   pub after : List Event
   pub there : before ++ Frame frame ∷ after ≡ events
   pub quiet : Without c before
-  pub accepted : Passed (ruleRefusals table frame)
-  pub its : commandIn frame ≡ Reads p
+  pub accepted : Passed (rule_refusals table frame)
+  pub its : command_in frame ≡ Reads p
 
 -- a long read: the six cell reads, each somewhere in a list of events, with no UNSNAP before it
 pub record LongRead (events : List Event) (table : List ℕ) : Type 0 where
@@ -90,13 +90,13 @@ pub record LongRead (events : List Event) (table : List ℕ) : Type 0 where
   pub f : ReadIn Unsnap events table rdcvf
 
 -- and what the monitor at k shows in it, from cell 1 on
-abbrev pub longShown : {events : List Event} {table : List ℕ} → LongRead events table → ℕ → List Seen → List ℕ
-longShown reads k seen =
+abbrev pub long_shown : {events : List Event} {table : List ℕ} → LongRead events table → ℕ → List Seen → List ℕ
+long_shown reads k seen =
     joined
-    (shownBehind reads.a.before k seen
-    ∷ shownBehind reads.b.before k seen
-    ∷ shownBehind reads.c.before k seen
-    ∷ shownBehind reads.d.before k seen
-    ∷ shownBehind reads.e.before k seen
-    ∷ shownBehind reads.f.before k seen
+    (shown_behind reads.a.before k seen
+    ∷ shown_behind reads.b.before k seen
+    ∷ shown_behind reads.c.before k seen
+    ∷ shown_behind reads.d.before k seen
+    ∷ shown_behind reads.e.before k seen
+    ∷ shown_behind reads.f.before k seen
     ∷ [])

@@ -26,8 +26,8 @@ unfolding signed
 signed_high k {n} h = ap (λ (b : Bool). cond b (pos n) (negsuc (2 ^ k - suc n))) (le-ltb n (2 ^ (k - 1)) h)
 
 -- a number with a larger one taken away, in a word of w
-pub taken-away : (w : Width) {n m : ℕ} → n < 2 ^ hbits w → n ≤ m → to_z w n +ℤ negsuc m ≡ negsuc (suc m - suc n)
-taken-away w {n} {m} fits h =
+pub taken_away : (w : Width) {n m : ℕ} → n < 2 ^ hbits w → n ≤ m → to_z w n +ℤ negsuc m ≡ negsuc (suc m - suc n)
+taken_away w {n} {m} fits h =
     ap (λ (z : ℤ). z +ℤ negsuc m) (to_z_pos w fits)
     ∙ ap (λ (b : Bool). cond b (negsuc (suc m - suc n)) (pos (n - suc m))) (lt-ltb n (suc m) (omega arith))
 
@@ -42,10 +42,10 @@ module _ {w : Width} (v : Width) {z : ℤ} (wider : T (leb (hbits w) (hbits v)))
   widened = ap (λ (y : ℤ). to_z v (of_z v y)) (to_z-of_z fits) ∙ to_z-of_z (sfits_widen wider fits)
 
 -- a number of 16 bits, times at most 16, fits 32
-pub times-fit : (m : ℕ) (z : ℤ) → m ≤ 16 → SFits w16 z → SFits w32 (z *ℤ pos m)
-times-fit m (pos n) h f = omega (arith, mul-le-mul_left n h)
-times-fit m (negsuc n) h f = omega (arith, mag-neg (suc n * m), mul-le-mul_left (suc n) h)
+pub times_fit : (m : ℕ) (z : ℤ) → m ≤ 16 → SFits w16 z → SFits w32 (z *ℤ pos m)
+times_fit m (pos n) h f = omega (arith, mul-le-mul_left n h)
+times_fit m (negsuc n) h f = omega (arith, mag_neg (suc n * m), mul-le-mul_left (suc n) h)
   where
-    mag-neg : (r : ℕ) → mag (neg_ℤ (pos r)) ≤ r
-    mag-neg zero = omega arith
-    mag-neg (suc r) = omega arith
+    mag_neg : (r : ℕ) → mag (neg_ℤ (pos r)) ≤ r
+    mag_neg zero = omega arith
+    mag_neg (suc r) = omega arith

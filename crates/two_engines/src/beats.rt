@@ -1,7 +1,7 @@
 // After a frame: one of the four operations of a heartbeat on both engines' tables. What is drawn, and in what order, stands in
 // tools/two-engines-model too.
 ghost use Rattle.std.specs.Prelude.{◌+◌, ◌*◌, ◌<◌, ◌≤◌};
-ghost use Rattle.records.specs.Record.{recordSize};
+ghost use Rattle.records.specs.Record.{record_size};
 
 use crate::asleep::put_to_sleep;
 use crate::book::{BEATS, count};
@@ -108,8 +108,8 @@ fn near_eight(drawn: usize) -> usize
 // At times of no monitor of the chain, and at times a byte of the table is not lent. The message is mostly right; at times it has flags or
 // counter bits.
 fn operation_drawn(kind: usize, n: usize, size: usize, luck: usize) -> Operation
-    requires { (n ≤ 32) × (0 < size) × (size ≤ 32 * recordSize + 1) }
-    ensures { (result.size ≤ 32 * recordSize + 1) × (result.length ≤ 9) × (result.room ≤ 9) }
+    requires { (n ≤ 32) × (0 < size) × (size ≤ 32 * record_size + 1) }
+    ensures { (result.size ≤ 32 * record_size + 1) × (result.length ≤ 9) × (result.room ≤ 9) }
 {
     let position = draw(luck, n + 2);
     let short = draw(position.luck, 16);
@@ -168,7 +168,7 @@ fn operated(
     one: Outcome,
     other: Outcome,
 ) -> World
-    requires { (o.size ≤ 32 * recordSize + 1) × (o.length ≤ 9) × (o.room ≤ 9) }
+    requires { (o.size ≤ 32 * record_size + 1) × (o.length ≤ 9) × (o.room ≤ 9) }
 {
     let length = o.length;
     let lent = &message[0..length];
@@ -194,7 +194,7 @@ fn position_in(kind: usize, pick: usize, drawn: usize, manager: usize, other: us
 // After the chain was put to sleep; once in eight times it is kept.
 fn operated_asleep(mut w: World, n: usize, mut o: Operation, one: Outcome, other: Outcome) -> World
     requires n_nonzero { (0 < n) × (n ≤ 32) }
-    requires size_bound { (o.size ≤ 32 * recordSize + 1) × (o.length ≤ 9) × (o.room ≤ 9) }
+    requires size_bound { (o.size ≤ 32 * record_size + 1) × (o.length ≤ 9) × (o.room ≤ 9) }
 {
     let mut a = one;
     let mut b = other;
@@ -221,7 +221,7 @@ pub(crate) fn now_and_then_operated(
     one: Outcome,
     other: Outcome,
 ) -> World
-    requires { (0 < n) × (n ≤ 32) × (0 < size) × (size ≤ 32 * recordSize + 1) }
+    requires { (0 < n) × (n ≤ 32) × (0 < size) × (size ≤ 32 * record_size + 1) }
 {
     let kind = draw(w.luck, KINDS + 1);
     let sleep = draw(kind.luck, 2);

@@ -1,7 +1,7 @@
 // A frame clocked by hand: a byte at a time, with looks at the windows between, and a release. The table that is lent with a byte
 // matters with byte four alone; another N or an unsound table there, or another N at the release, is refusal 1.
 ghost use Rattle.std.specs.Prelude.{◌+◌, ◌*◌, ◌<◌, ◌≤◌};
-ghost use Rattle.records.specs.Record.{recordSize};
+ghost use Rattle.records.specs.Record.{record_size};
 
 use crate::book::{NUMBERS_BY_HAND, numbered};
 use crate::digest::{adler, step};
@@ -20,7 +20,7 @@ const RELEASE: usize = 2;
 // How many bytes of the table are lent, in one of eight ways.
 fn lent(way: usize, time: usize, n: usize) -> usize
     requires { (way < 8) × (0 < n) × (n ≤ 32) }
-    ensures { result ≤ 32 * recordSize + 1 }
+    ensures { result ≤ 32 * record_size + 1 }
 {
     match 3 * way + time % 3 {
         // another N at the release, or with byte four
@@ -54,7 +54,7 @@ fn due(table: Outcome, way: usize, n: usize, frame: &[u8]) -> Outcome
 
 // Byte i, counted from 0, with so many bytes of a table. What it answers after byte four goes to the buffer, as far as that has room.
 fn clock_one(mut w: World, table: Outcome, size: usize, i: usize, byte: u8) -> World
-    requires { size ≤ 32 * recordSize + 1 }
+    requires { size ≤ 32 * record_size + 1 }
 {
     let end = TABLE + size;
     let mut state = w.state;
@@ -84,7 +84,7 @@ fn clock_all(world: World, table: Outcome, way: usize, n: usize, frame: &[u8]) -
 // What comes of the release, with so many bytes of the table, and what is due. What was answered after byte four is a reply only where a read
 // is accepted.
 fn released(mut w: World, before: Outcome, size: usize, due: Outcome) -> World
-    requires { size ≤ 32 * recordSize + 1 }
+    requires { size ≤ 32 * record_size + 1 }
 {
     let mut table = before;
     let end = TABLE + size;

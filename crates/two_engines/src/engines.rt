@@ -1,6 +1,6 @@
 // One frame through both engines, from equal tables and equal reply buffers.
 ghost use Rattle.std.specs.Prelude.{◌+◌, ◌*◌, ◌<◌, ◌≤◌};
-ghost use Rattle.records.specs.Record.{recordSize};
+ghost use Rattle.records.specs.Record.{record_size};
 
 use crate::beats::{KINDS, now_and_then_operated, operate};
 use crate::book::{COMMANDS, FRAMES, NUMBERS, OFFERED, READS, TOOK, count, numbered};
@@ -33,7 +33,7 @@ pub(crate) fn through(
     bytes: &[u8],
     room: usize,
 ) -> Outcome
-    requires { (size ≤ 32 * recordSize + 1) × (room ≤ 272) }
+    requires { (size ≤ 32 * record_size + 1) × (room ≤ 272) }
 {
     let mut table = lent;
     let mut out = BEFORE;
@@ -82,7 +82,7 @@ fn followed(
     one: Outcome,
     other: Outcome,
 ) -> World
-    requires { (0 < n) × (n ≤ 32) × (0 < size) × (size ≤ 32 * recordSize + 1) }
+    requires { (0 < n) × (n ≤ 32) × (0 < size) × (size ≤ 32 * record_size + 1) }
 {
     let w = asked(weighed(w, &one, &other), n, size, one, other);
     let w = noted(w, n, command, lent, one);

@@ -60,7 +60,7 @@ fn head_bit(luck: usize) -> Drawn {
 // A code and its check.
 fn put_head(frame: &mut [u8], code: u16) {
     lay(frame, 0, 2, code as usize);
-    bytes::put(frame, 2, &check_words::command_check(code));
+    laying::put(frame, 2, &check_words::command_check(code));
 }
 
 // The first four bytes of a frame: now and then of a code that is not listed. What luck is left is answered.
@@ -85,7 +85,7 @@ pub(crate) fn put_check(frame: &mut [u8], at: usize, size: usize)
 {
     let end = at + size;
     let check = remainders::seal(&frame[at..end], frame[end] / 4);
-    bytes::put(frame, end, &check);
+    laying::put(frame, end, &check);
 }
 
 // In some frames now and then a bit of a payload.

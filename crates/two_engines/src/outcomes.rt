@@ -34,7 +34,7 @@ pub(crate) fn head_of(came: Numbers) -> usize {
 pub(crate) fn of(other: Outcome, head: usize, reply: Reply) -> Outcome {
     let mut all = other;
     lay(&mut all, 0, TABLE, head);
-    bytes::put(&mut all, REPLY, &reply);
+    laying::put(&mut all, REPLY, &reply);
     all
 }
 

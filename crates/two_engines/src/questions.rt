@@ -1,6 +1,6 @@
 // After a frame: the question about one monitor's discharge, put to both engines' tables.
 ghost use Rattle.std.specs.Prelude.{◌+◌, ◌*◌, ◌≤◌};
-ghost use Rattle.records.specs.Record.{recordSize};
+ghost use Rattle.records.specs.Record.{record_size};
 
 use crate::book::{OUTPUTS, QUESTIONS, count, numbered};
 use crate::luck::draw;
@@ -27,7 +27,7 @@ fn ask(table: &[u8], position: usize, way: usize, out: &mut [u8]) -> u8 {
 }
 
 fn answer(lent: Outcome, size: usize, position: usize, way: usize) -> Answer
-    requires { size ≤ 32 * recordSize + 1 }
+    requires { size ≤ 32 * record_size + 1 }
 {
     let end = TABLE + size;
     let room = 15 + way % 11;
@@ -50,7 +50,7 @@ fn told(world: World, answer: Answer) -> World {
 
 // At times of no monitor of the chain.
 pub(crate) fn asked(mut w: World, n: usize, size: usize, one: Outcome, other: Outcome) -> World
-    requires { (n ≤ 32) × (size ≤ 32 * recordSize + 1) }
+    requires { (n ≤ 32) × (size ≤ 32 * record_size + 1) }
 {
     let way = draw(w.luck, 65536);
     w.luck = way.luck;

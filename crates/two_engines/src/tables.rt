@@ -1,6 +1,6 @@
 // The tables: 32 sound records, of which a chain of N is the first N; and what makes one unsound.
 ghost use Rattle.std.specs.Prelude.{◌+◌, ◌*◌, ◌<◌, ◌≤◌};
-ghost use Rattle.records.specs.Record.{recordSize};
+ghost use Rattle.records.specs.Record.{record_size};
 
 use crate::book::{BOOK_SIZE, LOADS, MONITORS, count, numbered};
 use crate::lay::lay;
@@ -88,7 +88,7 @@ pub(crate) struct Lent {
 // Room for the reply and more, and now and then a byte too little; and the table, at times with a byte too many.
 fn with_room(table: Outcome, n: usize, more: usize, luck: usize) -> Lent
     requires { (0 < n) × (n ≤ 32) × (more < 2) }
-    ensures { (0 < result.size) × (result.size ≤ 32 * recordSize + 1) × (result.room ≤ 272) }
+    ensures { (0 < result.size) × (result.size ≤ 32 * record_size + 1) × (result.room ≤ 272) }
 {
     let chance = draw(luck, 16);
     let spare = if chance.number == 0 { 0 } else { 17 };
@@ -103,7 +103,7 @@ fn with_room(table: Outcome, n: usize, more: usize, luck: usize) -> Lent
 // A counter or a lock that is too much: at least 64, or 2.
 fn spoilt(whole: Outcome, n: usize, k: usize, lock: usize, luck: usize) -> Lent
     requires { (0 < n) × (n ≤ 32) × (k < 32) × (lock < 2) }
-    ensures { (0 < result.size) × (result.size ≤ 32 * recordSize + 1) × (result.room ≤ 272) }
+    ensures { (0 < result.size) × (result.size ≤ 32 * record_size + 1) × (result.room ≤ 272) }
 {
     let least = 64 - 62 * lock;
     let byte = draw(luck, 256 - least);
@@ -120,7 +120,7 @@ fn spoilt(whole: Outcome, n: usize, k: usize, lock: usize, luck: usize) -> Lent
 // Now and then it is not sound: a counter above 63, a lock above 1, a byte too many.
 pub(crate) fn spoil(whole: Outcome, n: usize, luck: usize) -> Lent
     requires { (0 < n) × (n ≤ 32) }
-    ensures { (0 < result.size) × (result.size ≤ 32 * recordSize + 1) × (result.room ≤ 272) }
+    ensures { (0 < result.size) × (result.size ≤ 32 * record_size + 1) × (result.room ≤ 272) }
 {
     let chance = draw(luck, 36);
     let k = draw(chance.luck, n);
@@ -157,7 +157,7 @@ fn loaded(
     from: usize,
     to: usize,
 ) -> Came
-    requires { (size ≤ 32 * recordSize + 1) × (from ≤ to) × (to ≤ 32) }
+    requires { (size ≤ 32 * record_size + 1) × (from ≤ to) × (to ≤ 32) }
 {
     let mut table = before;
     let end = TABLE + size;

@@ -14,11 +14,11 @@ use lib.Dec.{ltb, T, lt→ltb, ltb→lt}
 use lib.ListN.{length, get_or, take, drop, replicate, length-append, length-take, length-drop, length-reverse, drop_of_length-le}
 use lib.Seq.{take_all, take-suc, drop-cons, take_at, drop_at, take-append-le, drop-append-le, drop-drop, get_or-take}
 use Rattle.laws.specs.Rows.{rows, row_at, joined}
-use Rattle.laws.proofs.Lists.{get_d_map, get_d_any, getD-padded}
-use Rattle.laws.proofs.Rows.{Every, length-rows, row-at, length-row, rows-joined, rows-reverse, rows-front, rows-nil, rows-replicate, length-joined}
-use Rattle.wire.specs.Order.{farthestFirst, writeData, writePayloads, replyParts}
-use Rattle.wire.proofs.Order.{length-writeData, write-round, write-nearest}
-use Rattle.wire.specs.Windows.{empty, oldestOr, enter, enterAll, leaves, draw, left, drawn, held}
+use Rattle.laws.proofs.Lists.{get_d_map, get_d_any, get_d_padded}
+use Rattle.laws.proofs.Rows.{Every, length-rows, row-at, length-row, rows-joined, rows-reverse, rows_front, rows_nil, rows-replicate, length-joined}
+use Rattle.wire.specs.Order.{farthest_first, write_data, write_payloads, reply_parts}
+use Rattle.wire.proofs.Order.{length-write_data, write_round, write_nearest}
+use Rattle.wire.specs.Windows.{empty, oldest_or, enter, enter_all, leaves, draw, left, drawn, held}
 
 -- the test that `enter` makes, where its answer is known
 passes : (b : Bool) → T b → b ≡ true
@@ -33,18 +33,18 @@ module _ {A : Type 0} where
   -- ---- a write: one element, by the window that it meets
 
   -- a window with room keeps all it has, and the others stay
-  pub enter-room : (p : ℕ) (a : A) (w : List A) (ws : List (List A)) → length w < p → enter p a (w ∷ ws) ≡ (w ++ a ∷ []) ∷ ws
+  pub enter_room : (p : ℕ) (a : A) (w : List A) (ws : List (List A)) → length w < p → enter p a (w ∷ ws) ≡ (w ++ a ∷ []) ∷ ws
   unfolding enter
-  enter-room p a w ws h =
-      ap (λ (b : Bool). cond b ((w ++ a ∷ []) ∷ ws) ((drop 1 w ++ a ∷ []) ∷ enter p (oldestOr a w) ws)) (passes (ltb (length w) p) (lt→ltb (length w) p h))
+  enter_room p a w ws h =
+      ap (λ (b : Bool). cond b ((w ++ a ∷ []) ∷ ws) ((drop 1 w ++ a ∷ []) ∷ enter p (oldest_or a w) ws)) (passes (ltb (length w) p) (lt→ltb (length w) p h))
 
   -- a full window takes the element in and passes its oldest on
   pub enter-full : (p : ℕ) (a : A) (w : List A) (ws : List (List A)) → p ≤ length w
-      → enter p a (w ∷ ws) ≡ (drop 1 w ++ a ∷ []) ∷ enter p (oldestOr a w) ws
+      → enter p a (w ∷ ws) ≡ (drop 1 w ++ a ∷ []) ∷ enter p (oldest_or a w) ws
   unfolding enter
   enter-full p a w ws h =
       let n : T (ltb (length w) p) → ⊥ = λ t. omega (arith, ltb→lt (length w) p t) in
-      ap (λ (b : Bool). cond b ((w ++ a ∷ []) ∷ ws) ((drop 1 w ++ a ∷ []) ∷ enter p (oldestOr a w) ws)) (fails (ltb (length w) p) n)
+      ap (λ (b : Bool). cond b ((w ++ a ∷ []) ∷ ws) ((drop 1 w ++ a ∷ []) ∷ enter p (oldest_or a w) ws)) (fails (ltb (length w) p) n)
 
   -- ---- a write: the windows at any time
 
@@ -53,14 +53,14 @@ module _ {A : Type 0} where
   seen p n ys = map reverse (rows p n ys)
 
   -- the first window has room: it has all that was clocked, and the others nothing
-  seen-room : (q n : ℕ) (a : A) (ys : List A) → length ys < suc q → enter (suc q) a (seen (suc q) (suc n) ys) ≡ seen (suc q) (suc n) (a ∷ ys)
+  seen_room : (q n : ℕ) (a : A) (ys : List A) → length ys < suc q → enter (suc q) a (seen (suc q) (suc n) ys) ≡ seen (suc q) (suc n) (a ∷ ys)
   unfolding seen rows
-  seen-room q n a ys h =
+  seen_room q n a ys h =
       let w : List A = reverse (take (suc q) ys) in
       let short : length w < suc q = rw (length-reverse, length-take) (omega arith) in
       let all : length ys ≤ q = omega arith in
       let all' : length ys ≤ suc q = omega arith in
-      enter-room (suc q) a w (map reverse (rows (suc q) n (drop (suc q) ys))) short
+      enter_room (suc q) a w (map reverse (rows (suc q) n (drop (suc q) ys))) short
       ∙ ap₂ ◌∷◌
       (ap (λ (l : List A). reverse l ++ a ∷ []) (take_all (suc q) ys all' ∙ sym (take_all q ys all))
       ∙ sym (reverse-cons a (take q ys)))
@@ -70,7 +70,7 @@ module _ {A : Type 0} where
   seen-full : (q n : ℕ) (a : A) (ys : List A) → suc q ≤ length ys
       → ((b : A) (zs : List A) → enter (suc q) b (seen (suc q) n zs) ≡ seen (suc q) n (b ∷ zs))
       → enter (suc q) a (seen (suc q) (suc n) ys) ≡ seen (suc q) (suc n) (a ∷ ys)
-  unfolding seen rows oldestOr
+  unfolding seen rows oldest_or
   seen-full q n a ys h rest =
       let y : A = get_or ys q a in
       let v : List A = reverse (take q ys) in
@@ -88,7 +88,7 @@ module _ {A : Type 0} where
     where
       by : Dec (length ys < suc q) → ((b : A) (zs : List A) → enter (suc q) b (seen (suc q) n zs) ≡ seen (suc q) n (b ∷ zs))
           → enter (suc q) a (seen (suc q) (suc n) ys) ≡ seen (suc q) (suc n) (a ∷ ys)
-      by (yes h) rest = seen-room q n a ys h
+      by (yes h) rest = seen_room q n a ys h
       by (no h) rest = seen-full q n a ys (omega arith) rest
 
   -- the windows are the rows, each oldest first, of what was clocked, newest first: one element more
@@ -97,70 +97,70 @@ module _ {A : Type 0} where
   enter-rows zero n a ys h = absurd (omega arith)
   enter-rows (suc q) n a ys h = seen-enter q n a ys
 
-  enter-more : (p n : ℕ) (xs ys : List A) → 0 < p → enterAll p xs (map reverse (rows p n ys)) ≡ map reverse (rows p n (reverse_aux xs ys))
-  unfolding enterAll
-  enter-more p n [] ys h = refl
-  enter-more p n (x ∷ xs) ys h = ap (enterAll p xs) (enter-rows p n x ys h) ∙ enter-more p n xs (x ∷ ys) h
+  enter_more : (p n : ℕ) (xs ys : List A) → 0 < p → enter_all p xs (map reverse (rows p n ys)) ≡ map reverse (rows p n (reverse_aux xs ys))
+  unfolding enter_all
+  enter_more p n [] ys h = refl
+  enter_more p n (x ∷ xs) ys h = ap (enter_all p xs) (enter-rows p n x ys h) ∙ enter_more p n xs (x ∷ ys) h
 
   -- the same for any number of elements more
-  pub enter-all-rows : (p n : ℕ) (xs ys : List A) → 0 < p → enterAll p xs (map reverse (rows p n ys)) ≡ map reverse (rows p n (reverse xs ++ ys))
-  enter-all-rows p n xs ys h = enter-more p n xs ys h ∙ ap (λ (l : List A). map reverse (rows p n l)) (reverse_aux-eq xs ys)
+  pub enter_all-rows : (p n : ℕ) (xs ys : List A) → 0 < p → enter_all p xs (map reverse (rows p n ys)) ≡ map reverse (rows p n (reverse xs ++ ys))
+  enter_all-rows p n xs ys h = enter_more p n xs ys h ∙ ap (λ (l : List A). map reverse (rows p n l)) (reverse_aux-eq xs ys)
 
   -- the windows where nothing was clocked
   pub empty-rows : (p n : ℕ) → empty {A = A} n ≡ map reverse (rows p n [])
   unfolding empty
-  empty-rows p n = none n ∙ ap (map reverse) (sym (rows-nil p n))
+  empty-rows p n = none n ∙ ap (map reverse) (sym (rows_nil p n))
     where
       none : (m : ℕ) → empty {A = A} m ≡ map reverse (replicate m [])
       none zero = refl
       none (suc m) = ap (λ (ws : List (List A)). [] ∷ ws) (none m)
 
   -- the windows after any number of elements of a frame
-  pub enter-all : (p n : ℕ) (xs : List A) → 0 < p → enterAll p xs (empty n) ≡ map reverse (rows p n (reverse xs))
-  enter-all p n xs h = ap (enterAll p xs) (empty-rows p n) ∙ enter-more p n xs [] h
+  pub enter-all : (p n : ℕ) (xs : List A) → 0 < p → enter_all p xs (empty n) ≡ map reverse (rows p n (reverse xs))
+  enter-all p n xs h = ap (enter_all p xs) (empty-rows p n) ∙ enter_more p n xs [] h
 
   -- the window at k
-  pub window-at : (p n : ℕ) (xs : List A) (k : ℕ) (d : List A) → 0 < p → k < n
-      → get_or (enterAll p xs (empty n)) k d ≡ reverse (row_at p k (reverse xs))
-  window-at p n xs k d h hk =
+  pub window_at : (p n : ℕ) (xs : List A) (k : ℕ) (d : List A) → 0 < p → k < n
+      → get_or (enter_all p xs (empty n)) k d ≡ reverse (row_at p k (reverse xs))
+  window_at p n xs k d h hk =
       ap (λ (ws : List (List A)). get_or ws k d) (enter-all p n xs h)
       ∙ get_d_map reverse (rows p n (reverse xs)) k d [] (rw length-rows hk)
       ∙ ap reverse (row-at p n (reverse xs) k [] hk)
 
   -- how many elements it has: the nearest fill first
-  pub length-window : (p n : ℕ) (xs : List A) (k : ℕ) (d : List A) → 0 < p → k < n
-      → length (get_or (enterAll p xs (empty n)) k d) ≡ min p (length xs - k * p)
-  length-window p n xs k d h hk =
-      ap length (window-at p n xs k d h hk)
+  pub length_window : (p n : ℕ) (xs : List A) (k : ℕ) (d : List A) → 0 < p → k < n
+      → length (get_or (enter_all p xs (empty n)) k d) ≡ min p (length xs - k * p)
+  length_window p n xs k d h hk =
+      ap length (window_at p n xs k d h hk)
       ∙ length-reverse (row_at p k (reverse xs))
       ∙ length-row p k (reverse xs)
       ∙ ap (λ (m : ℕ). min p (m - k * p)) (length-reverse xs)
 
   -- the last elements of a longer frame count: each monitor has its payload of those
   pub windows-after-last : (p n : ℕ) (before bytes : List A) → 0 < p → length bytes ≡ n * p
-      → enterAll p (before ++ bytes) (empty n) ≡ writePayloads p n bytes
-  unfolding writePayloads farthestFirst
+      → enter_all p (before ++ bytes) (empty n) ≡ write_payloads p n bytes
+  unfolding write_payloads farthest_first
   windows-after-last p n before bytes h e =
       enter-all p n (before ++ bytes) h
       ∙ ap (λ (l : List A). map reverse (rows p n l)) (reverse-append before bytes)
-      ∙ ap (map reverse) (rows-front p n (reverse bytes) (reverse before) (rw length-reverse (omega arith)))
+      ∙ ap (map reverse) (rows_front p n (reverse bytes) (reverse before) (rw length-reverse (omega arith)))
       ∙ rows-reverse p n bytes e
 
   -- after the data of a write each monitor has its payload
-  pub windows-after-write : (p n : ℕ) (bytes : List A) → 0 < p → length bytes ≡ n * p → enterAll p bytes (empty n) ≡ writePayloads p n bytes
-  windows-after-write p n bytes h e = windows-after-last p n [] bytes h e
+  pub windows-after_write : (p n : ℕ) (bytes : List A) → 0 < p → length bytes ≡ n * p → enter_all p bytes (empty n) ≡ write_payloads p n bytes
+  windows-after_write p n bytes h e = windows-after-last p n [] bytes h e
 
   -- each window holds the payload that was meant for its monitor
-  pub windows-round : (p : ℕ) (payloads : List (List A)) → 0 < p → Every p payloads
-      → enterAll p (writeData payloads) (empty (length payloads)) ≡ payloads
-  windows-round p payloads h e =
-      windows-after-write p (length payloads) (writeData payloads) h (length-writeData p payloads e) ∙ write-round p payloads e
+  pub windows_round : (p : ℕ) (payloads : List (List A)) → 0 < p → Every p payloads
+      → enter_all p (write_data payloads) (empty (length payloads)) ≡ payloads
+  windows_round p payloads h e =
+      windows-after_write p (length payloads) (write_data payloads) h (length-write_data p payloads e) ∙ write_round p payloads e
 
   -- one part of a frame after the other
-  pub enterAll-append : (p : ℕ) (xs ys : List A) (ws : List (List A)) → enterAll p (xs ++ ys) ws ≡ enterAll p ys (enterAll p xs ws)
-  unfolding enterAll
-  enterAll-append p [] ys ws = refl
-  enterAll-append p (x ∷ xs) ys ws = enterAll-append p xs ys (enter p x ws)
+  pub enter_all_append : (p : ℕ) (xs ys : List A) (ws : List (List A)) → enter_all p (xs ++ ys) ws ≡ enter_all p ys (enter_all p xs ws)
+  unfolding enter_all
+  enter_all_append p [] ys ws = refl
+  enter_all_append p (x ∷ xs) ys ws = enter_all_append p xs ys (enter p x ws)
 
   -- ---- a write: how many windows, and how long
 
@@ -170,23 +170,23 @@ module _ {A : Type 0} where
   Within p (w ∷ ws) = (length w ≤ p) × Within p ws
 
   -- the window at k
-  pub within-at : (p : ℕ) (ws : List (List A)) (k : ℕ) (d : List A) → Within p ws → k < length ws → length (get_or ws k d) ≤ p
-  within-at p [] k d e h = absurd (omega arith)
-  within-at p (w ∷ ws) zero d e h = e.0
-  within-at p (w ∷ ws) (suc k) d e h = within-at p ws k d e.1 (omega arith)
+  pub within_at : (p : ℕ) (ws : List (List A)) (k : ℕ) (d : List A) → Within p ws → k < length ws → length (get_or ws k d) ≤ p
+  within_at p [] k d e h = absurd (omega arith)
+  within_at p (w ∷ ws) zero d e h = e.0
+  within_at p (w ∷ ws) (suc k) d e h = within_at p ws k d e.1 (omega arith)
 
   -- windows that are all full
-  pub within-every : (p : ℕ) (ws : List (List A)) → Every p ws → Within p ws
-  within-every p [] e = tt
-  within-every p (w ∷ ws) e = (omega (arith, e.0), within-every p ws e.1)
+  pub within_every : (p : ℕ) (ws : List (List A)) → Every p ws → Within p ws
+  within_every p [] e = tt
+  within_every p (w ∷ ws) e = (omega (arith, e.0), within_every p ws e.1)
 
   -- what holds of the windows after one element, by the first of them
-  enter-cases : (P : List (List A) → Type 0) (p : ℕ) (a : A) (w : List A) (ws : List (List A)) → Dec (length w < p)
+  enter_cases : (P : List (List A) → Type 0) (p : ℕ) (a : A) (w : List A) (ws : List (List A)) → Dec (length w < p)
       → (length w < p → P ((w ++ a ∷ []) ∷ ws))
-      → (p ≤ length w → P ((drop 1 w ++ a ∷ []) ∷ enter p (oldestOr a w) ws))
+      → (p ≤ length w → P ((drop 1 w ++ a ∷ []) ∷ enter p (oldest_or a w) ws))
       → P (enter p a (w ∷ ws))
-  enter-cases P p a w ws (yes h) room full = subst P (sym (enter-room p a w ws h)) (room h)
-  enter-cases P p a w ws (no h) room full = let l : p ≤ length w = omega arith in subst P (sym (enter-full p a w ws l)) (full l)
+  enter_cases P p a w ws (yes h) room full = subst P (sym (enter_room p a w ws h)) (room h)
+  enter_cases P p a w ws (no h) room full = let l : p ≤ length w = omega arith in subst P (sym (enter-full p a w ws l)) (full l)
 
   -- a window that takes one in and passes one on keeps its length
   length_shift : (p : ℕ) (w : List A) (a : A) → 0 < p → p ≤ length w → length (drop 1 w ++ a ∷ []) ≡ length w
@@ -196,36 +196,36 @@ module _ {A : Type 0} where
   pub length-enter : (p : ℕ) (a : A) (ws : List (List A)) → length (enter p a ws) ≡ length ws
   length-enter p a [] = unfold enter in refl
   length-enter p a (w ∷ ws) =
-      enter-cases (λ (vs : List (List A)). length vs ≡ suc (length ws)) p a w ws (dec_lt (length w) p)
+      enter_cases (λ (vs : List (List A)). length vs ≡ suc (length ws)) p a w ws (dec_lt (length w) p)
       (λ h. refl)
-      (λ h. ap suc (length-enter p (oldestOr a w) ws))
+      (λ h. ap suc (length-enter p (oldest_or a w) ws))
 
   -- the same for any number of elements
-  pub length-enterAll : (p : ℕ) (xs : List A) (ws : List (List A)) → length (enterAll p xs ws) ≡ length ws
-  unfolding enterAll
-  length-enterAll p [] ws = refl
-  length-enterAll p (x ∷ xs) ws = length-enterAll p xs (enter p x ws) ∙ length-enter p x ws
+  pub length-enter_all : (p : ℕ) (xs : List A) (ws : List (List A)) → length (enter_all p xs ws) ≡ length ws
+  unfolding enter_all
+  length-enter_all p [] ws = refl
+  length-enter_all p (x ∷ xs) ws = length-enter_all p xs (enter p x ws) ∙ length-enter p x ws
 
   -- no window grows beyond p: one element
-  pub within-enter : (p : ℕ) (a : A) (ws : List (List A)) → 0 < p → Within p ws → Within p (enter p a ws)
-  within-enter p a [] h e = unfold enter in tt
-  within-enter p a (w ∷ ws) h e =
-      enter-cases (Within p) p a w ws (dec_lt (length w) p)
+  pub within_enter : (p : ℕ) (a : A) (ws : List (List A)) → 0 < p → Within p ws → Within p (enter p a ws)
+  within_enter p a [] h e = unfold enter in tt
+  within_enter p a (w ∷ ws) h e =
+      enter_cases (Within p) p a w ws (dec_lt (length w) p)
       (λ r. (rw length-append (omega arith), e.1))
-      (λ l. (rw (length_shift p w a h l) e.0, within-enter p (oldestOr a w) ws h e.1))
+      (λ l. (rw (length_shift p w a h l) e.0, within_enter p (oldest_or a w) ws h e.1))
 
   -- the same for any number of elements
-  pub within-enterAll : (p : ℕ) (xs : List A) (ws : List (List A)) → 0 < p → Within p ws → Within p (enterAll p xs ws)
-  unfolding enterAll
-  within-enterAll p [] ws h e = e
-  within-enterAll p (x ∷ xs) ws h e = within-enterAll p xs (enter p x ws) h (within-enter p x ws h e)
+  pub within_enter_all : (p : ℕ) (xs : List A) (ws : List (List A)) → 0 < p → Within p ws → Within p (enter_all p xs ws)
+  unfolding enter_all
+  within_enter_all p [] ws h e = e
+  within_enter_all p (x ∷ xs) ws h e = within_enter_all p xs (enter p x ws) h (within_enter p x ws h e)
 
   -- windows that are full stay full
-  pub every-enter : (p : ℕ) (a : A) (ws : List (List A)) → 0 < p → Every p ws → Every p (enter p a ws)
-  every-enter p a [] h e = unfold enter in tt
-  every-enter p a (w ∷ ws) h e =
+  pub every_enter : (p : ℕ) (a : A) (ws : List (List A)) → 0 < p → Every p ws → Every p (enter p a ws)
+  every_enter p a [] h e = unfold enter in tt
+  every_enter p a (w ∷ ws) h e =
       let l : p ≤ length w = omega (arith, e.0) in
-      subst (Every p) (sym (enter-full p a w ws l)) (length_shift p w a h l ∙ e.0, every-enter p (oldestOr a w) ws h e.1)
+      subst (Every p) (sym (enter-full p a w ws l)) (length_shift p w a h l ∙ e.0, every_enter p (oldest_or a w) ws h e.1)
 
 -- ---- the start of a frame, for elements of type A
 
@@ -237,32 +237,32 @@ module _ (A : Type 0) where
   length-empty (suc n) = ap suc (length-empty n)
 
   -- each with nothing in it
-  pub within-empty : (p n : ℕ) → Within p (empty {A = A} n)
+  pub within_empty : (p n : ℕ) → Within p (empty {A = A} n)
   unfolding empty
-  within-empty p zero = tt
-  within-empty p (suc n) = (omega arith, within-empty p n)
+  within_empty p zero = tt
+  within_empty p (suc n) = (omega arith, within_empty p n)
 
 module _ {A : Type 0} where
   -- ---- a write: full windows are one shift register, the farthest window's oldest element in front
 
   -- what the last of a row of full windows passes on, where a enters the first
-  abbrev pub passedOn : A → List (List A) → A
-  passedOn a [] = a
-  passedOn a (w ∷ ws) = passedOn (oldestOr a w) ws
+  abbrev pub passed_on : A → List (List A) → A
+  passed_on a [] = a
+  passed_on a (w ∷ ws) = passed_on (oldest_or a w) ws
 
   -- the element comes in at the end, and one goes out in front
-  pub enter-shift : (p : ℕ) (a : A) (ws : List (List A)) → 0 < p → Every p ws
-      → passedOn a ws ∷ joined (farthestFirst (enter p a ws)) ≡ joined (farthestFirst ws) ++ a ∷ []
-  unfolding farthestFirst writeData oldestOr
-  enter-shift p a [] h e = unfold enter joined in refl
-  enter-shift p a ([] ∷ ws) h e = absurd (omega (arith, e.0))
-  enter-shift p a ((x ∷ v) ∷ ws) h e =
+  pub enter_shift : (p : ℕ) (a : A) (ws : List (List A)) → 0 < p → Every p ws
+      → passed_on a ws ∷ joined (farthest_first (enter p a ws)) ≡ joined (farthest_first ws) ++ a ∷ []
+  unfolding farthest_first write_data oldest_or
+  enter_shift p a [] h e = unfold enter joined in refl
+  enter_shift p a ([] ∷ ws) h e = absurd (omega (arith, e.0))
+  enter_shift p a ((x ∷ v) ∷ ws) h e =
       let full : p ≤ suc (length v) = omega (arith, e.0) in
-      ap (λ (l : List (List A)). passedOn x ws ∷ joined (reverse l)) (enter-full p a (x ∷ v) ws full)
-      ∙ ap (λ (l : List A). passedOn x ws ∷ l) (write-nearest (v ++ a ∷ []) (enter p x ws))
-      ∙ ap (λ (l : List A). l ++ (v ++ a ∷ [])) (enter-shift p x ws h e.1)
+      ap (λ (l : List (List A)). passed_on x ws ∷ joined (reverse l)) (enter-full p a (x ∷ v) ws full)
+      ∙ ap (λ (l : List A). passed_on x ws ∷ l) (write_nearest (v ++ a ∷ []) (enter p x ws))
+      ∙ ap (λ (l : List A). l ++ (v ++ a ∷ [])) (enter_shift p x ws h e.1)
       ∙ cut
-      ∙ ap (λ (l : List A). l ++ a ∷ []) (sym (write-nearest (x ∷ v) ws))
+      ∙ ap (λ (l : List A). l ++ a ∷ []) (sym (write_nearest (x ∷ v) ws))
     where
       front : List A
       front = joined (reverse ws)
@@ -272,25 +272,25 @@ module _ {A : Type 0} where
 
   -- the register after one element
   pub enter-register : (p : ℕ) (a : A) (ws : List (List A)) → 0 < p → Every p ws
-      → joined (farthestFirst (enter p a ws)) ≡ drop 1 (joined (farthestFirst ws) ++ a ∷ [])
-  enter-register p a ws h e = ap (drop 1) (enter-shift p a ws h e)
+      → joined (farthest_first (enter p a ws)) ≡ drop 1 (joined (farthest_first ws) ++ a ∷ [])
+  enter-register p a ws h e = ap (drop 1) (enter_shift p a ws h e)
 
   -- ---- a read: full windows are one shift register, the nearest window's oldest element in front
 
   -- `far` comes in at the end, and one goes out in front
-  pub draw-shift : (p : ℕ) (far : A) (ws : List (List A)) → 0 < p → Every p ws → leaves far ws ∷ joined (draw far ws) ≡ joined ws ++ far ∷ []
-  unfolding leaves draw joined oldestOr
-  draw-shift p far [] h e = refl
-  draw-shift p far ([] ∷ ws) h e = absurd (omega (arith, e.0))
-  draw-shift p far ((x ∷ v) ∷ ws) h e =
+  pub draw_shift : (p : ℕ) (far : A) (ws : List (List A)) → 0 < p → Every p ws → leaves far ws ∷ joined (draw far ws) ≡ joined ws ++ far ∷ []
+  unfolding leaves draw joined oldest_or
+  draw_shift p far [] h e = refl
+  draw_shift p far ([] ∷ ws) h e = absurd (omega (arith, e.0))
+  draw_shift p far ((x ∷ v) ∷ ws) h e =
       ap (λ (l : List A). x ∷ l)
       (append_assoc v (leaves far ws ∷ []) (joined (draw far ws))
-      ∙ ap (λ (l : List A). v ++ l) (draw-shift p far ws h e.1)
+      ∙ ap (λ (l : List A). v ++ l) (draw_shift p far ws h e.1)
       ∙ sym (append_assoc v (joined ws) (far ∷ [])))
 
   -- the register after one element
   pub draw-register : (p : ℕ) (far : A) (ws : List (List A)) → 0 < p → Every p ws → joined (draw far ws) ≡ drop 1 (joined ws ++ far ∷ [])
-  draw-register p far ws h e = ap (drop 1) (draw-shift p far ws h e)
+  draw-register p far ws h e = ap (drop 1) (draw_shift p far ws h e)
 
   -- ---- a read: how many windows, and how long
 
@@ -307,18 +307,18 @@ module _ {A : Type 0} where
   length-drawn far (suc k) ws = length-drawn far k (draw far ws) ∙ length-draw far ws
 
   -- each window keeps its p elements: one element
-  pub every-draw : (p : ℕ) (far : A) (ws : List (List A)) → 0 < p → Every p ws → Every p (draw far ws)
+  pub every_draw : (p : ℕ) (far : A) (ws : List (List A)) → 0 < p → Every p ws → Every p (draw far ws)
   unfolding draw
-  every-draw p far [] h e = tt
-  every-draw p far (w ∷ ws) h e =
+  every_draw p far [] h e = tt
+  every_draw p far (w ∷ ws) h e =
       let l : p ≤ length w = omega (arith, e.0) in
-      (length_shift p w (leaves far ws) h l ∙ e.0, every-draw p far ws h e.1)
+      (length_shift p w (leaves far ws) h l ∙ e.0, every_draw p far ws h e.1)
 
   -- the same for k elements
-  pub every-drawn : (p : ℕ) (far : A) (k : ℕ) (ws : List (List A)) → 0 < p → Every p ws → Every p (drawn far k ws)
+  pub every_drawn : (p : ℕ) (far : A) (k : ℕ) (ws : List (List A)) → 0 < p → Every p ws → Every p (drawn far k ws)
   unfolding drawn
-  every-drawn p far zero ws h e = e
-  every-drawn p far (suc k) ws h e = every-drawn p far k (draw far ws) h (every-draw p far ws h e)
+  every_drawn p far zero ws h e = e
+  every_drawn p far (suc k) ws h e = every_drawn p far k (draw far ws) h (every_draw p far ws h e)
 
   -- each element clocked takes one out
   pub length-left : (far : A) (k : ℕ) (ws : List (List A)) → length (left far k ws) ≡ k
@@ -334,8 +334,8 @@ module _ {A : Type 0} where
   unfolding left drawn
   left-drawn p far zero ws h e = sym (append-nil (joined ws))
   left-drawn p far (suc k) ws h e =
-      ap (λ (l : List A). leaves far ws ∷ l) (left-drawn p far k (draw far ws) h (every-draw p far ws h e))
-      ∙ ap (λ (l : List A). l ++ replicate k far) (draw-shift p far ws h e)
+      ap (λ (l : List A). leaves far ws ∷ l) (left-drawn p far k (draw far ws) h (every_draw p far ws h e))
+      ∙ ap (λ (l : List A). l ++ replicate k far) (draw_shift p far ws h e)
       ∙ append_assoc (joined ws) (far ∷ []) (replicate k far)
 
   -- what has left is the front of that
@@ -344,14 +344,14 @@ module _ {A : Type 0} where
       sym (take_at (left far k ws) (joined (drawn far k ws)) k (length-left far k ws)) ∙ ap (take k) (left-drawn p far k ws h e)
 
   -- as long as the windows had something: the front of what they held
-  pub left-front : (p : ℕ) (far : A) (k : ℕ) (ws : List (List A)) → 0 < p → Every p ws → k ≤ length (joined ws) → left far k ws ≡ take k (joined ws)
-  left-front p far k ws h e l = left-take p far k ws h e ∙ take-append-le k (joined ws) (replicate k far) l
+  pub left_front : (p : ℕ) (far : A) (k : ℕ) (ws : List (List A)) → 0 < p → Every p ws → k ≤ length (joined ws) → left far k ws ≡ take k (joined ws)
+  left_front p far k ws h e l = left-take p far k ws h e ∙ take-append-le k (joined ws) (replicate k far) l
 
   -- for as many elements as the windows held: all of it
   pub left-whole : (p : ℕ) (far : A) (k : ℕ) (ws : List (List A)) → 0 < p → Every p ws → k ≡ length ws * p → left far k ws ≡ joined ws
   left-whole p far k ws h e l =
       let m : length (joined ws) ≡ length ws * p = length-joined p ws e in
-      left-front p far k ws h e (omega arith) ∙ take_all k (joined ws) (omega arith)
+      left_front p far k ws h e (omega arith) ∙ take_all k (joined ws) (omega arith)
 
   -- the element clocked at i: `far` where the windows had none left
   pub left_at : (p : ℕ) (far : A) (k : ℕ) (ws : List (List A)) (i : ℕ) (d : A) → 0 < p → Every p ws → i < k
@@ -360,13 +360,13 @@ module _ {A : Type 0} where
       get_d_any (left far k ws) i d far (rw length-left hi)
       ∙ ap (λ (l : List A). get_or l i far) (left-take p far k ws h e)
       ∙ get_or-take k (joined ws ++ replicate k far) i far hi
-      ∙ getD-padded (joined ws) k i far
+      ∙ get_d_padded (joined ws) k i far
 
   -- each monitor's part of what has left is what its window held
-  pub read-round : (p : ℕ) (far : A) (k : ℕ) (ws : List (List A)) → 0 < p → Every p ws → k ≡ length ws * p
-      → replyParts p (length ws) (left far k ws) ≡ ws
-  unfolding replyParts
-  read-round p far k ws h e l = ap (rows p (length ws)) (left-whole p far k ws h e l) ∙ rows-joined p ws e
+  pub read_round : (p : ℕ) (far : A) (k : ℕ) (ws : List (List A)) → 0 < p → Every p ws → k ≡ length ws * p
+      → reply_parts p (length ws) (left far k ws) ≡ ws
+  unfolding reply_parts
+  read_round p far k ws h e l = ap (rows p (length ws)) (left-whole p far k ws h e l) ∙ rows-joined p ws e
 
   -- what the windows hold is the rest
   pub joined-drawn : (p : ℕ) (far : A) (k : ℕ) (ws : List (List A)) → 0 < p → Every p ws → joined (drawn far k ws) ≡ drop k (joined ws ++ replicate k far)
@@ -377,13 +377,13 @@ module _ {A : Type 0} where
   pub drawn-rows : (p : ℕ) (far : A) (k : ℕ) (ws : List (List A)) → 0 < p → Every p ws
       → drawn far k ws ≡ rows p (length ws) (drop k (joined ws ++ replicate k far))
   drawn-rows p far k ws h e =
-      sym (rows-joined p (drawn far k ws) (every-drawn p far k ws h e))
+      sym (rows-joined p (drawn far k ws) (every_drawn p far k ws h e))
       ∙ ap₂ (rows p) (length-drawn far k ws) (joined-drawn p far k ws h e)
 
   -- the windows after k elements, as long as they had something
-  pub drawn-front : (p : ℕ) (far : A) (k : ℕ) (ws : List (List A)) → 0 < p → Every p ws → k ≤ length (joined ws)
+  pub drawn_front : (p : ℕ) (far : A) (k : ℕ) (ws : List (List A)) → 0 < p → Every p ws → k ≤ length (joined ws)
       → drawn far k ws ≡ rows p (length ws) (drop k (joined ws) ++ replicate k far)
-  drawn-front p far k ws h e l = drawn-rows p far k ws h e ∙ ap (rows p (length ws)) (drop-append-le k (joined ws) (replicate k far) l)
+  drawn_front p far k ws h e l = drawn-rows p far k ws h e ∙ ap (rows p (length ws)) (drop-append-le k (joined ws) (replicate k far) l)
 
   -- after as many elements as they held: `far` in every place
   pub drawn-whole : (p : ℕ) (far : A) (k : ℕ) (ws : List (List A)) → 0 < p → Every p ws → k ≡ length ws * p
@@ -395,16 +395,16 @@ module _ {A : Type 0} where
       ∙ rows-replicate p (length ws) far
 
   -- one part of a read after the other: what leaves
-  pub left-add : (far : A) (j k : ℕ) (ws : List (List A)) → left far (j + k) ws ≡ left far j ws ++ left far k (drawn far j ws)
+  pub left_add : (far : A) (j k : ℕ) (ws : List (List A)) → left far (j + k) ws ≡ left far j ws ++ left far k (drawn far j ws)
   unfolding left drawn
-  left-add far zero k ws = rw zero-add
-  left-add far (suc j) k ws = rw suc-add (ap (λ (l : List A). leaves far ws ∷ l) (left-add far j k (draw far ws)))
+  left_add far zero k ws = rw zero-add
+  left_add far (suc j) k ws = rw suc-add (ap (λ (l : List A). leaves far ws ∷ l) (left_add far j k (draw far ws)))
 
   -- and what the windows are
-  pub drawn-add : (far : A) (j k : ℕ) (ws : List (List A)) → drawn far (j + k) ws ≡ drawn far k (drawn far j ws)
+  pub drawn_add : (far : A) (j k : ℕ) (ws : List (List A)) → drawn far (j + k) ws ≡ drawn far k (drawn far j ws)
   unfolding drawn
-  drawn-add far zero k ws = rw zero-add
-  drawn-add far (suc j) k ws = rw suc-add (drawn-add far j k (draw far ws))
+  drawn_add far zero k ws = rw zero-add
+  drawn_add far (suc j) k ws = rw suc-add (drawn_add far j k (draw far ws))
 
   -- ---- a write: the windows in their places
 
@@ -437,15 +437,15 @@ module _ {A : Type 0} where
       → enter p a (held p m places) ≡ held p (suc m) (enter p a places)
   unfolding held
   held-enter p m a [] h e = unfold enter in refl
-  held-enter p m a (place ∷ places) h e = by (dec_lt m p) (held-enter p (m - p) (oldestOr a place) places h e.1)
+  held-enter p m a (place ∷ places) h e = by (dec_lt m p) (held-enter p (m - p) (oldest_or a place) places h e.1)
     where
       whole : p ≤ length place
       whole = omega (arith, e.0)
 
-      moved : held p (suc m) (enter p a (place ∷ places)) ≡ drop (p - suc m) (drop 1 place ++ a ∷ []) ∷ held p (suc m - p) (enter p (oldestOr a place) places)
+      moved : held p (suc m) (enter p a (place ∷ places)) ≡ drop (p - suc m) (drop 1 place ++ a ∷ []) ∷ held p (suc m - p) (enter p (oldest_or a place) places)
       moved = ap (held p (suc m)) (enter-full p a place places whole)
 
-      by : Dec (m < p) → enter p (oldestOr a place) (held p (m - p) places) ≡ held p (suc (m - p)) (enter p (oldestOr a place) places)
+      by : Dec (m < p) → enter p (oldest_or a place) (held p (m - p) places) ≡ held p (suc (m - p)) (enter p (oldest_or a place) places)
           → enter p a (held p m (place ∷ places)) ≡ held p (suc m) (enter p a (place ∷ places))
       by (yes l) further =
           let short : length (drop (p - m) place) < p = rw length-drop (omega (arith, e.0)) in
@@ -453,14 +453,14 @@ module _ {A : Type 0} where
           let rest-before : m - p ≡ 0 = omega arith in
           let rest-after : suc m - p ≡ 0 = omega arith in
           let front : p - suc m ≤ length (drop 1 place) = rw length-drop (omega (arith, e.0)) in
-          enter-room p a (drop (p - m) place) (held p (m - p) places) short
+          enter_room p a (drop (p - m) place) (held p (m - p) places) short
           ∙ ap₂ ◌∷◌
           (ap (λ (w : List A). w ++ a ∷ []) (ap (λ (k : ℕ). drop k place) split ∙ sym (drop-drop (p - suc m) 1 place)) ∙ sym (drop-append-le (p - suc m) (drop 1 place) (a ∷ []) front))
           (ap (λ (k : ℕ). held p k places) rest-before
           ∙ held_none p places e.1
-          ∙ ap empty (sym (length-enter p (oldestOr a place) places))
-          ∙ sym (held_none p (enter p (oldestOr a place) places) (every-enter p (oldestOr a place) places h e.1))
-          ∙ ap (λ (k : ℕ). held p k (enter p (oldestOr a place) places)) (sym rest-after))
+          ∙ ap empty (sym (length-enter p (oldest_or a place) places))
+          ∙ sym (held_none p (enter p (oldest_or a place) places) (every_enter p (oldest_or a place) places h e.1))
+          ∙ ap (λ (k : ℕ). held p k (enter p (oldest_or a place) places)) (sym rest-after))
           ∙ sym moved
       by (no l) further =
           let full : p - m ≡ 0 = omega arith in
@@ -468,7 +468,7 @@ module _ {A : Type 0} where
           let rest : suc m - p ≡ suc (m - p) = omega arith in
           ap (λ (k : ℕ). enter p a (drop k place ∷ held p (m - p) places)) full
           ∙ enter-full p a place (held p (m - p) places) whole
-          ∙ ap₂ ◌∷◌ (ap (λ (k : ℕ). drop k (drop 1 place ++ a ∷ [])) (sym full-after)) (further ∙ ap (λ (k : ℕ). held p k (enter p (oldestOr a place) places)) (sym rest))
+          ∙ ap₂ ◌∷◌ (ap (λ (k : ℕ). drop k (drop 1 place ++ a ∷ [])) (sym full-after)) (further ∙ ap (λ (k : ℕ). held p k (enter p (oldest_or a place) places)) (sym rest))
           ∙ sym moved
 
   -- the window at k

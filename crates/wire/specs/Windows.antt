@@ -10,25 +10,25 @@ module _ {A : Type 0} where
   empty (suc n) = [] ∷ empty n
 
   -- the oldest element of a window, and a where it has none
-  unfoldable pub oldestOr : A → List A → A
-  oldestOr a [] = a
-  oldestOr a (x ∷ xs) = x
+  unfoldable pub oldest_or : A → List A → A
+  oldest_or a [] = a
+  oldest_or a (x ∷ xs) = x
 
   -- a write: the element a enters monitor 1's window. A window that is not full keeps all it has; a full one passes its
   -- oldest element to the next monitor. What the last monitor passes on is lost
   unfoldable pub enter : ℕ → A → List (List A) → List (List A)
   enter p a [] = []
-  enter p a (w ∷ ws) = cond (ltb (length w) p) ((w ++ a ∷ []) ∷ ws) ((drop 1 w ++ a ∷ []) ∷ enter p (oldestOr a w) ws)
+  enter p a (w ∷ ws) = cond (ltb (length w) p) ((w ++ a ∷ []) ∷ ws) ((drop 1 w ++ a ∷ []) ∷ enter p (oldest_or a w) ws)
 
   -- the elements of a write one after the other
-  unfoldable pub enterAll : ℕ → List A → List (List A) → List (List A)
-  enterAll p [] ws = ws
-  enterAll p (x ∷ xs) ws = enterAll p xs (enter p x ws)
+  unfoldable pub enter_all : ℕ → List A → List (List A) → List (List A)
+  enter_all p [] ws = ws
+  enter_all p (x ∷ xs) ws = enter_all p xs (enter p x ws)
 
   -- a read: what leaves at the front of a row of windows, and `far` where there is none
   unfoldable pub leaves : A → List (List A) → A
   leaves far [] = far
-  leaves far (w ∷ ws) = oldestOr far w
+  leaves far (w ∷ ws) = oldest_or far w
 
   -- a read: one element is taken out at monitor 1, and every window draws from the next; the last draws `far`
   unfoldable pub draw : A → List (List A) → List (List A)

@@ -1,6 +1,6 @@
 // Which write needs its check right, and what a taken write does to its bytes of a record, as rules.
 ghost use Rattle.std.specs.Prelude.{◌≡◌};
-ghost use Rattle.writes.specs.Writes.{rulesOf, storesWhole};
+ghost use Rattle.writes.specs.Writes.{rules_of, stores_whole};
 
 use records::{
     CONFIGURATION_A, CONFIGURATION_B, LPCM_CELL_THRESHOLDS, LPCM_CONFIGURATION, LPCM_FLAGS,
@@ -29,7 +29,7 @@ const NONE: [u8; 6] = [0; 6];
 const THRESHOLDS: [u8; 6] = [0xff, 0xff, 0xff, 0xff, 0x0f, 0];
 
 pub fn rules_of(what: Write) -> Rules
-    ensures { result ≡ rulesOf what }
+    ensures { result ≡ rules_of what }
 {
     match what {
         Write::Wrcfga => Rules {
@@ -136,7 +136,7 @@ pub fn rules_of(what: Write) -> Rules
 
 // Is a write taken only with its data check right?
 pub fn needs_check(what: Write) -> bool
-    ensures { result ≡ (rulesOf what).needs_check }
+    ensures { result ≡ (rules_of what).needs_check }
 {
     let its = rules_of(what);
     its.needs_check
@@ -144,7 +144,7 @@ pub fn needs_check(what: Write) -> bool
 
 // Does a write store six as they are sent?
 pub fn stores_whole(what: Write) -> bool
-    ensures { result ≡ storesWhole what }
+    ensures { result ≡ stores_whole what }
 {
     match what {
         Write::Wrcfga => false,

@@ -1,7 +1,7 @@
 // A taken write, done to a record by its rules.
 ghost use Rattle.std.specs.Prelude.{◌≡◌, cond, ◌&&◌, ◌+◌, ◌%◌, ◌<◌, ◌≤◌, leb, length, get_or};
-ghost use Rattle.records.specs.Record.{isRecord, anew};
-ghost use Rattle.records.specs.Commands.{dataSize};
+ghost use Rattle.records.specs.Record.{is_record, anew};
+ghost use Rattle.records.specs.Commands.{data_size};
 ghost use Rattle.writes.specs.Writes.{changed, opens, written};
 
 use records::{RECORD_SIZE, Write, data_size};
@@ -54,7 +54,7 @@ fn opens_by(rules: Rules, was: u8) -> bool
 // A taken write of the data bytes that were sent first. A slice that is no record stays as it is, and so does a record where fewer
 // were sent than the write has.
 pub fn write(what: Write, was: u8, rec: &mut [u8], sent: &[u8])
-    ensures { rec.new ≡ cond (isRecord rec.old && leb (dataSize what) (length sent.now)) (written what was sent.now rec.old) rec.old }
+    ensures { rec.new ≡ cond (is_record rec.old && leb (data_size what) (length sent.now)) (written what was sent.now rec.old) rec.old }
 {
     if rec.len() != RECORD_SIZE {
         return;

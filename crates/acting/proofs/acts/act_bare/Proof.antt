@@ -6,14 +6,14 @@ use mathlib.Core.List.{List}
 use Prim.Native.Nat.{ℕ}
 use lib.ListN.{length}
 use Rattle.records.specs.declared.commands.Bare.{Bare}
-use Rattle.records.specs.Record.{recordSize, isRecord}
+use Rattle.records.specs.Record.{record_size, is_record}
 use Rattle.records.proofs.Answers.{is-record}
 use Rattle.monitor.specs.Effects.{done}
 use borrow.Author.Rules.{rules}
 use Rattle.acting.proofs.acts.act_bare.Statement.{statement}
 use Rattle.acting.proofs.acts.act_bare.Tie as tie
 
-of-record : (what : Bare) (r : List ℕ) → length r ≡ recordSize → cond (isRecord r) (done what r) r ≡ done what r
+of-record : (what : Bare) (r : List ℕ) → length r ≡ record_size → cond (is_record r) (done what r) r ≡ done what r
 of-record what r h = ap (λ (is : Bool). cond is (done what r) r) (is-record r h)
 
 returns : tie.Need-returns

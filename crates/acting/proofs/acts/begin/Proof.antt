@@ -5,7 +5,7 @@ use mathlib.Core.Bool.{Bool, cond}
 use mathlib.Core.List.{List}
 use Prim.Native.Nat.{ℕ}
 use lib.ListN.{set}
-use Rattle.records.specs.Record.{counter, anew, onBytes}
+use Rattle.records.specs.Record.{counter, anew, on_bytes}
 use Rattle.monitor.specs.Effects.{locked, counted}
 use borrow.Author.Rules.{rules}
 use Rattle.acting.proofs.acts.begin.Statement.{statement}
@@ -16,7 +16,7 @@ abbrev left : List ℕ → Bool → List ℕ
 left r taken = cond taken (counted (locked r)) (locked r)
 
 returns : tie.Need-returns
-unfolding counted onBytes anew
+unfolding counted on_bytes anew
 returns c =
     let locks = c.before.before.before.before.before.lock in
     ap (set locks.new.0 counter.at) c.next-count.ensures

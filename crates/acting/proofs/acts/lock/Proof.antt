@@ -1,7 +1,7 @@
 -- `acting::acts::lock` meets its contract: one store.
 -- Assumes nothing.
 use mathlib.Core.Path.{refl}
-use Rattle.records.specs.Record.{anew, onBytes}
+use Rattle.records.specs.Record.{anew, on_bytes}
 use Rattle.monitor.specs.Effects.{locked}
 use borrow.Author.Rules.{rules}
 use Rattle.acting.proofs.acts.lock.Statement.{statement}
@@ -14,7 +14,7 @@ same_length : tie.Need-same-length
 same_length c = search rules
 
 returns : tie.Need-returns
-unfolding locked onBytes anew
+unfolding locked on_bytes anew
 returns c = refl
 
 pub lock-spec : {M : Type 1} → statement M

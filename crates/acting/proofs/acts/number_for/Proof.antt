@@ -4,21 +4,21 @@ use mathlib.Core.Path.{◌≡◌, sym, ap, ◌∙◌}
 use mathlib.Core.List.{List}
 use mathlib.Core.Logic.{⊎_elim}
 use Prim.Native.Nat.{ℕ}
-use Rattle.pec.specs.Words.{sealedRight, payloadRight}
+use Rattle.pec.specs.Words.{sealed_right, payload_right}
 use Rattle.records.specs.declared.commands.Write.{Write}
-use Rattle.records.specs.Commands.{dataSize}
-use Rattle.records.proofs.Widths.{six-or-two}
+use Rattle.records.specs.Commands.{data_size}
+use Rattle.records.proofs.Widths.{six_or_two}
 use borrow.Author.Rules.{rules}
 use Rattle.acting.proofs.acts.number_for.Statement.{statement}
 use Rattle.acting.proofs.acts.number_for.Tie as tie
 
 -- six data bytes, by the size that the code read; or else two
-of-six : (what : Write) (own : List ℕ) {n : ℕ} → n ≡ dataSize what → n ≡ 6 → payloadRight own ≡ sealedRight (dataSize what) own
-unfolding payloadRight
-of-six what own e h = ap (λ (d : ℕ). sealedRight d own) (sym h ∙ e)
+of-six : (what : Write) (own : List ℕ) {n : ℕ} → n ≡ data_size what → n ≡ 6 → payload_right own ≡ sealed_right (data_size what) own
+unfolding payload_right
+of-six what own e h = ap (λ (d : ℕ). sealed_right d own) (sym h ∙ e)
 
-of_two : (what : Write) (own : List ℕ) {n : ℕ} → n ≡ dataSize what → (n ≡ 6 → ⊥) → sealedRight 2 own ≡ sealedRight (dataSize what) own
-of_two what own e h = ap (λ (d : ℕ). sealedRight d own) (sym (⊎_elim (λ six. absurd (h (e ∙ six))) (λ two. two) (six-or-two what)))
+of_two : (what : Write) (own : List ℕ) {n : ℕ} → n ≡ data_size what → (n ≡ 6 → ⊥) → sealed_right 2 own ≡ sealed_right (data_size what) own
+of_two what own e h = ap (λ (d : ℕ). sealed_right d own) (sym (⊎_elim (λ six. absurd (h (e ∙ six))) (λ two. two) (six_or_two what)))
 
 returns : tie.Need-returns
 returns c =

@@ -1,7 +1,7 @@
 -- `cabinet::numbers::signed` is safe: a word whose first bit is 1, with 65536 taken away, fits 16 bits. Assumes nothing.
 use Rattle.std.proofs.Common.{◌∙◌, arith, to_z-of_z, w16, w32, SFits, rules}
 use mathlib.Core.Path.{subst⁻¹}
-use Rattle.thresholds.proofs.TwosComplement.{taken-away}
+use Rattle.thresholds.proofs.TwosComplement.{taken_away}
 use Rattle.cabinet.proofs.numbers.signed.Statement.{statement}
 use Rattle.cabinet.proofs.numbers.signed.Tie as tie
 
@@ -13,12 +13,12 @@ cast-result-2 c = search rules
 
 sub-result : tie.Need-overflow-sub-result
 sub-result c =
-    subst⁻¹ (SFits w32) (taken-away w32 {n = c.before.args.word} {m = 65535} (omega arith) (omega arith)) (omega arith)
+    subst⁻¹ (SFits w32) (taken_away w32 {n = c.before.args.word} {m = 65535} (omega arith) (omega arith)) (omega arith)
 
 cast-result-3 : tie.Need-overflow-cast-result-3
 cast-result-3 c =
     subst⁻¹ (SFits w16)
-    (to_z-of_z (sub-result c) ∙ taken-away w32 {n = c.before.args.word} {m = 65535} (omega arith) (omega arith))
+    (to_z-of_z (sub-result c) ∙ taken_away w32 {n = c.before.args.word} {m = 65535} (omega arith) (omega arith))
     (omega arith)
 
 returns : tie.Need-returns

@@ -10,7 +10,7 @@ use borrow.Author.Rules.{rules}
 use borrow.Author.Tests.{eq-eqb, ne_eqb}
 use mir.Syntax.{w16}
 use mir.ValLaws.{to_z-of_z}
-use Rattle.cells.specs.Cells.{word, codeByte}
+use Rattle.cells.specs.Cells.{word, code_byte}
 use Rattle.cells.proofs.cells.code_byte.Statement.{statement}
 use Rattle.cells.proofs.cells.code_byte.Tie as tie
 
@@ -35,14 +35,14 @@ bits c =
     c.word_of.ensures ∙ ap word (to_z-of_z w16 (get_or a.codes.now (a.i / 2) (pos 0)) (record { sfits = c.before.word-of-arg.given }))
 
 returns : tie.Need-returns
-unfolding codeByte
+unfolding code_byte
 returns c =
     let a = c.before.before.before.args in
     let code = word (get_or a.codes.now (a.i / 2) (pos 0)) in
     ap (λ (n : ℕ). n % 256) (bits c.before) ∙ sym (ap (λ (b : Bool). cond b (code % 256) (code / 256)) (eq-eqb (a.i % 2) 0 c.if1.true))
 
 returns-2 : tie.Need-returns-2
-unfolding codeByte
+unfolding code_byte
 returns-2 c =
     let a = c.before.before.before.args in
     let code = word (get_or a.codes.now (a.i / 2) (pos 0)) in

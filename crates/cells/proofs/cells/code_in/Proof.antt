@@ -6,8 +6,8 @@ use native.Mathlib.Omega.{arith}
 use lib.IntN.{ℤ}
 use borrow.Author.Rules.{rules}
 use mir.Facts.{to_z-of_z}
-use Rattle.records.specs.Record.{byteIn}
-use Rattle.records.proofs.Parts.{past-part}
+use Rattle.records.specs.Record.{byte_in}
+use Rattle.records.proofs.Parts.{past_part}
 use Rattle.thresholds.specs.declared.thresholds.ResultCode.{ResultCode}
 use Rattle.thresholds.specs.Thresholds.{signed}
 use Rattle.cells.specs.Cells.{code_in}
@@ -15,11 +15,11 @@ use Rattle.cells.proofs.cells.code_in.Statement.{statement}
 use Rattle.cells.proofs.cells.code_in.Tie as tie
 
 returns : tie.Need-returns
-unfolding code_in byteIn signed
+unfolding code_in byte_in signed
 returns c =
     let a = c.before.before.before.args in
-    let low = past-part a.part a.rec.now {i = 2 * a.c} (omega arith) in
-    let high = past-part a.part a.rec.now {i = 2 * a.c + 1} (omega arith) in
+    let low = past_part a.part a.rec.now {i = 2 * a.c} (omega arith) in
+    let high = past_part a.part a.rec.now {i = 2 * a.c + 1} (omega arith) in
     sym (ap₂ (λ (m n : ℕ). record { 0 = signed 16 (m + n * 256) }) low high)
 
 returns-2 : tie.Need-returns-2

@@ -7,16 +7,16 @@ use Prim.Native.Nat.{ℕ, ◌+◌, ◌-◌}
 use native.Mathlib.Omega.{arith}
 use lib.Bits.{bit_or}
 use lib.ListN.{get_or}
-use Rattle.records.specs.Record.{flags, onBytes}
-use Rattle.records.proofs.Answers.{is-record, no_record, left_alone, was-changed}
-use Rattle.records.proofs.Making.{Making, making-start, making-more, making-end}
-use Rattle.cells.specs.Cells.{flagByte, compare}
-use Rattle.cells.proofs.Flags.{flag-byte-stays}
+use Rattle.records.specs.Record.{flags, on_bytes}
+use Rattle.records.proofs.Answers.{is-record, no_record, left_alone, was_changed}
+use Rattle.records.proofs.Making.{Making, making_start, making_more, making_end}
+use Rattle.cells.specs.Cells.{flag_byte, compare}
+use Rattle.cells.proofs.Flags.{flag_byte_stays}
 use Rattle.cells.proofs.cells.compare.Statement.{statement}
 use Rattle.cells.proofs.cells.compare.Tie as tie
 
 abbrev invariant-loop : tie.invariant-loop
-invariant-loop rec₀ j₀ rec j = Making (λ k old. bit_or old (flagByte rec₀ k)) flags.at flags.size rec₀ rec j
+invariant-loop rec₀ j₀ rec j = Making (λ k old. bit_or old (flag_byte rec₀ k)) flags.at flags.size rec₀ rec j
 
 abbrev decreases-loop : tie.decreases-loop
 decreases-loop rec₀ j₀ rec j = flags.size - j
@@ -27,7 +27,7 @@ returns c =
     left_alone _ (compare r) r refl (no_record r c.if1.true) refl
 
 loop-holds : tie.Need-loop-init invariant-loop decreases-loop
-loop-holds c = making-start _ _ _ _
+loop-holds c = making_start _ _ _ _
 
 flag-byte-requires : tie.Need-flag-byte-requires invariant-loop decreases-loop
 flag-byte-requires c κs = omega arith
@@ -55,19 +55,19 @@ loop-again c =
     let l = c.before.before.before.before in
     let rec₀ = l.before.before.before.args.rec.now in
     let j = l.loop.j in
-    making-more _ _ _ _ l.loop.invariant (omega arith)
+    making_more _ _ _ _ l.loop.invariant (omega arith)
     (ap (bit_or (get_or l.loop.rec (flags.at + j) 0))
-    (c.before.flag-byte.ensures ∙ ap (λ (r : List ℕ). flagByte r j) l.loop.invariant.so_far ∙ flag-byte-stays _ j rec₀ j))
+    (c.before.flag-byte.ensures ∙ ap (λ (r : List ℕ). flag_byte r j) l.loop.invariant.so_far ∙ flag_byte_stays _ j rec₀ j))
 
 same_length : tie.Need-same-length invariant-loop decreases-loop
 same_length c = c.before.loop.invariant.size
 
 returns-2 : tie.Need-returns-2 invariant-loop decreases-loop
-unfolding compare onBytes
+unfolding compare on_bytes
 returns-2 c =
     let start = c.before.before in
     let r = start.before.before.args.rec.now in
-    was-changed _ (compare r) r refl (is-record r start.if1.false) (making-end _ _ _ _ c.before.loop.invariant c.loop-test.false)
+    was_changed _ (compare r) r refl (is-record r start.if1.false) (making_end _ _ _ _ c.before.loop.invariant c.loop-test.false)
 
 pub compare-spec : {M : Type 1} → statement M
 compare-spec =

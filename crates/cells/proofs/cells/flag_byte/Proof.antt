@@ -4,8 +4,8 @@ use mathlib.Core.Path.{ap₂, subst⁻¹}
 use Prim.Native.Nat.{ℕ, ◌+◌, ◌*◌, ◌≤◌}
 use native.Mathlib.Omega.{arith}
 use borrow.Author.Rules.{rules}
-use Rattle.cells.specs.Cells.{flagByte}
-use Rattle.cells.proofs.Flags.{flags-at-most-three}
+use Rattle.cells.specs.Cells.{flag_byte}
+use Rattle.cells.proofs.Flags.{flags-at_most_three}
 use Rattle.cells.proofs.cells.flag_byte.Statement.{statement}
 use Rattle.cells.proofs.cells.flag_byte.Tie as tie
 
@@ -44,16 +44,16 @@ flags-of-requires-4 c κs = search rules
 
 -- the flags of the four cells, as the calls give them
 first : (c : tie.After-flags-of4) → c.before.before.before.flags_of.result ≤ 3
-first c = subst⁻¹ (λ (n : ℕ). n ≤ 3) c.before.before.before.flags_of.ensures (flags-at-most-three _ _)
+first c = subst⁻¹ (λ (n : ℕ). n ≤ 3) c.before.before.before.flags_of.ensures (flags-at_most_three _ _)
 
 second : (c : tie.After-flags-of4) → c.before.before.flags-of2.result ≤ 3
-second c = subst⁻¹ (λ (n : ℕ). n ≤ 3) c.before.before.flags-of2.ensures (flags-at-most-three _ _)
+second c = subst⁻¹ (λ (n : ℕ). n ≤ 3) c.before.before.flags-of2.ensures (flags-at_most_three _ _)
 
 third : (c : tie.After-flags-of4) → c.before.flags-of3.result ≤ 3
-third c = subst⁻¹ (λ (n : ℕ). n ≤ 3) c.before.flags-of3.ensures (flags-at-most-three _ _)
+third c = subst⁻¹ (λ (n : ℕ). n ≤ 3) c.before.flags-of3.ensures (flags-at_most_three _ _)
 
 fourth : (c : tie.After-flags-of4) → c.flags-of4.result ≤ 3
-fourth c = subst⁻¹ (λ (n : ℕ). n ≤ 3) c.flags-of4.ensures (flags-at-most-three _ _)
+fourth c = subst⁻¹ (λ (n : ℕ). n ≤ 3) c.flags-of4.ensures (flags-at_most_three _ _)
 
 mul-result : tie.Need-overflow-mul-result
 mul-result c = omega (arith, first c, second c, third c, fourth c)
@@ -74,7 +74,7 @@ add-result-3 : tie.Need-overflow-add-result-3
 add-result-3 c = omega (arith, first c, second c, third c, fourth c)
 
 returns : tie.Need-returns
-unfolding flagByte
+unfolding flag_byte
 returns c =
     ap₂ (λ (m n : ℕ). m + n * 64)
     (ap₂ (λ (m n : ℕ). m + n * 16) (ap₂ (λ (m n : ℕ). m + n * 4) c.before.before.before.flags_of.ensures c.before.before.flags-of2.ensures) c.before.flags-of3.ensures)

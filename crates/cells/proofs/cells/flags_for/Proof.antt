@@ -10,9 +10,9 @@ use borrow.Author.Rules.{rules}
 use mir.Syntax.{w32}
 use mir.Val.{to_z, of_z}
 use mir.ValLaws.{to_z-of_z}
-use Rattle.cells.specs.Cells.{flagsFor}
-use Rattle.laws.proofs.Counts.{flag-at-most-one}
-use Rattle.cells.proofs.Flags.{both-flags}
+use Rattle.cells.specs.Cells.{flags_for}
+use Rattle.laws.proofs.Counts.{flag_at_most_one}
+use Rattle.cells.proofs.Flags.{both_flags}
 use Rattle.cells.proofs.cells.flags_for.Statement.{statement}
 use Rattle.cells.proofs.cells.flags_for.Tie as tie
 
@@ -34,19 +34,19 @@ over c =
     lt_z (to_z w32 (of_z w32 a.upper.0)) (to_z w32 (of_z w32 a.code.0))
 
 mul-result : tie.Need-overflow-mul-result
-mul-result c = omega (arith, flag-at-most-one (under c), flag-at-most-one (over c))
+mul-result c = omega (arith, flag_at_most_one (under c), flag_at_most_one (over c))
 
 add-result : tie.Need-overflow-add-result
-add-result c = omega (arith, flag-at-most-one (under c), flag-at-most-one (over c))
+add-result c = omega (arith, flag_at_most_one (under c), flag_at_most_one (over c))
 
 returns : tie.Need-returns
-unfolding flagsFor
+unfolding flags_for
 returns c =
     let a = c.before.before.before.before.before.before.before.before.args in
     let code = to_z-of_z w32 a.code.0 (record { sfits = c.struct-told4.given.0.1 }) in
     let lower = to_z-of_z w32 a.lower.0 (record { sfits = c.before.before.before.before.struct-told2.given.0.1 }) in
     let upper = to_z-of_z w32 a.upper.0 (record { sfits = c.before.before.struct-told3.given.0.1 }) in
-    both-flags (under c) (over c)
+    both_flags (under c) (over c)
     ∙ ap₂ (λ (u o : Bool). cond u 1 0 + cond o 2 0) (ap₂ lt_z code lower) (ap₂ lt_z upper code)
 
 pub flags-for-spec : {M : Type 1} → statement M

@@ -6,8 +6,8 @@ use mathlib.Core.Bool.{Bool, cond}
 use borrow.Author.Rules.{rules}
 use Rattle.thresholds.specs.declared.thresholds.ResultCode.{ResultCode}
 use Rattle.thresholds.specs.Thresholds.{vuv, vov, codes_of}
-use Rattle.cells.specs.Cells.{code_at, isCleared, flagsFor, flags_of}
-use Rattle.cells.proofs.Flags.{cleared, not-cleared}
+use Rattle.cells.specs.Cells.{code_at, is_cleared, flags_for, flags_of}
+use Rattle.cells.proofs.Flags.{cleared, not_cleared}
 use Rattle.cells.proofs.cells.flags_of.Statement.{statement}
 use Rattle.cells.proofs.cells.flags_of.Tie as tie
 
@@ -20,8 +20,8 @@ returns c =
     let a = c.before.before.before.before.before.args in
     let code = c.before.before.before.code-in in
     let r = a.rec.now in
-    sym (ap (λ (b : Bool). cond b 0 (flagsFor (code_at r a.c) (codes_of (vuv r)) (codes_of (vov r))))
-    (ap (λ (k : ResultCode). isCleared k.0) (sym code.ensures)
+    sym (ap (λ (b : Bool). cond b 0 (flags_for (code_at r a.c) (codes_of (vuv r)) (codes_of (vov r))))
+    (ap (λ (k : ResultCode). is_cleared k.0) (sym code.ensures)
     ∙ cleared code.result.0 (record { sfits = c.before.struct_told.given.0.1 }) c.if1.true))
 
 under-threshold-requires : tie.Need-under-threshold-requires
@@ -49,11 +49,11 @@ returns-2 c =
     let lower = c.before.before.before.codes-of.ensures ∙ ap codes_of c.before.before.before.before.under-threshold.ensures in
     let upper = c.before.codes-of2.ensures ∙ ap codes_of c.before.before.over-threshold.ensures in
     c.flags-for.ensures
-    ∙ ap (λ (k : ResultCode). flagsFor k c.before.before.before.codes-of.result c.before.codes-of2.result) code.ensures
-    ∙ ap₂ (flagsFor (code_at r a.c)) lower upper
-    ∙ sym (ap (λ (b : Bool). cond b 0 (flagsFor (code_at r a.c) (codes_of (vuv r)) (codes_of (vov r))))
-    (ap (λ (k : ResultCode). isCleared k.0) (sym code.ensures)
-    ∙ not-cleared code.result.0 (record { sfits = test.before.struct_told.given.0.1 }) test.if1.false))
+    ∙ ap (λ (k : ResultCode). flags_for k c.before.before.before.codes-of.result c.before.codes-of2.result) code.ensures
+    ∙ ap₂ (flags_for (code_at r a.c)) lower upper
+    ∙ sym (ap (λ (b : Bool). cond b 0 (flags_for (code_at r a.c) (codes_of (vuv r)) (codes_of (vov r))))
+    (ap (λ (k : ResultCode). is_cleared k.0) (sym code.ensures)
+    ∙ not_cleared code.result.0 (record { sfits = test.before.struct_told.given.0.1 }) test.if1.false))
 
 pub flags-of-spec : {M : Type 1} → statement M
 flags-of-spec =

@@ -7,15 +7,15 @@ use native.Mathlib.Omega.{arith}
 use lib.Dec.{eqb}
 use lib.ListN.{length}
 use borrow.Author.Tests.{eq-eqb, ne_eqb}
-use Rattle.records.specs.Record.{cellCount, cells, onBytes}
-use Rattle.records.proofs.Answers.{is-record, no_record, left_alone, was-changed}
-use Rattle.records.proofs.Making.{Making, making-start, making-more, making-end}
-use Rattle.cells.specs.Cells.{codeByte, store}
+use Rattle.records.specs.Record.{cell_count, cells, on_bytes}
+use Rattle.records.proofs.Answers.{is-record, no_record, left_alone, was_changed}
+use Rattle.records.proofs.Making.{Making, making_start, making_more, making_end}
+use Rattle.cells.specs.Cells.{code_byte, store}
 use Rattle.cells.proofs.cells.store.Statement.{statement}
 use Rattle.cells.proofs.cells.store.Tie as tie
 
 abbrev invariant-loop : tie.invariant-loop
-invariant-loop rec₀ codes i₀ rec i = Making (λ j old. codeByte codes j) cells.at cells.size rec₀ rec i
+invariant-loop rec₀ codes i₀ rec i = Making (λ j old. code_byte codes j) cells.at cells.size rec₀ rec i
 
 abbrev decreases-loop : tie.decreases-loop
 decreases-loop rec₀ codes i₀ rec i = cells.size - i
@@ -24,18 +24,18 @@ returns : tie.Need-returns invariant-loop decreases-loop
 returns c =
     let a = c.before.before.args in
     left_alone _ (store a.codes.now a.rec.now) a.rec.now refl
-    (ap (λ (b : Bool). b && eqb (length a.codes.now) cellCount) (no_record a.rec.now c.if1.true))
+    (ap (λ (b : Bool). b && eqb (length a.codes.now) cell_count) (no_record a.rec.now c.if1.true))
     refl
 
 returns-2 : tie.Need-returns-2 invariant-loop decreases-loop
 returns-2 c =
     let a = c.before.before.before.args in
     left_alone _ (store a.codes.now a.rec.now) a.rec.now refl
-    (ap₂ ◌&&◌ (is-record a.rec.now c.before.if1.false) (ne_eqb (length a.codes.now) cellCount c.if2.true))
+    (ap₂ ◌&&◌ (is-record a.rec.now c.before.if1.false) (ne_eqb (length a.codes.now) cell_count c.if2.true))
     refl
 
 loop-holds : tie.Need-loop-init invariant-loop decreases-loop
-loop-holds c = making-start _ _ _ _
+loop-holds c = making_start _ _ _ _
 
 mul-loop : tie.Need-overflow-mul-loop invariant-loop decreases-loop
 mul-loop c = omega arith
@@ -56,18 +56,18 @@ loop-less : tie.Need-loop-smaller invariant-loop decreases-loop
 loop-less c = omega arith
 
 loop-again : tie.Need-loop-preserved invariant-loop decreases-loop
-loop-again c = making-more _ _ _ _ c.before.before.loop.invariant (omega arith) c.code-byte.ensures
+loop-again c = making_more _ _ _ _ c.before.before.loop.invariant (omega arith) c.code-byte.ensures
 
 same_length : tie.Need-same-length invariant-loop decreases-loop
 same_length c = c.before.loop.invariant.size
 
 returns-3 : tie.Need-returns-3 invariant-loop decreases-loop
-unfolding store onBytes
+unfolding store on_bytes
 returns-3 c =
     let a = c.before.before.before.before.before.args in
-    was-changed _ (store a.codes.now a.rec.now) a.rec.now refl
-    (ap₂ ◌&&◌ (is-record a.rec.now c.before.before.before.if1.false) (eq-eqb (length a.codes.now) cellCount c.before.before.if2.false))
-    (making-end _ _ _ _ c.before.loop.invariant c.loop-test.false)
+    was_changed _ (store a.codes.now a.rec.now) a.rec.now refl
+    (ap₂ ◌&&◌ (is-record a.rec.now c.before.before.before.if1.false) (eq-eqb (length a.codes.now) cell_count c.before.before.if2.false))
+    (making_end _ _ _ _ c.before.loop.invariant c.loop-test.false)
 
 pub store_spec : {M : Type 1} → statement M
 store_spec =

@@ -10,7 +10,7 @@ use mir.Syntax.{w16, w32}
 use mir.Val.{Fits, SFits, to_z, of_z}
 use mir.Facts.{to_z-of_z}
 use Rattle.cells.specs.Cells.{word}
-use Rattle.cells.proofs.CodeBits.{word_below, word-of-negative, word-of-positive}
+use Rattle.cells.proofs.CodeBits.{word_below, word_of_negative, word_of_positive}
 use Rattle.thresholds.proofs.TwosComplement.{widens, widened}
 use Rattle.cells.proofs.cells.word_of.Statement.{statement}
 use Rattle.cells.proofs.cells.word_of.Tie as tie
@@ -20,7 +20,7 @@ sum : (c : tie.Then1) → to_z w32 (of_z w32 (to_z w16 (of_z w16 c.before.args.c
 sum c =
     let fits = c.before.ranges.code in
     ap (λ (z : ℤ). z +ℤ pos 65536) (widened w32 tt fits)
-    ∙ word-of-negative c.before.args.code (subst (λ (z : ℤ). lt_z z (pos 0) ≡ true) (to_z-of_z fits) c.if1.true) fits
+    ∙ word_of_negative c.before.args.code (subst (λ (z : ℤ). lt_z z (pos 0) ≡ true) (to_z-of_z fits) c.if1.true) fits
 
 cast-result : tie.Need-overflow-cast-result
 cast-result c = widens w32 tt c.before.ranges.code
@@ -37,7 +37,7 @@ cast-result-2 c =
 plain : (c : tie.Else1) → to_z w16 (of_z w16 c.before.args.code) ≡ pos (word c.before.args.code)
 plain c =
     let same = to_z-of_z c.before.ranges.code in
-    same ∙ word-of-positive c.before.args.code (subst (λ (z : ℤ). lt_z z (pos 0) ≡ false) same c.if1.false)
+    same ∙ word_of_positive c.before.args.code (subst (λ (z : ℤ). lt_z z (pos 0) ≡ false) same c.if1.false)
 
 cast-result-3 : tie.Need-overflow-cast-result-3
 cast-result-3 c =

@@ -9,9 +9,9 @@ use Rattle.judging.specs.declared.heads.Judged.{Judged}
 use Rattle.judging.specs.declared.heads.Judged.TheVariants.{Good}
 use Rattle.chain.specs.declared.frames.Answer.TheVariants.{Accepted}
 use Rattle.chain.specs.Judged.{Ready, ReadyIf}
-use Rattle.judging.proofs.Whole.{whole-records, where-so}
+use Rattle.judging.proofs.Whole.{whole_records, where_so}
 use Rattle.replying.proofs.RepliesInto.{fitting}
-use Rattle.chain.proofs.Outcome.{the-answer, the-table, the-buffer}
+use Rattle.chain.proofs.Outcome.{the_answer, the_table, the_buffer}
 use borrow.Author.Rules.{rules}
 use Rattle.chain.proofs.frames.handle.Statement.{statement}
 use Rattle.chain.proofs.frames.handle.Tie as tie
@@ -46,8 +46,8 @@ returns : tie.Need-returns
 returns c =
     let a = c.before.before.before.before.before.before.before.before.args in
     let e = sym c.before.before.before.judge.ensures.0 ∙ c.before.refusal.given.1 in (
-      sym (the-answer a.table.now a.frame.now a.buffer.now e),
-      (sym (the-table a.table.now a.frame.now a.buffer.now e), sym (the-buffer a.table.now a.frame.now a.buffer.now e)),
+      sym (the_answer a.table.now a.frame.now a.buffer.now e),
+      (sym (the_table a.table.now a.frame.now a.buffer.now e), sym (the_buffer a.table.now a.frame.now a.buffer.now e)),
     )
 
 same-length-2 : tie.Need-same-length-2
@@ -62,12 +62,12 @@ returns-2 c =
     let good = c.before.before.before.before.before.before.before.before.before.before.command.given.1 in
     let judged = c.before.before.before.before.before.before.before.before.before.before.before.before.judge.ensures in
     let ready = known a.table.now a.frame.now a.buffer.now good judged.1 in
-    let fits = fitting _ _ a.table.now _ (whole-records _ a.table.now ready.few ready.whole) ready.enough in
+    let fits = fitting _ _ a.table.now _ (whole_records _ a.table.now ready.few ready.whole) ready.enough in
     let replies = c.before.before.before.before.before.before.replies-of.ensures in
     let served = c.before.before.serve-frame.ensures in
     let e = sym judged.0 ∙ good in (
-      ap₂ Accepted served.0 (replies.0 ∙ sym (where-so _ _ _ fits)) ∙ sym (the-answer a.table.now a.frame.now a.buffer.now e),
-      (served.1 ∙ sym (the-table a.table.now a.frame.now a.buffer.now e), replies.1 ∙ sym (where-so _ _ _ fits) ∙ sym (the-buffer a.table.now a.frame.now a.buffer.now e)),
+      ap₂ Accepted served.0 (replies.0 ∙ sym (where_so _ _ _ fits)) ∙ sym (the_answer a.table.now a.frame.now a.buffer.now e),
+      (served.1 ∙ sym (the_table a.table.now a.frame.now a.buffer.now e), replies.1 ∙ sym (where_so _ _ _ fits) ∙ sym (the_buffer a.table.now a.frame.now a.buffer.now e)),
     )
 
 pub handle-spec : {M : Type 1} → statement M

@@ -6,7 +6,7 @@ use native.Mathlib.Omega.{arith}
 use lib.Dec.{lit<}
 use Rattle.laws.specs.Bits.{bits_of}
 use Rattle.pec.specs.Remainder.{remainder}
-use Rattle.pec.specs.Words.{polynomial15, twoBytes, pec15, commandCheck}
+use Rattle.pec.specs.Words.{polynomial15, two_bytes, pec15, command_check}
 use Rattle.pec.proofs.Remainder.{remainder-below}
 use Rattle.pec.proofs.Messages.{code-message}
 use borrow.Author.Rules.{rules}
@@ -25,8 +25,8 @@ two-bytes-requires : tie.Need-two-bytes-requires
 two-bytes-requires c κs = search rules
 
 returns : tie.Need-returns
-unfolding commandCheck
-returns c = c.two_bytes.ensures ∙ ap (λ (n : ℕ). twoBytes (n * 2)) (c.before.of-command.ensures ∙ code-message _ c.before.before.ranges.code.fits)
+unfolding command_check
+returns c = c.two_bytes_lem.ensures ∙ ap (λ (n : ℕ). two_bytes (n * 2)) (c.before.of-command.ensures ∙ code-message _ c.before.before.ranges.code.fits)
 
 pub command-check-spec : {M : Type 1} → statement M
 command-check-spec = tie.close (tie.spec of-command-requires mul-two-bytes two-bytes-requires returns)

@@ -12,8 +12,8 @@ use lib.Seq.{length-take-le}
 use borrow.Author.Tests.{eq-eqb, ne_eqb}
 use Rattle.laws.specs.Bits.{bits_of, number_of}
 use Rattle.pec.specs.Remainder.{remainder}
-use Rattle.pec.specs.Words.{word_at, polynomial15, pec15, commandRight}
-use Rattle.pec.proofs.Messages.{bytes-of-take, word_below, last-two, command-message}
+use Rattle.pec.specs.Words.{word_at, polynomial15, pec15, command_right}
+use Rattle.pec.proofs.Messages.{bytes_of-take, word_below, last-two, command-message}
 use borrow.Author.Rules.{rules}
 use Rattle.check_words.proofs.words.command_right.Statement.{statement}
 use Rattle.check_words.proofs.words.command_right.Tie as tie
@@ -28,10 +28,10 @@ module _ (four : List ℕ) (h : (i : ℕ) → get_or four i 0 < 256) (e : length
   check : remainder 15 polynomial15 16 (bits_of 16 (number_of four / 65536)) ≡ pec15 (take 2 four)
   check =
       ap (λ (n : ℕ). remainder 15 polynomial15 16 (bits_of 16 n)) command
-      ∙ command-message (take 2 four) (bytes-of-take four h 2) (length-take-le 2 four (omega arith))
+      ∙ command-message (take 2 four) (bytes_of-take four h 2) (length-take-le 2 four (omega arith))
 
 returns : tie.Need-returns
-unfolding commandRight
+unfolding command_right
 returns c =
     let four = c.before.before.args.four.now in
     sym (ap (λ (b : Bool). b && eqb (word_at four 2) (pec15 (take 2 four) * 2)) (ne_eqb (length four) 4 c.if1.true))
@@ -54,7 +54,7 @@ mul-result : tie.Need-overflow-mul-result
 mul-result c = search rules
 
 returns-2 : tie.Need-returns-2
-unfolding commandRight
+unfolding command_right
 returns-2 c =
     let s = c.before.before.before in
     let four = s.before.args.four.now in

@@ -5,20 +5,20 @@ use mathlib.Core.List.{List}
 use Prim.Native.Nat.{ℕ, ◌+◌, ◌*◌, ◌/◌, ◌<◌, ◌≤◌}
 use native.Mathlib.Omega.{arith}
 use lib.ListN.{get_or, get_or-eq_default}
-use Rattle.pec.specs.Words.{word_at, counterOf}
+use Rattle.pec.specs.Words.{word_at, counter_of}
 use borrow.Author.Rules.{rules}
 use Rattle.check_words.proofs.words.counter_in.Statement.{statement}
 use Rattle.check_words.proofs.words.counter_in.Tie as tie
 
 returns : tie.Need-returns
-unfolding counterOf word_at
+unfolding counter_of word_at
 returns c =
     let eight = c.before.args.eight.now in
     let none : (i : ℕ) → 6 ≤ i → get_or eight i 0 ≡ 0 = λ i h. get_or-eq_default eight 0 (omega (arith, c.if1.true)) in
     omega (arith, none 6 (omega arith), none (6 + 1) (omega arith))
 
 returns-2 : tie.Need-returns-2
-unfolding counterOf word_at
+unfolding counter_of word_at
 returns-2 c =
     let eight = c.before.before.args.eight.now in
     by (get_or eight 6 0) (get_or eight (6 + 1) 0) (c.shared-slice-known.given 7).fits

@@ -8,7 +8,7 @@ use native.Mathlib.Omega.{arith}
 use lib.ListN.{length}
 use borrow.Author.Tests.{ne_eqb}
 use Rattle.laws.specs.Bits.{number_of}
-use Rattle.pec.specs.Words.{payloadRight, number_in}
+use Rattle.pec.specs.Words.{payload_right, number_in}
 use Rattle.pec.proofs.Lead.{lead, lead-right}
 use borrow.Author.Rules.{rules}
 use Rattle.check_words.proofs.Zero.{none_right}
@@ -26,7 +26,7 @@ returns-2 : tie.Need-returns-2
 returns-2 c =
     let eight = c.before.before.eight-of.ensures in
     let four = c.before.before.before.before.before.args.four.now in
-    (c.number-in.ensures.0 ∙ ap number_in eight, c.number-in.ensures.1 ∙ ap payloadRight eight ∙ lead-right four)
+    (c.number-in.ensures.0 ∙ ap number_in eight, c.number-in.ensures.1 ∙ ap payload_right eight ∙ lead-right four)
 
 pub four-in-spec : {M : Type 1} → statement M
 four-in-spec = tie.close (tie.spec returns (λ c κs. search rules) (λ c. search rules) (λ c κs. search rules) returns-2)

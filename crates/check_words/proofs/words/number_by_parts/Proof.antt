@@ -5,8 +5,8 @@ use Prim.Native.Nat.{ℕ, ◌+◌, ◌*◌, ◌%◌, ◌^◌, ◌≤◌, ◌<◌
 use native.Mathlib.Nat.{lt_of_lt_of_le}
 use native.Mathlib.Omega.{arith}
 use lib.Pow.{pow_mono, shl_exact}
-use Rattle.laws.proofs.Shifts.{join-below}
-use Rattle.pec.proofs.Messages.{first-four, rest-size, two-parts}
+use Rattle.laws.proofs.Shifts.{join_below}
+use Rattle.pec.proofs.Messages.{first-four, rest-size, two_parts}
 use borrow.Author.Rules.{rules}
 use Rattle.check_words.proofs.words.number_by_parts.Statement.{statement}
 use Rattle.check_words.proofs.words.number_by_parts.Tie as tie
@@ -32,7 +32,7 @@ module _ {a : ℕ} (rest : ℕ) (few : rest ≤ 4) (ha : a < 2 ^ 32) where
   below : {b : ℕ} → b < 2 ^ (8 * rest) → a * 2 ^ (8 * rest) % 2 ^ 64 + b < 2 ^ (8 * (4 + rest))
   below {b} hb =
       let bits : 32 + 8 * rest ≡ 8 * (4 + rest) = omega arith in
-      subst⁻¹ (λ (x : ℕ). x + b < 2 ^ (8 * (4 + rest))) moved (subst (λ (n : ℕ). a * 2 ^ (8 * rest) + b < 2 ^ n) bits (join-below 32 (8 * rest) ha hb))
+      subst⁻¹ (λ (x : ℕ). x + b < 2 ^ (8 * (4 + rest))) moved (subst (λ (n : ℕ). a * 2 ^ (8 * rest) + b < 2 ^ n) bits (join_below 32 (8 * rest) ha hb))
 
   fits : {b : ℕ} → b < 2 ^ (8 * rest) → a * 2 ^ (8 * rest) % 2 ^ 64 + b < 2 ^ 64
   fits hb =
@@ -77,7 +77,7 @@ returns c =
     let s = c.before.before.before.before.before in
     let a = first c.before.before in (
       ap (λ (x : ℕ). x + c.number-of2.result) (moved s.args.rest s.requires.1 a)
-          ∙ two-parts s.args.bytes.now s.args.rest s.requires.0 c.before.before.number-of.ensures.0 c.number-of2.ensures.0,
+          ∙ two_parts s.args.bytes.now s.args.rest s.requires.0 c.before.before.number-of.ensures.0 c.number-of2.ensures.0,
       below s.args.rest s.requires.1 a (second c),
     )
 

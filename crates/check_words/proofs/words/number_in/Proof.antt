@@ -10,9 +10,9 @@ use lib.Dec.{eqb}
 use lib.ListN.{length, take}
 use borrow.Author.Tests.{eq-eqb, ne_eqb}
 use Rattle.laws.specs.Bits.{bits_of, Bytes, number_of}
-use Rattle.laws.proofs.Numbers.{bits-of-string}
+use Rattle.laws.proofs.Numbers.{bits_of_string}
 use Rattle.pec.specs.Remainder.{remainder}
-use Rattle.pec.specs.Words.{word_at, polynomial10, dataPec, sealedRight, payloadRight, number_in, numberRight}
+use Rattle.pec.specs.Words.{word_at, polynomial10, data_pec, sealed_right, payload_right, number_in, number_right}
 use Rattle.pec.proofs.Right.{sealed-left}
 use borrow.Author.Rules.{rules}
 use Rattle.check_words.proofs.Zero.{none_right}
@@ -21,11 +21,11 @@ use Rattle.check_words.proofs.words.number_in.Tie as tie
 
 -- the check, where there are eight bytes
 abbrev checked : List ℕ → Bool
-checked eight = eqb (word_at eight 6 % 1024) (dataPec (take 6 eight) (word_at eight 6 / 1024))
+checked eight = eqb (word_at eight 6 % 1024) (data_pec (take 6 eight) (word_at eight 6 / 1024))
 
 module _ (eight : List ℕ) (h : Bytes eight) (e : length eight ≡ 8) where
   check : eqb (remainder 10 polynomial10 16 (bits_of 64 (number_of eight))) 0 ≡ checked eight
-  check = ap (λ (bs : List Bool). eqb (remainder 10 polynomial10 16 bs) 0) (bits-of-string 64 eight h (omega arith)) ∙ sealed-left eight h 6 e
+  check = ap (λ (bs : List Bool). eqb (remainder 10 polynomial10 16 bs) 0) (bits_of_string 64 eight h (omega arith)) ∙ sealed-left eight h 6 e
 
 returns : tie.Need-returns
 unfolding number_in
@@ -38,7 +38,7 @@ number-by-parts-requires : tie.Need-number-by-parts-requires
 number-by-parts-requires c κs = search rules
 
 returns-2 : tie.Need-returns-2
-unfolding number_in numberRight payloadRight sealedRight
+unfolding number_in number_right payload_right sealed_right
 returns-2 c =
     let s = c.before.before in
     let eight = s.before.args.eight.now in

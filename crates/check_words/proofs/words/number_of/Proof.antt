@@ -10,14 +10,14 @@ use native.Mathlib.Omega.{arith}
 use lib.ListN.{length, get_or, drop, drop_of_length-le}
 use lib.Pow.{pow-add, pow_mono}
 use lib.Seq.{drop-cons}
-use Rattle.laws.specs.Bits.{numberFrom, number_of}
+use Rattle.laws.specs.Bits.{number_from, number_of}
 use Rattle.check_words.proofs.words.number_of.Statement.{statement}
 use Rattle.check_words.proofs.words.number_of.Tie as tie
 
 record Leads (bytes : List ℕ) (n i : ℕ) : Type 0 where
   within : i ≤ length bytes
   below : n < 2 ^ (8 * i)
-  leads : numberFrom n (drop i bytes) ≡ number_of bytes
+  leads : number_from n (drop i bytes) ≡ number_of bytes
 
 module _ (bytes : List ℕ) {n i : ℕ} (l : Leads bytes n i) where
   fits : length bytes ≤ 8 → i < length bytes → n < 2 ^ 56
@@ -26,20 +26,20 @@ module _ (bytes : List ℕ) {n i : ℕ} (l : Leads bytes n i) where
       lt_of_lt_of_le l.below (pow_mono seven)
 
   more : i < length bytes → get_or bytes i 0 < 256 → Leads bytes (n * 256 + get_or bytes i 0) (i + 1)
-  unfolding numberFrom
+  unfolding number_from
   more h b =
       let eight-more : 8 * i + 8 ≡ 8 * (i + 1) = omega arith in
       record {
         within = omega arith;
         below = subst (λ (k : ℕ). n * 256 + get_or bytes i 0 < k) (sym (pow-add 2 (8 * i) 8) ∙ ap (λ (k : ℕ). 2 ^ k) eight-more) (omega (arith, l.below, b));
-        leads = sym (ap (numberFrom n) (drop-cons bytes i 0 h ∙ ap (λ (k : ℕ). get_or bytes i 0 ∷ drop k bytes) (sym (add-one i)))) ∙ l.leads;
+        leads = sym (ap (number_from n) (drop-cons bytes i 0 h ∙ ap (λ (k : ℕ). get_or bytes i 0 ∷ drop k bytes) (sym (add-one i)))) ∙ l.leads;
       }
 
   done : length bytes ≤ i → (n ≡ number_of bytes) × (n < 2 ^ (8 * length bytes))
-  unfolding numberFrom
+  unfolding number_from
   done h =
       let last : i ≡ length bytes = omega (arith, l.within) in
-      (ap (numberFrom n) (sym (drop_of_length-le bytes h)) ∙ l.leads, subst (λ (k : ℕ). n < 2 ^ (8 * k)) last l.below)
+      (ap (number_from n) (sym (drop_of_length-le bytes h)) ∙ l.leads, subst (λ (k : ℕ). n < 2 ^ (8 * k)) last l.below)
 
 abbrev invariant-loop : tie.invariant-loop
 invariant-loop bytes n₀ i₀ n i = Leads bytes n i

@@ -8,7 +8,7 @@ use borrow.Author.Rules.{rules}
 use Rattle.laws.specs.Bits.{◌⊕◌, odd, bits_of}
 use Rattle.pec.specs.Remainder.{once, step, remainder}
 use Rattle.pec.specs.Words.{polynomial10}
-use Rattle.pec.proofs.ManyBits.{zeros-first, from_start}
+use Rattle.pec.proofs.ManyBits.{zeros_first, from_start}
 use Rattle.check_words.proofs.words.of_message.Statement.{statement}
 use Rattle.check_words.proofs.words.of_message.Tie as tie
 
@@ -22,7 +22,7 @@ remainder-10-requires c κs = search rules
 returns : tie.Need-returns
 unfolding ◌⊕◌
 returns c =
-    ap₂ ◌⊕◌ (c.remainder-10.ensures ∙ zeros-first 10 polynomial10 10 54 c.before.requires) (sym of-zeros)
+    ap₂ ◌⊕◌ (c.remainder-10.ensures ∙ zeros_first 10 polynomial10 10 54 c.before.requires) (sym of-zeros)
     ∙ from_start 10 polynomial10 16 54 c.before.args.message
 
 pub of-message-spec : {M : Type 1} → statement M

@@ -8,10 +8,10 @@ use native.Mathlib.Omega.{arith}
 use lib.Dec.{lit<}
 use Rattle.laws.specs.Bits.{bits_of}
 use Rattle.pec.specs.Remainder.{remainder}
-use Rattle.pec.specs.Words.{polynomial10, twoBytes, seal}
+use Rattle.pec.specs.Words.{polynomial10, two_bytes, seal}
 use Rattle.pec.proofs.Remainder.{remainder-below}
-use Rattle.pec.proofs.CheckWords.{counter-bits}
-use Rattle.pec.proofs.Messages.{data-message}
+use Rattle.pec.proofs.CheckWords.{counter_bits}
+use Rattle.pec.proofs.Messages.{data_message}
 use borrow.Author.Rules.{rules}
 use Rattle.check_words.proofs.words.seal_six.Statement.{statement}
 use Rattle.check_words.proofs.words.seal_six.Tie as tie
@@ -48,11 +48,11 @@ returns c =
     let s = c.before.before in
     let six = s.before.args.six.now in
     let counter = s.before.args.counter in
-    ap (λ (n : ℕ). twoBytes (counter % 64 * 1024 + n))
+    ap (λ (n : ℕ). two_bytes (counter % 64 * 1024 + n))
     (c.of-message.ensures
     ∙ ap (λ (n : ℕ). remainder 10 polynomial10 16 (bits_of 54 (n * 64 + counter % 64))) c.before.number-by-parts.ensures.0
-    ∙ data-message six (counter % 64) (λ i. (s.shared-slice-known.given i).fits) s.before.requires (mod-lt counter (lit< tt))
-    ∙ counter-bits six counter)
+    ∙ data_message six (counter % 64) (λ i. (s.shared-slice-known.given i).fits) s.before.requires (mod-lt counter (lit< tt))
+    ∙ counter_bits six counter)
 
 pub seal-six-spec : {M : Type 1} → statement M
 seal-six-spec =

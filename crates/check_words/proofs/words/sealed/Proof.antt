@@ -6,7 +6,7 @@ use Prim.Native.Nat.{ℕ, ◌+◌, ◌*◌, ◌%◌}
 use lib.ListN.{length, get_or}
 use Rattle.laws.specs.Tables.{tabulate}
 use Rattle.laws.proofs.Tables.{rebuilt}
-use Rattle.pec.specs.Words.{twoBytes, dataPec, seal}
+use Rattle.pec.specs.Words.{two_bytes, data_pec, seal}
 use borrow.Author.Rules.{rules}
 use Rattle.check_words.proofs.words.sealed.Statement.{statement}
 use Rattle.check_words.proofs.words.sealed.Tie as tie
@@ -16,8 +16,8 @@ abbrev eight : List ℕ → List ℕ → List ℕ
 eight six two = get_or six 0 0 ∷ get_or six 1 0 ∷ get_or six 2 0 ∷ get_or six 3 0 ∷ get_or six 4 0 ∷ get_or six 5 0 ∷ get_or two 0 0 ∷ get_or two 1 0 ∷ []
 
 both : (six : List ℕ) (counter : ℕ) → length six ≡ 6 → eight six (seal six counter) ≡ six ++ seal six counter
-unfolding tabulate seal twoBytes
-both six counter e = ap (λ (l : List ℕ). l ++ twoBytes (counter % 64 * 1024 + dataPec six counter)) (rebuilt six 6 e)
+unfolding tabulate seal two_bytes
+both six counter e = ap (λ (l : List ℕ). l ++ two_bytes (counter % 64 * 1024 + data_pec six counter)) (rebuilt six 6 e)
 
 seal-six-requires : tie.Need-seal-six-requires
 seal-six-requires c κs = search rules
@@ -55,7 +55,7 @@ returns c =
     let start = end.before.before.before in
     let six = start.args.six.now in
     let whole : length six ≡ 6 = search rules in
-    ap (eight six) (end.two_bytes.ensures ∙ end.before.seal-six.ensures) ∙ both six start.args.counter whole
+    ap (eight six) (end.two_bytes_lem.ensures ∙ end.before.seal-six.ensures) ∙ both six start.args.counter whole
 
 pub sealed-spec : {M : Type 1} → statement M
 sealed-spec =

@@ -6,7 +6,7 @@ use Prim.Native.Nat.{ℕ, ◌+◌}
 use lib.ListN.{length, length-append, get_or}
 use Rattle.laws.specs.Tables.{tabulate}
 use Rattle.laws.proofs.Tables.{rebuilt}
-use Rattle.pec.specs.Words.{twoBytes, seal}
+use Rattle.pec.specs.Words.{two_bytes, seal}
 use Rattle.pec.proofs.Lead.{lead, lead-seal}
 use borrow.Author.Rules.{rules}
 use Rattle.check_words.proofs.words.sealed_two.Statement.{statement}
@@ -18,7 +18,7 @@ last eight = get_or eight 4 0 ∷ get_or eight 5 0 ∷ get_or eight 6 0 ∷ get_
 
 module _ (two : List ℕ) (counter : ℕ) (whole : length two ≡ 2) where
   long : length (two ++ seal (lead ++ two) counter) ≡ 4
-  unfolding seal twoBytes
+  unfolding seal two_bytes
   long = length-append two (seal (lead ++ two) counter) ∙ ap (λ (n : ℕ). n + 2) whole
 
   behind : last ((lead ++ two) ++ seal (lead ++ two) counter) ≡ two ++ seal two counter

@@ -6,8 +6,8 @@ use Prim.Native.Nat.{ℕ}
 use native.Mathlib.Omega.{arith}
 use lib.Dec.{leb}
 use borrow.Author.Tests.{le-leb, lt-leb}
-use Rattle.records.specs.Commands.{mostMonitors}
-use Rattle.clock_state.specs.State.{chainedIn}
+use Rattle.records.specs.Commands.{most_monitors}
+use Rattle.clock_state.specs.State.{chained_in}
 use borrow.Author.Rules.{rules}
 use Rattle.clock_state.proofs.state.chained_in.Statement.{statement}
 use Rattle.clock_state.proofs.state.chained_in.Tie as tie
@@ -23,19 +23,19 @@ abbrev by : Bool → ℕ → ℕ
 by b n = cond b n 0
 
 abbrev few-of : ℕ → ℕ
-few-of n = by (leb n mostMonitors) n
+few-of n = by (leb n most_monitors) n
 
 returns : tie.Need-returns
-unfolding chainedIn
+unfolding chained_in
 returns c =
     let n = c.before.byte_at in
-    (ap (λ (b : Bool). by b n.result) (sym (le-leb n.result mostMonitors c.if1.true)) ∙ ap few-of n.ensures, c.if1.true)
+    (ap (λ (b : Bool). by b n.result) (sym (le-leb n.result most_monitors c.if1.true)) ∙ ap few-of n.ensures, c.if1.true)
 
 returns-2 : tie.Need-returns-2
-unfolding chainedIn
+unfolding chained_in
 returns-2 c =
     let n = c.before.byte_at in
-    (ap (λ (b : Bool). by b n.result) (sym (lt-leb n.result mostMonitors (omega (arith, c.if1.false)))) ∙ ap few-of n.ensures, omega arith)
+    (ap (λ (b : Bool). by b n.result) (sym (lt-leb n.result most_monitors (omega (arith, c.if1.false)))) ∙ ap few-of n.ensures, omega arith)
 
 pub chained-in-spec : {M : Type 1} → statement M
 chained-in-spec = tie.close (tie.spec byte-at-requires cast-n returns returns-2)

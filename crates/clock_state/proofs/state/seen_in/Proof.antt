@@ -2,7 +2,7 @@
 -- Assumes nothing.
 use mathlib.Core.Path.{ap₂}
 use Prim.Native.Nat.{ℕ, ◌+◌, ◌*◌}
-use Rattle.clock_state.specs.State.{seenIn}
+use Rattle.clock_state.specs.State.{seen_in}
 use borrow.Author.Rules.{rules}
 use Rattle.clock_state.proofs.state.seen_in.Statement.{statement}
 use Rattle.clock_state.proofs.state.seen_in.Tie as tie
@@ -29,7 +29,7 @@ add-result : tie.Need-overflow-add-result
 add-result c = search rules
 
 returns : tie.Need-returns
-unfolding seenIn
+unfolding seen_in
 returns c = (ap₂ (λ (low high : ℕ). low + high * 256) c.before.byte_at.ensures c.byte-at2.ensures, search rules)
 
 pub seen-in-spec : {M : Type 1} → statement M

@@ -7,10 +7,10 @@ use native.Mathlib.Omega.{arith}
 use lib.ListN.{length, take, get_or, length-take}
 use lib.Seq.{take_all}
 use Rattle.clocking.specs.Clock.{clocked, answered}
-use Rattle.clocking.specs.Bytes.{clockOf}
-use Rattle.clocked.specs.Frames.{clockedAll, answeredAll, keptOne, keptBack}
-use Rattle.clocked.proofs.Run.{length-answeredAll}
-use Rattle.clocked.proofs.Clocking.{clock-at, back_at, clock-more, back_more, kept-none, kept-one, length-keptBack}
+use Rattle.clocking.specs.Bytes.{clock_of}
+use Rattle.clocked.specs.Frames.{clocked_all, answered_all, kept_one, kept_back}
+use Rattle.clocked.proofs.Run.{length-answered_all}
+use Rattle.clocked.proofs.Clocking.{clock-at, back_at, clock_more, back_more, kept-none, kept-one, length-kept_back}
 use borrow.Author.Rules.{rules}
 use Rattle.clocked.proofs.frames.clock_all.Statement.{statement}
 use Rattle.clocked.proofs.frames.clock_all.Tie as tie
@@ -18,14 +18,14 @@ use Rattle.clocked.proofs.frames.clock_all.Tie as tie
 abbrev invariant-loop : tie.invariant-loop
 invariant-loop state₀ table frame back₀ i₀ state back i =
     (i ≤ length frame)
-    × (clockOf state ≡ clock-at table frame (clockOf state₀) i)
-    × (back ≡ keptBack (back_at table frame (clockOf state₀) i) back₀)
+    × (clock_of state ≡ clock-at table frame (clock_of state₀) i)
+    × (back ≡ kept_back (back_at table frame (clock_of state₀) i) back₀)
 
 abbrev decreases-loop : tie.decreases-loop
 decreases-loop state₀ table frame back₀ i₀ state back i = length frame - i
 
 loop-holds : tie.Need-loop-init invariant-loop decreases-loop
-unfolding clockedAll answeredAll
+unfolding clocked_all answered_all
 loop-holds c = (omega arith, refl, sym (kept-none _))
 
 shared-slice-read-clock : tie.Need-shared-slice-read-clock invariant-loop decreases-loop
@@ -49,29 +49,29 @@ loop-again c =
     let l = c.before.before.before.before.before.before.before.before.loop in
     let more = c.before.before.before.before.before.before.before.loop-test.true in
     let clock = c.before.before.before.before.clock.ensures in
-    let first = clockOf a.state.now in
+    let first = clock_of a.state.now in
     let so_far = back_at a.table.now a.frame.now first l.i in
-    let size : length so_far ≡ l.i = length-answeredAll a.table.now (take l.i a.frame.now) first ∙ length-take l.i a.frame.now ∙ omega arith in (
+    let size : length so_far ≡ l.i = length-answered_all a.table.now (take l.i a.frame.now) first ∙ length-take l.i a.frame.now ∙ omega arith in (
       omega arith,
       clock.1.0
           ∙ ap (clocked a.table.now (get_or a.frame.now l.i 0)) l.invariant.1
-          ∙ sym (clock-more a.table.now a.frame.now first l.i more),
+          ∙ sym (clock_more a.table.now a.frame.now first l.i more),
       c.before.before.keep.ensures
-          ∙ ap₂ (keptOne l.i) (clock.0 ∙ ap answered l.invariant.1) l.invariant.2
+          ∙ ap₂ (kept_one l.i) (clock.0 ∙ ap answered l.invariant.1) l.invariant.2
           ∙ kept-one so_far a.back.now (answered (clock-at a.table.now a.frame.now first l.i)) l.i size
-          ∙ ap (λ (x : List ℕ). keptBack x a.back.now) (sym (back_more a.table.now a.frame.now first l.i more)),
+          ∙ ap (λ (x : List ℕ). kept_back x a.back.now) (sym (back_more a.table.now a.frame.now first l.i more)),
     )
 
 same_length : tie.Need-same-length invariant-loop decreases-loop
-same_length c = ap length c.before.loop.invariant.2 ∙ length-keptBack _ _
+same_length c = ap length c.before.loop.invariant.2 ∙ length-kept_back _ _
 
 returns : tie.Need-returns invariant-loop decreases-loop
 returns c =
     let a = c.before.before.before.before.before.args in
     let l = c.before.loop in
     let whole : take l.i a.frame.now ≡ a.frame.now = take_all l.i a.frame.now (omega arith) in (
-      l.invariant.1 ∙ ap (λ (x : List ℕ). clockedAll a.table.now x (clockOf a.state.now)) whole,
-      l.invariant.2 ∙ ap (λ (x : List ℕ). keptBack (answeredAll a.table.now x (clockOf a.state.now)) a.back.now) whole,
+      l.invariant.1 ∙ ap (λ (x : List ℕ). clocked_all a.table.now x (clock_of a.state.now)) whole,
+      l.invariant.2 ∙ ap (λ (x : List ℕ). kept_back (answered_all a.table.now x (clock_of a.state.now)) a.back.now) whole,
     )
 
 pub clock-all-spec : {M : Type 1} → statement M

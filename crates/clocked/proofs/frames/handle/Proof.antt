@@ -4,12 +4,12 @@ use mathlib.Core.Path.{ap, ap₂, ◌∙◌}
 use mathlib.Core.List.{List}
 use Prim.Native.Nat.{ℕ, ◌*◌}
 use lib.ListN.{length, replicate}
-use Rattle.records.specs.Commands.{mostMonitors, payloadSize}
+use Rattle.records.specs.Commands.{most_monitors, payload_size}
 use Rattle.clocking.specs.Clock.{Clock}
 use Rattle.clock_state.specs.State.{idle}
-use Rattle.clocked.specs.Frames.{clockedAll, answeredAll, keptBack, settled, tableSettled, bufferSettled}
-use Rattle.clocking.proofs.View.{view-idle}
-use Rattle.clocked.proofs.Whole.{judged-whole, table-whole, buffer-whole}
+use Rattle.clocked.specs.Frames.{clocked_all, answered_all, kept_back, settled, table_settled, buffer_settled}
+use Rattle.clocking.proofs.View.{view_idle}
+use Rattle.clocked.proofs.Whole.{judged-whole, table-whole, buffer_whole}
 use borrow.Author.Rules.{rules}
 use Rattle.clocked.proofs.frames.handle.Statement.{statement}
 use Rattle.clocked.proofs.frames.handle.Tie as tie
@@ -37,13 +37,13 @@ returns c =
     let f = a.frame.now in
     let room = length a.buffer.now in
     let all = c.before.before.before.before.before.before.before.before.before.before.clock-all.ensures in
-    let clock = all.0 ∙ ap (clockedAll t f) view-idle in
-    let back = all.1 ∙ ap (λ (x : Clock). keptBack (answeredAll t f x) (replicate (payloadSize * mostMonitors) 0)) view-idle in
+    let clock = all.0 ∙ ap (clocked_all t f) view_idle in
+    let back = all.1 ∙ ap (λ (x : Clock). kept_back (answered_all t f x) (replicate (payload_size * most_monitors) 0)) view_idle in
     let settle = c.before.before.before.before.settle.ensures in (
       settle.0 ∙ ap (λ (x : Clock). settled x t room) clock ∙ judged-whole t f room,
       (
-        settle.1.0 ∙ ap (λ (x : Clock). tableSettled x t room) clock ∙ table-whole t f room,
-        settle.1.1 ∙ ap₂ (λ (x : Clock) (y : List ℕ). bufferSettled x t y a.buffer.now) clock back ∙ buffer-whole t f a.buffer.now,
+        settle.1.0 ∙ ap (λ (x : Clock). table_settled x t room) clock ∙ table-whole t f room,
+        settle.1.1 ∙ ap₂ (λ (x : Clock) (y : List ℕ). buffer_settled x t y a.buffer.now) clock back ∙ buffer_whole t f a.buffer.now,
       ),
     )
 

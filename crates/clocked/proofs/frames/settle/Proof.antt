@@ -6,10 +6,10 @@ use Prim.Native.Nat.{ℕ, ◌≤◌}
 use native.Mathlib.Omega.{arith}
 use lib.ListN.{length, take, drop}
 use lib.Seq.{length-take-le}
-use Rattle.bytes.proofs.Placed.{laid, placed_first}
-use Rattle.clocked.specs.Frames.{replyOf}
-use Rattle.clocking.specs.Bytes.{clockOf}
-use Rattle.clocked.proofs.Settling.{reply-fits, settled-room, settled-none}
+use Rattle.laying.proofs.Placed.{laid, placed_first}
+use Rattle.clocked.specs.Frames.{reply_of}
+use Rattle.clocking.specs.Bytes.{clock_of}
+use Rattle.clocked.proofs.Settling.{reply-fits, settled_room, settled-none}
 use borrow.Author.Rules.{rules}
 use Rattle.clocked.proofs.frames.settle.Statement.{statement}
 use Rattle.clocked.proofs.frames.settle.Tie as tie
@@ -26,8 +26,8 @@ same_length c = search rules
 returns : tie.Need-returns
 returns c =
     let a = c.before.before.before.before.before.before.before.args in
-    let its = c.before.reply-after.ensures ∙ ap replyOf c.before.before.judge.ensures in
-    let s = settled-room (clockOf a.state.now) a.table.now a.back.now a.buffer.now its c.if1.true in
+    let its = c.before.reply-after.ensures ∙ ap reply_of c.before.before.judge.ensures in
+    let s = settled_room (clock_of a.state.now) a.table.now a.back.now a.buffer.now its c.if1.true in
     (s.the-answer, (s.the-table, s.the-buffer))
 
 slice-aggregate-put : tie.Need-slice-aggregate-put
@@ -53,7 +53,7 @@ returns-2 c =
     let a = c.before.before.before.before.before.before.before.before.before.before.before.before.before.before.before.before.before.before.args in
     let size = c.before.before.before.before.before.before.before.before.before.before.before.before.reply-after in
     let judge = c.before.before.before.before.before.before.before.before.before.before.before.before.before.judge in
-    let its = size.ensures ∙ ap replyOf judge.ensures in
+    let its = size.ensures ∙ ap reply_of judge.ensures in
     let room : size.result ≤ length a.buffer.now = c.before.before.before.before.before.before.before.before.before.before.before.if1.false in
     let within : size.result ≤ length a.back.now = omega (arith, size.ensures, reply-fits judge.result) in
     let part : length (take size.result a.back.now) ≡ size.result = length-take-le size.result a.back.now within in
@@ -63,7 +63,7 @@ returns-2 c =
     ∙ placed_first (take size.result a.back.now) a.buffer.now
     ∙ ap (λ (k : ℕ). take size.result a.back.now ++ drop k a.buffer.now) part in
     let released = c.before.before.release.ensures in
-    let s = settled-none (clockOf a.state.now) a.table.now a.back.now a.buffer.now its room released.0 released.1.1 left in
+    let s = settled-none (clock_of a.state.now) a.table.now a.back.now a.buffer.now its room released.0 released.1.1 left in
     (s.the-answer, (s.the-table, s.the-buffer))
 
 pub settle-spec : {M : Type 1} → statement M

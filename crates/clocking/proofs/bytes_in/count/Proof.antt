@@ -3,7 +3,7 @@
 use mathlib.Core.Path.{ap, ◌∙◌}
 use Prim.Native.Nat.{ℕ, ◌/◌, ◌%◌}
 use lib.ListN.{set}
-use Rattle.clocking.specs.Clock.{oneMore}
+use Rattle.clocking.specs.Clock.{one_more}
 use Rattle.clocking.specs.Bytes.{counted}
 use borrow.Author.Rules.{rules}
 use Rattle.clocking.proofs.bytes_in.count.Statement.{statement}
@@ -37,7 +37,7 @@ returns : tie.Need-returns
 unfolding counted
 returns c =
     let s = c.before.before.before.before.args.state.now in
-    ap (λ (k : ℕ). set (set s 0 (k % 256)) 1 (k / 256)) (c.one_more.ensures.0 ∙ ap oneMore c.before.seen-in.ensures.0)
+    ap (λ (k : ℕ). set (set s 0 (k % 256)) 1 (k / 256)) (c.one_more_lem.ensures.0 ∙ ap one_more c.before.seen-in.ensures.0)
 
 pub count_spec : {M : Type 1} → statement M
 count_spec =

@@ -3,34 +3,34 @@
 use mathlib.Core.Path.{sym, ◌∙◌}
 use borrow.Author.Tests.{not-true, not-false}
 use Rattle.judging.proofs.Judging.{none, not_none}
-use Rattle.clocking.specs.Clock.{chainedBy}
-use Rattle.clocking.proofs.Known.{known-unsound, known-wrong, known-right}
+use Rattle.clocking.specs.Clock.{chained_by}
+use Rattle.clocking.proofs.Known.{known_unsound, known_wrong, known-right}
 use borrow.Author.Rules.{rules}
 use Rattle.clocking.proofs.bytes_in.known_command.Statement.{statement}
 use Rattle.clocking.proofs.bytes_in.known_command.Tie as tie
 
 returns : tie.Need-returns
-unfolding chainedBy
+unfolding chained_by
 returns c =
     let s = c.before.before.before in
     let t = s.args.table.now in
-    sym (known-unsound t s.args.head.now (none t s.requires.1 c.if1.true))
+    sym (known_unsound t s.args.head.now (none t s.requires.1 c.if1.true))
 
 command-right-requires : tie.Need-command-right-requires
 command-right-requires c κs = search rules
 
 returns-2 : tie.Need-returns-2
-unfolding chainedBy
+unfolding chained_by
 returns-2 c =
     let s = c.before.before.before.before.before in
     let t = s.args.table.now in
-    sym (known-wrong t s.args.head.now (not_none t s.requires.1 c.before.before.if1.false) (sym c.before.command-right.ensures ∙ not-true _ c.if2.true))
+    sym (known_wrong t s.args.head.now (not_none t s.requires.1 c.before.before.if1.false) (sym c.before.command-right.ensures ∙ not-true _ c.if2.true))
 
 command-in-requires : tie.Need-command-in-requires
 command-in-requires c κs = search rules
 
 returns-3 : tie.Need-returns-3
-unfolding chainedBy
+unfolding chained_by
 returns-3 c =
     let s = c.before.before.before.before.before.before in
     let t = s.args.table.now in

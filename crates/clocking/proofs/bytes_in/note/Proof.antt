@@ -4,9 +4,9 @@ use mathlib.Core.Path.{sym, ap, ◌∙◌}
 use native.Mathlib.Omega.{arith}
 use lib.ListN.{length, length-set, length-drop, drop}
 use lib.Seq.{length-take-le}
-use Rattle.clocking.specs.Clock.{chainedBy}
-use Rattle.clock_state.specs.State.{headIn}
-use Rattle.clocking.proofs.Known.{chained-by-few}
+use Rattle.clocking.specs.Clock.{chained_by}
+use Rattle.clock_state.specs.State.{head_in}
+use Rattle.clocking.proofs.Known.{chained_by-few}
 use Rattle.clocking.proofs.Lengths.{length-noted}
 use Rattle.clocking.proofs.Noting.{length-stored, noted-by}
 use borrow.Author.Rules.{rules}
@@ -26,7 +26,7 @@ part-known-command-end : tie.Need-slice-bounds-known-command-end
 part-known-command-end c = search rules
 
 known-command-requires : tie.Need-known-command-requires
-unfolding chainedBy
+unfolding chained_by
 known-command-requires c κs =
     let s = c.before.before.before.before.before in
     (length-take-le 4 (drop 4 s.args.state.now) (omega (arith, length-drop 4 s.args.state.now, s.requires)), c.before.before.sound-count.ensures)
@@ -38,8 +38,8 @@ slice-write-state : tie.Need-slice-write-state
 slice-write-state c = search rules
 
 cast-state : tie.Need-overflow-cast-state
-unfolding chainedBy
-cast-state c = omega (arith, c.before.before.before.before.sound-count.ensures, chained-by-few c.before.before.before.before.before.before.before.args.table.now)
+unfolding chained_by
+cast-state c = omega (arith, c.before.before.before.before.sound-count.ensures, chained_by-few c.before.before.before.before.before.before.before.args.table.now)
 
 slice-write-state-2 : tie.Need-slice-write-state-2
 slice-write-state-2 c = omega (arith, length-set c.before.before.before.before.before.before.before.args.state.now 2 c.kind-of.result, c.before.before.before.before.before.before.before.requires)
@@ -59,7 +59,7 @@ reply-all-requires : tie.Need-reply-all-requires
 reply-all-requires c κs = search rules
 
 returns : tie.Need-returns
-unfolding chainedBy headIn
+unfolding chained_by head_in
 returns c =
     let start = c.before.before.before.before.before.before.before.before.before.before.before in
     noted-by start.args.table.now start.args.state.now _ _ start.requires c.before.before.before.before.before.known-command.ensures c.before.before.before.before.kind-of.ensures c.before.before.before.before.before.before.before.before.sound-count.ensures c.before.before.reply-all.ensures.1

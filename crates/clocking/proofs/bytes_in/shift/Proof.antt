@@ -5,7 +5,7 @@ use mathlib.Core.List.{List}
 use Prim.Native.Nat.{ℕ, suc, ◌+◌, ◌-◌, ◌<◌, ◌≤◌}
 use native.Mathlib.Omega.{arith}
 use lib.ListN.{length, length-set, set, get_or}
-use Rattle.clocking.proofs.Shifting.{turned, turned_more, turned-all, nothing, the-first}
+use Rattle.clocking.proofs.Shifting.{turned, turned_more, turned-all, nothing, the_first}
 use Rattle.clocking.proofs.bytes_in.shift.Statement.{statement}
 use Rattle.clocking.proofs.bytes_in.shift.Tie as tie
 
@@ -72,7 +72,7 @@ returns-2 c =
     let l = c.before.loop in
     let all : suc (length r - 1) ≡ length r = omega arith in
     let turns : l.i - 1 ≡ length r - 1 = omega arith in (
-      the-first r 0 a.byte (omega arith),
+      the_first r 0 a.byte (omega arith),
       ap (λ (x : List ℕ). set x (length r - 1) a.byte) l.invariant.3
           ∙ ap (λ (k : ℕ). set (turned k r) (length r - 1) a.byte) turns
           ∙ turned-all (length r - 1) r a.byte all,

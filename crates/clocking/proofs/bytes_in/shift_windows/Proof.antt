@@ -1,7 +1,7 @@
 -- `clocking::bytes_in::shift_windows` meets its contract: the register is lent, moved on and comes back.
 -- Assumes nothing.
 use native.Mathlib.Nat.{mul-le-mul}
-use Rattle.clocking.proofs.Shifting.{first-of-register, shifted_by}
+use Rattle.clocking.proofs.Shifting.{first_of_register, shifted_by}
 use borrow.Author.Rules.{rules}
 use Rattle.clocking.proofs.bytes_in.shift_windows.Statement.{statement}
 use Rattle.clocking.proofs.bytes_in.shift_windows.Tie as tie
@@ -35,7 +35,7 @@ returns c =
     let a = c.before.before.before.before.before.before.before.args in
     let its = c.before.before.before.before.chained-in.ensures.0 in
     let shift = c.before.before.shift.ensures in
-    (first-of-register a.width a.byte a.state.now its shift.0, shifted_by a.width a.byte a.state.now its shift.1)
+    (first_of_register a.width a.byte a.state.now its shift.0, shifted_by a.width a.byte a.state.now its shift.1)
 
 pub shift-windows-spec : {M : Type 1} → statement M
 shift-windows-spec =

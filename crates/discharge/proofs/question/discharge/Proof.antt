@@ -8,8 +8,8 @@ use Rattle.judging.specs.declared.places.Placed.TheVariants.{At}
 use Rattle.judging.specs.Places.{placed}
 use Rattle.judging.proofs.Place.{at-few, at-fits}
 use Rattle.discharge.specs.declared.question.Discharged.TheVariants.{Refused}
-use Rattle.discharge.specs.Question.{discharged, outputsAfter}
-use Rattle.discharge.proofs.Asking.{no_place, phase-wrong, no_room, so-many-on, outputs-put}
+use Rattle.discharge.specs.Question.{discharged, outputs_after}
+use Rattle.discharge.proofs.Asking.{no_place, phase_wrong, no_room, so_many_on, outputs_put}
 use Rattle.discharge.proofs.question.discharge.Statement.{statement}
 use Rattle.discharge.proofs.question.discharge.Tie as tie
 
@@ -18,16 +18,16 @@ found : (c : tie.Else2) → placed c.before.before.before.before.before.before.b
 found c = sym c.before.before.before.before.before.place-of.ensures ∙ c.before.before.before.k.given.1
 
 returns : tie.Need-returns
-unfolding discharged outputsAfter
+unfolding discharged outputs_after
 returns c =
     let a = c.before.before.before.before.before.before.before.args in
     let e = sym c.before.before.before.before.place-of.ensures ∙ c.before.before.k.given.1 in (
-      sym (phase-wrong a.table.now a.position a.phase _ Refused _ e c.if1.true),
-      sym (phase-wrong a.table.now a.position a.phase _ (λ n. a.out.now) _ e c.if1.true),
+      sym (phase_wrong a.table.now a.position a.phase _ Refused _ e c.if1.true),
+      sym (phase_wrong a.table.now a.position a.phase _ (λ n. a.out.now) _ e c.if1.true),
     )
 
 returns-2 : tie.Need-returns-2
-unfolding discharged outputsAfter
+unfolding discharged outputs_after
 returns-2 c =
     let a = c.before.before.before.before.before.before.before.before.args in
     let e = sym c.before.before.before.before.before.place-of.ensures ∙ c.before.before.before.k.given.1 in (
@@ -45,7 +45,7 @@ part-put-outputs-end : tie.Need-slice-bounds-put-outputs-end
 part-put-outputs-end c = at-fits _ _ (found c)
 
 returns-3 : tie.Need-returns-3
-unfolding discharged outputsAfter
+unfolding discharged outputs_after
 returns-3 c =
     let a = c.before.before.before.before.before.before.args in
     let e = sym c.before.before.before.place-of.ensures ∙ c.before.refusal.given.1 in (
@@ -57,8 +57,8 @@ returns-4 : tie.Need-returns-4
 returns-4 c =
     let s = c.before.before.before.before.before in
     let a = s.before.before.before.before.before.before.before.before.args in (
-      so-many-on a.table.now a.position a.events a.phase a.out.now (found s) s.before.if1.false s.if2.false c.before.before.put-outputs.ensures.0,
-      outputs-put a.table.now a.position a.events a.phase a.out.now (found s) s.before.if1.false s.if2.false c.before.before.put-outputs.ensures.1,
+      so_many_on a.table.now a.position a.events a.phase a.out.now (found s) s.before.if1.false s.if2.false c.before.before.put-outputs.ensures.0,
+      outputs_put a.table.now a.position a.events a.phase a.out.now (found s) s.before.if1.false s.if2.false c.before.before.put-outputs.ensures.1,
     )
 
 pub discharge-spec : {M : Type 1} → statement M

@@ -4,12 +4,12 @@
 use mathlib.Core.Path.{sym, ap, ◌∙◌}
 use Prim.Native.Nat.{ℕ, ◌-◌, ◌*◌}
 use native.Mathlib.Omega.{arith}
-use Rattle.records.specs.Commands.{payloadSize}
-use Rattle.ports.specs.Ports.{placeA, placeB}
+use Rattle.records.specs.Commands.{payload_size}
+use Rattle.ports.specs.Ports.{place_a, place_b}
 use Rattle.ports.proofs.TwoPorts.{Asked, asked-a, asked-b}
 use Rattle.packing.specs.Packed.{packed, accepted}
-use Rattle.packing.proofs.Packed.{as-told}
-use Rattle.door.specs.Answers.{portParts}
+use Rattle.packing.proofs.Packed.{as_told}
+use Rattle.door.specs.Answers.{port_parts}
 use borrow.Author.Rules.{rules}
 use Rattle.door.proofs.hosts.osk_two_ports.Statement.{statement}
 use Rattle.door.proofs.hosts.osk_two_ports.Tie as tie
@@ -28,22 +28,22 @@ in-reply-b c =
 returns : tie.Need-returns
 returns c =
     let q = c.before.before.before.before.before.before.before.args in
-    as-told (portParts q.monitors q.position) c.refused.ensures (sym c.before.before.before.before.port-of.ensures ∙ c.before.before.refusal.given.1)
+    as_told (port_parts q.monitors q.position) c.refused.ensures (sym c.before.before.before.before.port-of.ensures ∙ c.before.before.refusal.given.1)
 
 returns-2 : tie.Need-returns-2
-unfolding placeA
+unfolding place_a
 returns-2 c =
     let s = c.before.before.before in
     let q = s.before.before.before.before.before.args in
-    as-told (portParts q.monitors q.position) (c.accepted.ensures ∙ ap (λ (first : ℕ). packed (accepted first ((q.position - 1) * payloadSize))) c.before.told.ensures)
+    as_told (port_parts q.monitors q.position) (c.accepted.ensures ∙ ap (λ (first : ℕ). packed (accepted first ((q.position - 1) * payload_size))) c.before.told.ensures)
     (sym s.before.before.port-of.ensures ∙ s.differs.given.1)
 
 returns-3 : tie.Need-returns-3
-unfolding placeB
+unfolding place_b
 returns-3 c =
     let s = c.before.before.before in
     let q = s.before.before.before.before.before.args in
-    as-told (portParts q.monitors q.position) (c.accepted2.ensures ∙ ap (λ (first : ℕ). packed (accepted first ((q.monitors - q.position) * payloadSize))) c.before.told2.ensures)
+    as_told (port_parts q.monitors q.position) (c.accepted2.ensures ∙ ap (λ (first : ℕ). packed (accepted first ((q.monitors - q.position) * payload_size))) c.before.told2.ensures)
     (sym s.before.before.port-of.ensures ∙ s.differs2.given.1)
 
 pub osk-two-ports-spec : {M : Type 1} → statement M

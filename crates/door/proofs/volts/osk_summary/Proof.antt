@@ -11,13 +11,13 @@ use borrow.Author.Tests.{lt-ltb, le-ltb}
 use Rattle.refusals.specs.declared.Refusal.{Refusal}
 use Rattle.refusals.specs.declared.Refusal.TheVariants.{NoRoom}
 use Rattle.refusals.specs.Order.{decide}
-use Rattle.refusals.proofs.Deciding.{holds-here, holds_not, none_left}
+use Rattle.refusals.proofs.Deciding.{holds_here, holds_not, none_left}
 use Rattle.readings.specs.declared.pack_summary.Pack.{Pack}
 use Rattle.readings.specs.declared.pack_summary.Pack.TheVariants.{Nothing, Whole}
-use Rattle.readings.specs.Readings.{mostCodes, summaryOf}
+use Rattle.readings.specs.Readings.{most_codes, summary_of}
 use Rattle.readings.proofs.Summaries.{cells_of}
 use Rattle.packing.specs.Packed.{packed}
-use Rattle.door.specs.Volts.{summarySize, roomRow, summaryParts, summaryOut}
+use Rattle.door.specs.Volts.{summary_size, room_row, summary_parts, summary_out}
 use Rattle.door.proofs.Fits.{few-cells}
 use borrow.Author.Rules.{rules}
 use Rattle.door.proofs.volts.osk_summary.Statement.{statement}
@@ -26,25 +26,25 @@ use Rattle.door.proofs.volts.osk_summary.Tie as tie
 -- ---- by the room
 
 module _ {A : Type 0} {room : ℕ} (refuses : Refusal → A) (a : A) where
-  no_room : room < summarySize → decide (roomRow room ∷ []) refuses a ≡ refuses NoRoom
-  no_room h = holds-here (roomRow room) [] refuses a (lt-ltb room summarySize h)
+  no_room : room < summary_size → decide (room_row room ∷ []) refuses a ≡ refuses NoRoom
+  no_room h = holds_here (room_row room) [] refuses a (lt-ltb room summary_size h)
 
-  has_room : summarySize ≤ room → decide (roomRow room ∷ []) refuses a ≡ a
-  has_room h = holds_not (roomRow room) [] refuses a (le-ltb room summarySize h) ∙ none_left refuses a
+  has_room : summary_size ≤ room → decide (room_row room ∷ []) refuses a ≡ a
+  has_room h = holds_not (room_row room) [] refuses a (le-ltb room summary_size h) ∙ none_left refuses a
 
 -- ---- by the answer
 
 module _ (out : List Float) {p q : Pack} (e : p ≡ q) where
-  parts : packed (summaryParts p (length out)) ≡ packed (summaryParts q (length out))
-  parts = ap (λ (x : Pack). packed (summaryParts x (length out))) e
+  parts : packed (summary_parts p (length out)) ≡ packed (summary_parts q (length out))
+  parts = ap (λ (x : Pack). packed (summary_parts x (length out))) e
 
-  out-by : summaryOut p out ≡ summaryOut q out
-  out-by = ap (λ (x : Pack). summaryOut x out) e
+  out-by : summary_out p out ≡ summary_out q out
+  out-by = ap (λ (x : Pack). summary_out x out) e
 
-is-nothing : (c : tie.After-enum-told) → Nothing ≡ summaryOf c.before.before.before.before.args.codes.now
+is-nothing : (c : tie.After-enum-told) → Nothing ≡ summary_of c.before.before.before.before.args.codes.now
 is-nothing c = sym c.enum_told.given.1 ∙ c.before.before.summary-of.ensures
 
-is_whole : (c : tie.After-summary) → Whole c.summary.given.0.0 ≡ summaryOf c.before.before.before.before.args.codes.now
+is_whole : (c : tie.After-summary) → Whole c.summary.given.0.0 ≡ summary_of c.before.before.before.before.args.codes.now
 is_whole c = sym c.summary.given.1 ∙ c.before.before.summary-of.ensures
 
 returns : tie.Need-returns
@@ -71,7 +71,7 @@ slice-write-out-2 c =
 cast-accepted : tie.Need-overflow-cast-accepted
 cast-accepted c =
     let told = c.before.before.before in
-    let few = subst (λ (p : Pack). cells_of p ≤ mostCodes) (sym (is_whole told)) (few-cells told.before.before.before.before.args.codes.now) in
+    let few = subst (λ (p : Pack). cells_of p ≤ most_codes) (sym (is_whole told)) (few-cells told.before.before.before.before.args.codes.now) in
     omega (arith, few)
 
 returns-3 : tie.Need-returns-3
@@ -88,7 +88,7 @@ returns-4 c =
     (c.accepted.ensures ∙ sym (ap packed (has_room _ _ c.before.if1.false)) ∙ parts a.out.now (is-nothing test), out-by a.out.now (is-nothing test))
 
 -- three stores are the three places and what lies past them
-three-stores : (out : List Float) (x y z : Float) → summarySize ≤ length out → set (set (set out 0 x) 1 y) 2 z ≡ x ∷ y ∷ z ∷ drop summarySize out
+three-stores : (out : List Float) (x y z : Float) → summary_size ≤ length out → set (set (set out 0 x) 1 y) 2 z ≡ x ∷ y ∷ z ∷ drop summary_size out
 three-stores [] x y z h = absurd (omega arith)
 three-stores (a ∷ []) x y z h = absurd (omega arith)
 three-stores (a ∷ b ∷ []) x y z h = absurd (omega arith)

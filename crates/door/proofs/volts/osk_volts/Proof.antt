@@ -8,7 +8,7 @@ use mir.Syntax.{w16, w32}
 use mir.Val.{SFits}
 use Rattle.thresholds.proofs.TwosComplement.{widens, widened}
 use Rattle.readings.specs.Readings.{reading_of}
-use Rattle.door.specs.Volts.{voltsOrNan}
+use Rattle.door.specs.Volts.{volts_or_nan}
 use borrow.Author.Rules.{rules}
 use Rattle.door.proofs.volts.osk_volts.Statement.{statement}
 use Rattle.door.proofs.volts.osk_volts.Tie as tie
@@ -35,12 +35,12 @@ same c = c.reading-of.ensures ∙ ap (λ (z : ℤ). reading_of (record { 0 = z }
 
 returns : tie.Need-returns
 returns c =
-    ap voltsOrNan (sym c.before.volts.given.1 ∙ same c.before.before.before)
+    ap volts_or_nan (sym c.before.volts.given.1 ∙ same c.before.before.before)
 
 returns-2 : tie.Need-returns-2
 unfolding of_bits div
 returns-2 c =
-    ap voltsOrNan (sym c.enum_told.given.1 ∙ same c.before.before)
+    ap volts_or_nan (sym c.enum_told.given.1 ∙ same c.before.before)
 
 pub osk-volts-spec : {M : Type 1} → statement M
 osk-volts-spec =

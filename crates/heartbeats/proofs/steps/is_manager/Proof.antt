@@ -3,16 +3,16 @@
 use mathlib.Core.Path.{sym, ◌∙◌}
 use borrow.Author.Rules.{rules}
 use borrow.Author.Tests.{not-true, not-false}
-use Rattle.heartbeats.specs.Steps.{isManager}
+use Rattle.heartbeats.specs.Steps.{is_manager}
 use Rattle.heartbeats.proofs.steps.is_manager.Statement.{statement}
 use Rattle.heartbeats.proofs.steps.is_manager.Tie as tie
 
 returns : tie.Need-returns
-unfolding isManager
+unfolding is_manager
 returns c = simp (sym c.before.in-lpcm.ensures ∙ not-true _ c.if1.true)
 
 returns-2 : tie.Need-returns-2
-unfolding isManager
+unfolding is_manager
 returns-2 c = simp (sym c.before.before.in-lpcm.ensures ∙ not-false _ c.before.if1.false, c.manages.ensures)
 
 pub is-manager-spec : {M : Type 1} → statement M

@@ -6,22 +6,22 @@ use lib.Dec.{eqb}
 use borrow.Author.Rules.{rules}
 use borrow.Author.Tests.{not-true, not-false}
 use Rattle.laws.specs.Bits.{odd, bit_at}
-use Rattle.heartbeats.specs.Steps.{isTimeout}
+use Rattle.heartbeats.specs.Steps.{is_timeout}
 use Rattle.heartbeats.proofs.steps.is_timeout.Statement.{statement}
 use Rattle.heartbeats.proofs.steps.is_timeout.Tie as tie
 
 returns : tie.Need-returns
-unfolding isTimeout
+unfolding is_timeout
 returns c = simp (sym c.before.in-lpcm.ensures ∙ not-true _ c.if1.true)
 
 returns-2 : tie.Need-returns-2
-unfolding isTimeout
+unfolding is_timeout
 returns-2 c =
     let on = sym c.before.before.before.in-lpcm.ensures ∙ not-false _ c.before.before.if1.false in
     simp (on, sym c.before.manages.ensures ∙ c.if2.true)
 
 returns-3 : tie.Need-returns-3
-unfolding isTimeout bit_at odd
+unfolding is_timeout bit_at odd
 returns-3 c =
     let on = sym c.before.before.before.before.in-lpcm.ensures ∙ not-false _ c.before.before.before.if1.false in
     simp (on, sym c.before.before.manages.ensures ∙ c.before.if2.false, ap (λ (n : ℕ). eqb (n / 8 % 2) 1) c.byte-in.ensures)

@@ -5,12 +5,12 @@ use Prim.Native.Nat.{ℕ, ◌/◌, ◌%◌}
 use lib.Dec.{eqb}
 use borrow.Author.Rules.{rules}
 use Rattle.laws.specs.Bits.{odd, bit_at}
-use Rattle.heartbeats.specs.Steps.{towardsA}
+use Rattle.heartbeats.specs.Steps.{towards_a}
 use Rattle.heartbeats.proofs.steps.is_towards_a.Statement.{statement}
 use Rattle.heartbeats.proofs.steps.is_towards_a.Tie as tie
 
 returns : tie.Need-returns
-unfolding towardsA bit_at odd
+unfolding towards_a bit_at odd
 returns c = ap (λ (n : ℕ). eqb (n / 32 % 2) 1) c.byte-in.ensures
 
 pub is-towards-a-spec : {M : Type 1} → statement M

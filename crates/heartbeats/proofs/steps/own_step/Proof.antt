@@ -7,23 +7,23 @@ use Prim.Native.Nat.{ℕ, ◌+◌, ◌%◌}
 use lib.Bits.{bit_or}
 use lib.ListN.{length, get_or}
 use borrow.Author.Rules.{rules}
-use Rattle.records.specs.Record.{cmf0, recordSize, isRecord, byte_of}
+use Rattle.records.specs.Record.{cmf0, record_size, is_record, byte_of}
 use Rattle.records.proofs.Answers.{is-record}
 use Rattle.measuring.specs.Measuring.{measured, passes}
-use Rattle.heartbeats.specs.Steps.{countedDown, joinedTo}
+use Rattle.heartbeats.specs.Steps.{counted_down, joined_to}
 use Rattle.heartbeats.proofs.steps.own_step.Statement.{statement}
 use Rattle.heartbeats.proofs.steps.own_step.Tie as tie
 
-module _ (r : List ℕ) (whole : length r ≡ recordSize) {passed : Bool} {after : List ℕ} (p : passed ≡ isRecord r && passes r) (a : after ≡ cond (isRecord r) (measured r) r) where
+module _ (r : List ℕ) (whole : length r ≡ record_size) {passed : Bool} {after : List ℕ} (p : passed ≡ is_record r && passes r) (a : after ≡ cond (is_record r) (measured r) r) where
   left : after ≡ measured r
   left = a ∙ ap (λ (is : Bool). cond is (measured r) r) (is-record r whole)
 
-  counted : (n : ℕ) → cond passed ((n + 255) % 256) n ≡ countedDown r n
-  unfolding countedDown
+  counted : (n : ℕ) → cond passed ((n + 255) % 256) n ≡ counted_down r n
+  unfolding counted_down
   counted n = ap (λ (b : Bool). cond b ((n + 255) % 256) n) (p ∙ ap (λ (is : Bool). is && passes r) (is-record r whole))
 
-  joined : (flags : ℕ) → bit_or flags (get_or after cmf0.at 0) ≡ joinedTo r flags
-  unfolding joinedTo byte_of
+  joined : (flags : ℕ) → bit_or flags (get_or after cmf0.at 0) ≡ joined_to r flags
+  unfolding joined_to byte_of
   joined flags = ap (λ (l : List ℕ). bit_or flags (get_or l cmf0.at 0)) left
 
 returns : tie.Need-returns

@@ -8,28 +8,28 @@ use lib.Bits.{bit_and, bit_or}
 use lib.ListN.{get_or, set}
 use borrow.Author.Rules.{rules}
 use borrow.Author.Tests.{not-true, not-false}
-use Rattle.records.specs.Record.{cmf1, isRecord, anew, onBytes}
+use Rattle.records.specs.Record.{cmf1, is_record, anew, on_bytes}
 use Rattle.records.proofs.Answers.{is-record, no_record}
 use Rattle.measuring.specs.Measuring.{measured}
-use Rattle.messages.specs.Messages.{countIn, flagsIn, isPass}
+use Rattle.messages.specs.Messages.{count_in, flags_in, is_pass}
 use Rattle.heartbeats.specs.declared.steps.Beat.{Beat}
 use Rattle.heartbeats.specs.declared.steps.Beat.TheVariants.{Silent, Sends}
-use Rattle.heartbeats.specs.Steps.{isTimeout, countedDown, joinedTo, hears, judged, reached, answers}
+use Rattle.heartbeats.specs.Steps.{is_timeout, counted_down, joined_to, hears, judged, reached, answers}
 use Rattle.heartbeats.proofs.steps.reach.Statement.{statement}
 use Rattle.heartbeats.proofs.steps.reach.Tie as tie
 
 module _ (m r : List ℕ) where
   abbrev sent : Beat
-  sent = Sends (countedDown r (countIn m)) (joinedTo r (flagsIn m))
+  sent = Sends (counted_down r (count_in m)) (joined_to r (flags_in m))
 
   abbrev marked : List ℕ → List ℕ
   marked l = set l cmf1.at (judged m r (get_or l cmf1.at 0))
 
   -- by whether it is a record, takes the message in, and is a timeout monitor
-  by_tests : {is takes out : Bool} → isRecord r ≡ is → hears m r ≡ takes → isTimeout r ≡ out
-      → (cond is (cond (takes && not out) sent Silent) Silent ≡ cond (isRecord r) (answers m r) Silent)
-      × (cond is (cond takes (cond out (marked (measured r)) (measured r)) r) r ≡ cond (isRecord r) (reached m r) r)
-  unfolding answers reached onBytes anew
+  by_tests : {is takes out : Bool} → is_record r ≡ is → hears m r ≡ takes → is_timeout r ≡ out
+      → (cond is (cond (takes && not out) sent Silent) Silent ≡ cond (is_record r) (answers m r) Silent)
+      × (cond is (cond takes (cond out (marked (measured r)) (measured r)) r) r ≡ cond (is_record r) (reached m r) r)
+  unfolding answers reached on_bytes anew
   by_tests e h o = (
     sym
         (ap₂ (λ (is : Bool) (b : Beat). cond is b Silent) e (ap₂ (λ (takes out : Bool). cond (takes && not out) sent Silent) h o)),
@@ -38,18 +38,18 @@ module _ (m r : List ℕ) where
         (ap₂ (λ (takes out : Bool). cond takes (cond out (marked (measured r)) (measured r)) r) h o)),
   )
 
-  module _ {n k count flags : ℕ} (en : n ≡ get_or m 4 0) (ek : k ≡ get_or m 5 0) (ec : count ≡ countedDown r n) (ef : flags ≡ joinedTo r k) where
-    left-with : (count ≡ countedDown r (countIn m)) × (flags ≡ joinedTo r (flagsIn m))
-    unfolding countIn flagsIn
-    left-with = (ec ∙ ap (countedDown r) en, ef ∙ ap (joinedTo r) ek)
+  module _ {n k count flags : ℕ} (en : n ≡ get_or m 4 0) (ek : k ≡ get_or m 5 0) (ec : count ≡ counted_down r n) (ef : flags ≡ joined_to r k) where
+    left-with : (count ≡ counted_down r (count_in m)) × (flags ≡ joined_to r (flags_in m))
+    unfolding count_in flags_in
+    left-with = (ec ∙ ap (counted_down r) en, ef ∙ ap (joined_to r) ek)
 
     marks : {old new : ℕ} {after : List ℕ} → after ≡ measured r → old ≡ get_or after cmf1.at 0
-        → new ≡ cond (isPass count flags) (bit_and old 0xFC) (bit_or old 0x01) → set after cmf1.at new ≡ marked (measured r)
+        → new ≡ cond (is_pass count flags) (bit_and old 0xFC) (bit_or old 0x01) → set after cmf1.at new ≡ marked (measured r)
     unfolding judged
     marks {old} a o v =
         ap₂ (λ (l : List ℕ) (x : ℕ). set l cmf1.at x) a
         (v
-        ∙ ap₂ (λ (c f : ℕ). cond (isPass c f) (bit_and old 0xFC) (bit_or old 0x01)) left-with.0 left-with.1
+        ∙ ap₂ (λ (c f : ℕ). cond (is_pass c f) (bit_and old 0xFC) (bit_or old 0x01)) left-with.0 left-with.1
         ∙ ap (judged m r) (o ∙ ap (λ (l : List ℕ). get_or l cmf1.at 0) a))
 
 returns : tie.Need-returns

@@ -8,9 +8,9 @@ use lib.Bits.{bit_or}
 use lib.ListN.{length, get_or, set}
 use borrow.Author.Rules.{rules}
 use borrow.Author.Tests.{not-true, not-false}
-use Rattle.records.specs.Record.{cmf1, isRecord, anew, onBytes}
+use Rattle.records.specs.Record.{cmf1, is_record, anew, on_bytes}
 use Rattle.records.proofs.Answers.{is-record, no_record}
-use Rattle.heartbeats.specs.Steps.{isTimeout, late}
+use Rattle.heartbeats.specs.Steps.{is_timeout, late}
 use Rattle.heartbeats.proofs.steps.run_out.Statement.{statement}
 use Rattle.heartbeats.proofs.steps.run_out.Tie as tie
 
@@ -19,8 +19,8 @@ module _ (r : List ℕ) where
   flagged = set r cmf1.at (bit_or (get_or r cmf1.at 0) 0x02)
 
   -- by whether it is a record, and a timeout monitor
-  by_tests : {is out : Bool} → isRecord r ≡ is → isTimeout r ≡ out → (is && out ≡ isRecord r && isTimeout r) × (cond is (cond out flagged r) r ≡ cond (isRecord r) (late r) r)
-  unfolding late onBytes anew
+  by_tests : {is out : Bool} → is_record r ≡ is → is_timeout r ≡ out → (is && out ≡ is_record r && is_timeout r) × (cond is (cond out flagged r) r ≡ cond (is_record r) (late r) r)
+  unfolding late on_bytes anew
   by_tests e o = (sym (ap₂ ◌&&◌ e o), sym (ap₂ (λ (is out : Bool). cond is (cond out flagged r) r) e o))
 
 returns : tie.Need-returns

@@ -4,10 +4,10 @@
 use mathlib.Core.Path.{◌≡◌, sym, ap, ◌∙◌}
 use native.Mathlib.Omega.{arith}
 use lib.ListN.{length}
-use Rattle.bytes.specs.Placed.{placed}
+use Rattle.laying.specs.Placed.{placed}
 use Rattle.records.specs.declared.commands.Command.{Command}
-use Rattle.host.specs.Frames.{headSize, body, judged, built}
-use Rattle.host.proofs.Judging.{Buildable, accepted-buildable, built-by}
+use Rattle.host.specs.Frames.{head_size, body, judged, built}
+use Rattle.host.proofs.Judging.{Buildable, accepted_buildable, built-by}
 use Rattle.host.proofs.FrameFor.{head, head-fits, built-refused, placed-accepted}
 use borrow.Author.Rules.{rules}
 use Rattle.host.proofs.frames.build.Statement.{statement}
@@ -46,7 +46,7 @@ buildable : (c : tie.After-enum-told) → let asked = c.before.before in let q =
 buildable c =
     let asked = c.before.before in
     let q = asked.before.before.before.before.args in
-    accepted-buildable asked.before.command-of.result q.n (length q.values.now) (length q.buffer.now)
+    accepted_buildable asked.before.command-of.result q.n (length q.values.now) (length q.buffer.now)
     (sym asked.judge.ensures ∙ c.enum_told.given.1)
 
 put-head-requires : tie.Need-put-head-requires
@@ -70,8 +70,8 @@ returns-2 c =
     let q = asked.before.before.before.before.args in (
       answer asked,
       c.before.before.put-body.ensures
-          ∙ ap (placed headSize (body asked.before.command-of.result q.n q.values.now)) first.put-head.ensures
-          ∙ ap (λ (k : Command). placed headSize (body k q.n q.values.now) (placed 0 (head q.code) q.buffer.now)) asked.before.command-of.ensures
+          ∙ ap (placed head_size (body asked.before.command-of.result q.n q.values.now)) first.put-head.ensures
+          ∙ ap (λ (k : Command). placed head_size (body k q.n q.values.now) (placed 0 (head q.code) q.buffer.now)) asked.before.command-of.ensures
           ∙ placed-accepted q.code q.n q.values.now q.buffer.now (sym (answer asked) ∙ told.enum_told.given.1),
     )
 

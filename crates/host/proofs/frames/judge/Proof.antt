@@ -5,10 +5,10 @@ use mathlib.Core.Bool.{Bool, true, cond, ◌&&◌}
 use Prim.Native.Nat.{◌≤◌}
 use lib.Dec.{eqb, leb, ltb}
 use borrow.Author.Tests.{not-true, not-false, eq-eqb, ne_eqb, lt-ltb, le-ltb, le-leb}
-use Rattle.records.specs.Commands.{isListed, mostMonitors, frameLength}
+use Rattle.records.specs.Commands.{is_listed, most_monitors, frame_length}
 use Rattle.host.specs.declared.frames.Built.TheVariants.{Length}
-use Rattle.host.specs.Frames.{valueCount}
-use Rattle.host.proofs.Judging.{chain-test, not_listed, no-chain, count-wrong, no_room, is-accepted}
+use Rattle.host.specs.Frames.{value_count}
+use Rattle.host.proofs.Judging.{chain-test, not_listed, no_chain, count_wrong, no_room, is_accepted}
 use borrow.Author.Rules.{rules}
 use Rattle.host.proofs.frames.judge.Statement.{statement}
 use Rattle.host.proofs.frames.judge.Tie as tie
@@ -22,7 +22,7 @@ returns c =
     sym (not_listed q.command q.n q.given q.room (sym c.before.is-listed.ensures ∙ not-true _ c.if1.true))
 
 -- behind the first test: a listed command
-listed : (c : tie.Else1) → isListed c.before.before.args.command ≡ true
+listed : (c : tie.Else1) → is_listed c.before.before.args.command ≡ true
 listed c = sym c.before.is-listed.ensures ∙ not-false _ c.if1.false
 
 is-chain-requires : tie.Need-is-chain-requires
@@ -31,13 +31,13 @@ is-chain-requires c κs = search rules
 returns-2 : tie.Need-returns-2
 returns-2 c =
     let q = c.before.before.before.before.args in
-    sym (no-chain q.command q.n q.given q.room (listed c.before.before) (sym c.before.is-chain.ensures ∙ not-true _ c.if2.true))
+    sym (no_chain q.command q.n q.given q.room (listed c.before.before) (sym c.before.is-chain.ensures ∙ not-true _ c.if2.true))
 
 -- behind the second: 1 to 32 monitors
-chain : (c : tie.Else2) → let n = c.before.before.before.before.args.n in leb 1 n && leb n mostMonitors ≡ true
+chain : (c : tie.Else2) → let n = c.before.before.before.before.args.n in leb 1 n && leb n most_monitors ≡ true
 chain c = sym c.before.is-chain.ensures ∙ not-false _ c.if2.false
 
-most : (c : tie.Else2) → c.before.before.before.before.args.n ≤ mostMonitors
+most : (c : tie.Else2) → c.before.before.before.before.args.n ≤ most_monitors
 most c = (chain-test c.before.before.before.before.args.n (chain c)).1
 
 value-count-requires : tie.Need-value-count-requires
@@ -46,23 +46,23 @@ value-count-requires c κs = most c
 returns-3 : tie.Need-returns-3
 returns-3 c =
     let q = c.before.before.before.before.before.before.args in
-    sym (count-wrong q.command q.n q.given q.room (listed c.before.before.before.before) (chain c.before.before)
+    sym (count_wrong q.command q.n q.given q.room (listed c.before.before.before.before) (chain c.before.before)
     (ap (eqb q.given) (sym c.before.value-count.ensures) ∙ ne_eqb q.given c.before.value-count.result c.if3.true))
 
 -- behind the third: just so many value bytes
-counted : (c : tie.Else3) → let q = c.before.before.before.before.before.before.args in eqb q.given (valueCount q.command q.n) ≡ true
+counted : (c : tie.Else3) → let q = c.before.before.before.before.before.before.args in eqb q.given (value_count q.command q.n) ≡ true
 counted c =
     let q = c.before.before.before.before.before.before.args in
-    eq-eqb q.given (valueCount q.command q.n) (c.if3.false ∙ c.before.value-count.ensures)
+    eq-eqb q.given (value_count q.command q.n) (c.if3.false ∙ c.before.value-count.ensures)
 
 frame-length-requires : tie.Need-frame-length-requires
 frame-length-requires c κs = search rules
 
-long : (c : tie.After-frame-length) → let q = c.before.before.before.before.before.before.before.args in c.frame-length.result ≡ frameLength q.command q.n
+long : (c : tie.After-frame-length) → let q = c.before.before.before.before.before.before.before.args in c.frame-length.result ≡ frame_length q.command q.n
 long c =
     let q = c.before.before.before.before.before.before.before.args in
     c.frame-length.ensures
-    ∙ ap (λ (b : Bool). cond b (frameLength q.command q.n) 0) (le-leb q.n mostMonitors (most c.before.before.before))
+    ∙ ap (λ (b : Bool). cond b (frame_length q.command q.n) 0) (le-leb q.n most_monitors (most c.before.before.before))
 
 returns-4 : tie.Need-returns-4
 returns-4 c =
@@ -76,7 +76,7 @@ returns-5 c =
     let tested = c.before.before in
     let q = tested.before.before.before.before.before.before.args in
     ap Length (long c.before)
-    ∙ sym (is-accepted q.command q.n q.given q.room (listed tested.before.before.before.before) (chain tested.before.before) (counted tested)
+    ∙ sym (is_accepted q.command q.n q.given q.room (listed tested.before.before.before.before) (chain tested.before.before) (counted tested)
     (ap (ltb q.room) (sym (long c.before)) ∙ le-ltb q.room c.before.frame-length.result c.if4.false))
 
 pub judge-spec : {M : Type 1} → statement M

@@ -7,8 +7,8 @@ use native.Mathlib.Omega.{arith}
 use borrow.Author.Rules.{rules}
 use lib.ListN.{length, take, replicate, length-replicate, replicate-append-replicate}
 use lib.Seq.{take_at}
-use Rattle.bytes.proofs.Placed.{tried, laid}
-use Rattle.host.specs.Frames.{headSize}
+use Rattle.laying.proofs.Placed.{tried, laid}
+use Rattle.host.specs.Frames.{head_size}
 use Rattle.host.proofs.frames.put_filler.Statement.{statement}
 use Rattle.host.proofs.frames.put_filler.Tie as tie
 
@@ -43,10 +43,10 @@ returns : tie.Need-returns
 returns c =
     let start = c.before.before.before.before.before.before in
     let q = start.args in
-    let room : headSize + length (filler q.size) ≤ length q.buffer.now = omega (arith, start.requires.1, length-filler q.size) in
+    let room : head_size + length (filler q.size) ≤ length q.buffer.now = omega (arith, start.requires.1, length-filler q.size) in
     c.before.before.put.ensures
-    ∙ ap (λ (bytes : List ℕ). tried headSize bytes q.buffer.now) (front q.size 256 start.requires.0)
-    ∙ laid headSize (filler q.size) q.buffer.now room
+    ∙ ap (λ (bytes : List ℕ). tried head_size bytes q.buffer.now) (front q.size 256 start.requires.0)
+    ∙ laid head_size (filler q.size) q.buffer.now room
 
 pub put-filler-spec : {M : Type 1} → statement M
 put-filler-spec =

@@ -1,8 +1,8 @@
 -- `host::frames::put_head` meets its contract: the code's two bytes, and its check behind them.
 -- Assumes nothing.
 use mathlib.Core.Path.{refl, ap, ap₂, ◌∙◌}
-use Rattle.bytes.proofs.Placed.{tried, laid-behind}
-use Rattle.pec.specs.Words.{twoBytes, commandCheck}
+use Rattle.laying.proofs.Placed.{tried, laid_behind}
+use Rattle.pec.specs.Words.{two_bytes, command_check}
 use borrow.Author.Rules.{rules}
 use Rattle.host.proofs.frames.put_head.Statement.{statement}
 use Rattle.host.proofs.frames.put_head.Tie as tie
@@ -29,7 +29,7 @@ same_length : tie.Need-same-length
 same_length c = search rules
 
 returns : tie.Need-returns
-unfolding twoBytes commandCheck
+unfolding two_bytes command_check
 returns c =
     let first = c.before.before.before.before.before.before.before.before in
     let start = first.before.before.before.before.before in
@@ -37,8 +37,8 @@ returns c =
     let buffer = start.args.buffer.now in
     c.before.before.put2.ensures
     ∙ ap₂ (tried 2) c.before.before.before.before.before.command-check.ensures
-    (first.put.ensures ∙ ap (λ l. tried 0 l buffer) first.before.before.before.two_bytes.ensures)
-    ∙ laid-behind 0 2 (twoBytes code) (commandCheck code) buffer refl start.requires
+    (first.put.ensures ∙ ap (λ l. tried 0 l buffer) first.before.before.before.two_bytes_lem.ensures)
+    ∙ laid_behind 0 2 (two_bytes code) (command_check code) buffer refl start.requires
 
 pub put-head-spec : {M : Type 1} → statement M
 put-head-spec =

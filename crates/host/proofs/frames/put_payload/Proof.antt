@@ -8,11 +8,11 @@ use native.Mathlib.Nat.{mul-le-mul}
 use native.Mathlib.Omega.{arith}
 use lib.ListN.{length, take, drop}
 use Rattle.laws.specs.Rows.{row_at}
-use Rattle.laws.proofs.Rows.{row_fits, length-row-at}
-use Rattle.bytes.specs.Placed.{placed}
-use Rattle.records.specs.Commands.{mostMonitors, sealSize, payloadSize}
-use Rattle.host.specs.Frames.{headSize, sealed}
-use Rattle.host.proofs.Payloads.{payload-within}
+use Rattle.laws.proofs.Rows.{row_fits, length_row-at}
+use Rattle.laying.specs.Placed.{placed}
+use Rattle.records.specs.Commands.{most_monitors, seal_size, payload_size}
+use Rattle.host.specs.Frames.{head_size, sealed}
+use Rattle.host.proofs.Payloads.{payload_within}
 use borrow.Author.Rules.{rules}
 use Rattle.host.proofs.frames.put_payload.Statement.{statement}
 use Rattle.host.proofs.frames.put_payload.Tie as tie
@@ -29,16 +29,16 @@ lent_row size m values =
     ap (λ (k : ℕ). take k (drop (m * size) values)) whole
 
 -- the places in the values and in the buffer are small, and the values have the monitor's bytes
-module _ {i n size : ℕ} (below : i < n) (most : n ≤ mostMonitors) (few : size ≤ 6) where
-  from-small : (n - (i + 1)) * size ≤ mostMonitors * 6
+module _ {i n size : ℕ} (below : i < n) (most : n ≤ most_monitors) (few : size ≤ 6) where
+  from-small : (n - (i + 1)) * size ≤ most_monitors * 6
   from-small =
-      let near : n - (i + 1) ≤ mostMonitors = omega arith in
+      let near : n - (i + 1) ≤ most_monitors = omega arith in
       mul-le-mul near few
 
-  at_small : i * (size + sealSize) ≤ mostMonitors * payloadSize
+  at_small : i * (size + seal_size) ≤ most_monitors * payload_size
   at_small =
-      let near : i ≤ mostMonitors = omega arith in
-      let wide : size + sealSize ≤ payloadSize = omega arith in
+      let near : i ≤ most_monitors = omega arith in
+      let wide : size + seal_size ≤ payload_size = omega arith in
       mul-le-mul near wide
 
   row_within : {m : ℕ} → m ≡ size * n → (n - (i + 1)) * size + size ≤ m
@@ -49,7 +49,7 @@ few : (s : tie.Start) → s.args.size ≤ 6
 few s = at-most-six s.requires.2
 
 own_row : (s : tie.Start) → let q = s.args in length (row_at q.size (q.n - (q.i + 1)) q.values.now) ≡ q.size
-own_row s = let q = s.args in length-row-at q.size q.n q.values.now (q.n - (q.i + 1)) (omega (arith, s.requires.0)) (omega (arith, s.requires.3))
+own_row s = let q = s.args in length_row-at q.size q.n q.values.now (q.n - (q.i + 1)) (omega (arith, s.requires.0)) (omega (arith, s.requires.3))
 
 add-from : tie.Need-overflow-add-from
 add-from c = search rules
@@ -96,7 +96,7 @@ put-sealed-requires c κs =
     let s = c.before.before.before.before in
     let q = s.args in
     let long = ap length (lent_row q.size (q.n - (q.i + 1)) q.values.now) ∙ own_row s in
-    (subst⁻¹ (λ (m : ℕ). (m ≡ 6) ⊎ (m ≡ 2)) long s.requires.2, omega (arith, long, payload-within q.size s.requires.0 s.requires.4))
+    (subst⁻¹ (λ (m : ℕ). (m ≡ 6) ⊎ (m ≡ 2)) long s.requires.2, omega (arith, long, payload_within q.size s.requires.0 s.requires.4))
 
 same_length : tie.Need-same-length
 same_length c = search rules
@@ -105,7 +105,7 @@ returns : tie.Need-returns
 returns c =
     let q = c.before.before.before.before.before.before.before.args in
     c.before.before.put-sealed.ensures
-    ∙ ap (λ (l : List ℕ). placed (headSize + q.i * (q.size + sealSize)) (sealed l) q.buffer.now) (lent_row q.size (q.n - (q.i + 1)) q.values.now)
+    ∙ ap (λ (l : List ℕ). placed (head_size + q.i * (q.size + seal_size)) (sealed l) q.buffer.now) (lent_row q.size (q.n - (q.i + 1)) q.values.now)
 
 pub put-payload-spec : {M : Type 1} → statement M
 put-payload-spec =

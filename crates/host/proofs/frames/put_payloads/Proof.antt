@@ -6,17 +6,17 @@ use Prim.Native.Nat.{ℕ, ◌+◌, ◌-◌, ◌*◌, ◌≤◌, ◌<◌}
 use native.Mathlib.Omega.{arith}
 use lib.ListN.{length}
 use Rattle.laws.specs.Rows.{row_at}
-use Rattle.bytes.specs.Placed.{placed}
-use Rattle.bytes.proofs.Placed.{placed-none, placed-more}
-use Rattle.records.specs.Commands.{sealSize}
-use Rattle.host.specs.Frames.{headSize, sealed}
-use Rattle.host.proofs.Payloads.{payload-within, farthest, farthest-none, length-farthest, farthest-more, farthest-all}
+use Rattle.laying.specs.Placed.{placed}
+use Rattle.laying.proofs.Placed.{placed-none, placed_more}
+use Rattle.records.specs.Commands.{seal_size}
+use Rattle.host.specs.Frames.{head_size, sealed}
+use Rattle.host.proofs.Payloads.{payload_within, farthest, farthest_none, length_farthest, farthest_more, farthest_all}
 use Rattle.host.proofs.frames.put_payloads.Statement.{statement}
 use Rattle.host.proofs.frames.put_payloads.Tie as tie
 
 abbrev invariant-loop : tie.invariant-loop
 invariant-loop buffer₀ size n values i₀ buffer i =
-    (i ≤ n) × (length buffer ≡ length buffer₀) × (buffer ≡ placed headSize (farthest size n values i) buffer₀)
+    (i ≤ n) × (length buffer ≡ length buffer₀) × (buffer ≡ placed head_size (farthest size n values i) buffer₀)
 
 abbrev decreases-loop : tie.decreases-loop
 decreases-loop buffer₀ size n values i₀ buffer i = n - i
@@ -27,7 +27,7 @@ loop-holds c =
     let q = start.args in (
       omega arith,
       refl,
-      sym (ap (λ (l : List ℕ). placed headSize l q.buffer.now) (farthest-none q.size q.n q.values.now start.requires.2) ∙ placed-none headSize q.buffer.now),
+      sym (ap (λ (l : List ℕ). placed head_size l q.buffer.now) (farthest_none q.size q.n q.values.now start.requires.2) ∙ placed-none head_size q.buffer.now),
     )
 
 put-payload-requires : tie.Need-put-payload-requires invariant-loop decreases-loop
@@ -46,13 +46,13 @@ loop-again c =
     let i = l.loop.i in
     let below : i < n = c.before.before.before.before.loop-test.true in
     let own = row_at size (n - (i + 1)) values in
-    let long : length (farthest size n values i) ≡ i * (size + sealSize) = length-farthest size n values start.requires.2 i l.loop.invariant.0 in (
+    let long : length (farthest size n values i) ≡ i * (size + seal_size) = length_farthest size n values start.requires.2 i l.loop.invariant.0 in (
       omega arith,
       c.before.before.put_payload.auto.0 ∙ l.loop.invariant.1,
       c.before.before.put_payload.ensures
-          ∙ ap (placed (headSize + i * (size + sealSize)) (sealed own)) l.loop.invariant.2
-          ∙ placed-more headSize (headSize + i * (size + sealSize)) (farthest size n values i) buffer (ap (λ (m : ℕ). headSize + m) long) (omega (arith, payload-within size below start.requires.3)) (sealed own)
-          ∙ ap (λ (b : List ℕ). placed headSize b buffer) (farthest-more size n values start.requires.2 i below),
+          ∙ ap (placed (head_size + i * (size + seal_size)) (sealed own)) l.loop.invariant.2
+          ∙ placed_more head_size (head_size + i * (size + seal_size)) (farthest size n values i) buffer (ap (λ (m : ℕ). head_size + m) long) (omega (arith, payload_within size below start.requires.3)) (sealed own)
+          ∙ ap (λ (b : List ℕ). placed head_size b buffer) (farthest_more size n values start.requires.2 i below),
     )
 
 same_length : tie.Need-same-length invariant-loop decreases-loop
@@ -64,8 +64,8 @@ returns c =
     let q = start.args in
     let all : c.before.loop.i ≡ q.n = omega arith in
     c.before.loop.invariant.2
-    ∙ ap (λ (b : List ℕ). placed headSize b q.buffer.now)
-    (ap (farthest q.size q.n q.values.now) all ∙ farthest-all q.size q.n q.values.now start.requires.2)
+    ∙ ap (λ (b : List ℕ). placed head_size b q.buffer.now)
+    (ap (farthest q.size q.n q.values.now) all ∙ farthest_all q.size q.n q.values.now start.requires.2)
 
 pub put-payloads-spec : {M : Type 1} → statement M
 put-payloads-spec =

@@ -6,10 +6,10 @@ use mathlib.Core.List.{List, ◌++◌}
 use Prim.Native.Nat.{ℕ, ◌+◌, ◌≤◌}
 use native.Mathlib.Omega.{arith}
 use lib.ListN.{length}
-use Rattle.bytes.specs.Placed.{placed}
-use Rattle.bytes.proofs.Placed.{tried, laid}
+use Rattle.laying.specs.Placed.{placed}
+use Rattle.laying.proofs.Placed.{tried, laid}
 use Rattle.pec.specs.Words.{seal}
-use Rattle.records.specs.Commands.{sealSize}
+use Rattle.records.specs.Commands.{seal_size}
 use Rattle.host.specs.Frames.{sealed}
 use Rattle.host.proofs.Payloads.{length-sealed}
 use borrow.Author.Rules.{rules}
@@ -21,7 +21,7 @@ not-six (inl e) h = absurd (h e)
 not-six (inr e) h = e
 
 -- what the two seals have in common: bytes that are those of the slice, and their seal behind them
-module _ (at : ℕ) (own buffer : List ℕ) (fits : at + (length own + sealSize) ≤ length buffer) where
+module _ (at : ℕ) (own buffer : List ℕ) (fits : at + (length own + seal_size) ≤ length buffer) where
   sealed-put : {copied payload : List ℕ} → payload ≡ copied ++ seal copied 0 → copied ≡ own → tried at payload buffer ≡ placed at (sealed own) buffer
   unfolding sealed
   sealed-put is same =

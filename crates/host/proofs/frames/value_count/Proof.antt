@@ -5,8 +5,8 @@ use Prim.Native.Nat.{ℕ, ◌*◌, ◌≤◌}
 use native.Mathlib.Nat.{mul-le-mul}
 use native.Mathlib.Omega.{arith}
 use Rattle.records.specs.declared.commands.Command.{Command}
-use Rattle.records.specs.Commands.{mostMonitors}
-use Rattle.host.specs.Frames.{valueCount}
+use Rattle.records.specs.Commands.{most_monitors}
+use Rattle.host.specs.Frames.{value_count}
 use borrow.Author.Rules.{rules}
 use Rattle.host.proofs.frames.value_count.Statement.{statement}
 use Rattle.host.proofs.frames.value_count.Tie as tie
@@ -23,7 +23,7 @@ data-size-requires c κs = search rules
 mul-result : tie.Need-overflow-mul-result
 mul-result c =
     let start = c.before.before.before.before in
-    let most : c.data-size.result * start.args.n ≤ 6 * mostMonitors = mul-le-mul c.data-size.ensures.1 start.requires in
+    let most : c.data-size.result * start.args.n ≤ 6 * most_monitors = mul-le-mul c.data-size.ensures.1 start.requires in
     omega arith
 
 enum-told-2 : tie.Need-enum-told-2
@@ -38,7 +38,7 @@ returns c = search rules
 returns-2 : tie.Need-returns-2
 returns-2 c =
     let n = c.before.before.before.before.args.n in
-    ap (λ (size : ℕ). size * n) c.data-size.ensures.0 ∙ ap (λ (k : Command). valueCount k n) (sym c.before.before.command.given.1)
+    ap (λ (size : ℕ). size * n) c.data-size.ensures.0 ∙ ap (λ (k : Command). value_count k n) (sym c.before.before.command.given.1)
 
 returns-3 : tie.Need-returns-3
 returns-3 c = search rules

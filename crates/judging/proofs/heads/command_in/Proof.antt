@@ -2,15 +2,15 @@
 -- Assumes nothing.
 use mathlib.Core.Path.{ap, ◌∙◌}
 use Prim.Native.Nat.{ℕ}
-use Rattle.records.specs.Commands.{commands, commandOf}
-use Rattle.judging.specs.Refusals.{commandIn}
+use Rattle.records.specs.Commands.{commands, command_of}
+use Rattle.judging.specs.Refusals.{command_in}
 use borrow.Author.Rules.{rules}
 use Rattle.judging.proofs.heads.command_in.Statement.{statement}
 use Rattle.judging.proofs.heads.command_in.Tie as tie
 
 returns : tie.Need-returns
-unfolding commandIn
-returns c = c.command-of.ensures ∙ ap (λ (code : ℕ). commandOf code commands) c.before.code-in.ensures
+unfolding command_in
+returns c = c.command-of.ensures ∙ ap (λ (code : ℕ). command_of code commands) c.before.code-in.ensures
 
 pub command-in-spec : {M : Type 1} → statement M
 command-in-spec = tie.close (tie.spec (λ c κs. search rules) (λ c κs. search rules) returns)

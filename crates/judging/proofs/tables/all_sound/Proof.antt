@@ -8,13 +8,13 @@ use borrow.Author.Rules.{rules}
 use borrow.Author.Tests.{not-true, not-false}
 use Rattle.laws.specs.Counts.{all}
 use Rattle.laws.specs.Rows.{rows}
-use Rattle.records.specs.Record.{recordSize, recordSound}
-use Rattle.judging.proofs.Soundness.{one_more, one-fails}
+use Rattle.records.specs.Record.{record_size, record_sound}
+use Rattle.judging.proofs.Soundness.{one_more_lem, one_fails}
 use Rattle.judging.proofs.tables.all_sound.Statement.{statement}
 use Rattle.judging.proofs.tables.all_sound.Tie as tie
 
 abbrev invariant-loop : tie.invariant-loop
-invariant-loop table n k₀ k = (k ≤ n) × (all recordSound (rows recordSize k table) ≡ true)
+invariant-loop table n k₀ k = (k ≤ n) × (all record_sound (rows record_size k table) ≡ true)
 
 abbrev decreases-loop : tie.decreases-loop
 decreases-loop table n k₀ k = n - k
@@ -43,7 +43,7 @@ record-sound-requires c κs = search rules
 
 returns : tie.Need-returns invariant-loop decreases-loop
 returns c =
-    sym (one-fails c.before.before.before.before.before.before.args.table.now c.before.before.before.before.loop.k (omega arith) c.before.before.before.loop-test.true c.before.record-sound.ensures (not-true _ c.if1.true))
+    sym (one_fails c.before.before.before.before.before.before.args.table.now c.before.before.before.before.loop.k (omega arith) c.before.before.before.loop-test.true c.before.record-sound.ensures (not-true _ c.if1.true))
 
 add-k : tie.Need-overflow-add-k invariant-loop decreases-loop
 add-k c = omega arith
@@ -53,12 +53,12 @@ loop-less c = omega arith
 
 loop-again : tie.Need-loop-preserved invariant-loop decreases-loop
 loop-again c =
-    (omega arith, one_more c.before.before.before.before.before.before.args.table.now c.before.before.before.before.loop.k (omega arith) c.before.record-sound.ensures (not-false _ c.if1.false) c.before.before.before.before.loop.invariant.1)
+    (omega arith, one_more_lem c.before.before.before.before.before.before.args.table.now c.before.before.before.before.loop.k (omega arith) c.before.record-sound.ensures (not-false _ c.if1.false) c.before.before.before.before.loop.invariant.1)
 
 returns-2 : tie.Need-returns-2 invariant-loop decreases-loop
 returns-2 c =
     let all-of-them : c.before.loop.k ≡ c.before.before.before.args.n = omega arith in
-    sym (ap (λ (k : ℕ). all recordSound (rows recordSize k c.before.before.before.args.table.now)) (sym all-of-them) ∙ c.before.loop.invariant.1)
+    sym (ap (λ (k : ℕ). all record_sound (rows record_size k c.before.before.before.args.table.now)) (sym all-of-them) ∙ c.before.loop.invariant.1)
 
 pub all-sound-spec : {M : Type 1} → statement M
 all-sound-spec =

@@ -8,7 +8,7 @@ use native.Mathlib.Omega.{arith}
 use lib.Dec.{eqb}
 use borrow.Author.Tests.{ne_eqb}
 use Rattle.judging.specs.Table.{monitors, sound}
-use Rattle.judging.proofs.Soundness.{is-sound}
+use Rattle.judging.proofs.Soundness.{is_sound}
 use borrow.Author.Rules.{rules}
 use Rattle.judging.proofs.tables.sound.Statement.{statement}
 use Rattle.judging.proofs.tables.sound.Tie as tie
@@ -18,7 +18,7 @@ sound-count-requires c κs = search rules
 
 counted : (t : List ℕ) (b : Bool) → sound t ≡ b → not (eqb (cond b (monitors t) 0) 0) ≡ b
 counted t true e =
-    let some = (is-sound t e).some in
+    let some = (is_sound t e).some in
     ap not (ne_eqb (monitors t) 0 (λ z. omega arith))
 counted t false e = refl
 

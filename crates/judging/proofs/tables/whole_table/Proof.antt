@@ -1,13 +1,13 @@
 -- `judging::tables::whole_table` meets its contract, by its two tests.
 -- Assumes nothing.
 use mathlib.Core.Path.{sym}
-use Rattle.judging.proofs.Whole.{many-records, by_length}
+use Rattle.judging.proofs.Whole.{many_records, by_length}
 use borrow.Author.Rules.{rules}
 use Rattle.judging.proofs.tables.whole_table.Statement.{statement}
 use Rattle.judging.proofs.tables.whole_table.Tie as tie
 
 returns : tie.Need-returns
-returns c = sym (many-records c.before.args.n c.before.args.table.now c.if1.true)
+returns c = sym (many_records c.before.args.n c.before.args.table.now c.if1.true)
 
 mul-result : tie.Need-overflow-mul-result
 mul-result c = search rules

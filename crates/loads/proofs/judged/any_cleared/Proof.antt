@@ -9,12 +9,12 @@ use lib.ListN.{length, get_or}
 use mir.Syntax.{w16}
 use mir.Val.{SFits}
 use Rattle.laws.specs.Counts.{all}
-use Rattle.cells.proofs.Codes.{cleared, not-cleared, none-cleared, one_more, one-cleared, each-looked-at}
+use Rattle.cells.proofs.Codes.{cleared, not_cleared, none_cleared, one_more_lem, one_cleared, each-looked-at}
 use Rattle.loads.proofs.judged.any_cleared.Statement.{statement}
 use Rattle.loads.proofs.judged.any_cleared.Tie as tie
 
 abbrev invariant-loop : tie.invariant-loop
-invariant-loop codes i₀ i = (i ≤ length codes) × (none-cleared codes i ≡ true)
+invariant-loop codes i₀ i = (i ≤ length codes) × (none_cleared codes i ≡ true)
 
 abbrev decreases-loop : tie.decreases-loop
 decreases-loop codes i₀ i = length codes - i
@@ -29,7 +29,7 @@ returns c =
     let codes = turn.before.args.codes.now in
     let there : turn.loop.i < length codes = c.before.before.loop-test.true in
     let fits : SFits w16 (get_or codes turn.loop.i (pos 0)) = record { sfits = c.before.if12.given } in
-    sym (ap not (one-cleared codes turn.loop.i there (cleared (get_or codes turn.loop.i (pos 0)) fits c.if1.true)))
+    sym (ap not (one_cleared codes turn.loop.i there (cleared (get_or codes turn.loop.i (pos 0)) fits c.if1.true)))
 
 loop-again : tie.Need-loop-preserved invariant-loop decreases-loop
 loop-again c =
@@ -37,7 +37,7 @@ loop-again c =
     let codes = turn.before.args.codes.now in
     let there : turn.loop.i < length codes = c.before.before.loop-test.true in
     let fits : SFits w16 (get_or codes turn.loop.i (pos 0)) = record { sfits = c.before.if12.given } in
-    (omega arith, one_more codes turn.loop.i there (not-cleared (get_or codes turn.loop.i (pos 0)) fits c.if1.false) turn.loop.invariant.1)
+    (omega arith, one_more_lem codes turn.loop.i there (not_cleared (get_or codes turn.loop.i (pos 0)) fits c.if1.false) turn.loop.invariant.1)
 
 returns-2 : tie.Need-returns-2 invariant-loop decreases-loop
 returns-2 c =

@@ -7,20 +7,20 @@ use Rattle.loads.specs.declared.loads.Loaded.TheVariants.{Done}
 use Rattle.loads.specs.Load.{compared}
 use Rattle.loads.proofs.Refused.{table-compared}
 use Rattle.judging.proofs.Place.{Place, few, fits}
-use Rattle.loads.proofs.Place.{done-place}
+use Rattle.loads.proofs.Place.{done_place}
 use Rattle.loads.proofs.loads.compare.Statement.{statement}
 use Rattle.loads.proofs.loads.compare.Tie as tie
 
 sub-compare-at : tie.Need-overflow-sub-compare-at
 sub-compare-at c =
     let a = c.before.before.before.before.before.before.args in
-    let p = done-place a.table.now a.position (sym c.before.before.before.judge-compare.ensures ∙ c.before.enum_told.given.1) in
+    let p = done_place a.table.now a.position (sym c.before.before.before.judge-compare.ensures ∙ c.before.enum_told.given.1) in
     omega (arith, p.first)
 
 compare-at-requires : tie.Need-compare-at-requires
 compare-at-requires c κs =
     let a = c.before.before.before.before.before.before.args in
-    let p = done-place a.table.now a.position (sym c.before.before.before.judge-compare.ensures ∙ c.before.enum_told.given.1) in
+    let p = done_place a.table.now a.position (sym c.before.before.before.judge-compare.ensures ∙ c.before.enum_told.given.1) in
     (few a.table.now a.position p, fits a.table.now a.position p)
 
 returns : tie.Need-returns

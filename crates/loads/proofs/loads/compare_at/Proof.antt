@@ -2,7 +2,7 @@
 -- Assumes nothing.
 use borrow.Author.Rules.{rules}
 use Rattle.cells.specs.Cells.{compare}
-use Rattle.judging.proofs.Lent.{lent-record, came-back}
+use Rattle.judging.proofs.Lent.{lent_record, came-back}
 use Rattle.loads.proofs.loads.compare_at.Statement.{statement}
 use Rattle.loads.proofs.loads.compare_at.Tie as tie
 
@@ -10,7 +10,7 @@ returns : tie.Need-returns
 returns c =
     let start = c.before.before.before.before.before in
     let a = start.args in
-    came-back a.k a.table.now compare (lent-record a.k a.table.now start.requires.1) c.before.before.compare.ensures.1
+    came-back a.k a.table.now compare (lent_record a.k a.table.now start.requires.1) c.before.before.compare.ensures.1
 
 pub compare-at-spec : {M : Type 1} → statement M
 compare-at-spec =

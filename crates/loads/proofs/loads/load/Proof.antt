@@ -3,22 +3,22 @@
 use mathlib.Core.Path.{sym, ◌∙◌}
 use native.Mathlib.Omega.{arith}
 use borrow.Author.Rules.{rules}
-use Rattle.loads.proofs.Judging.{as-stored}
+use Rattle.loads.proofs.Judging.{as_stored}
 use Rattle.loads.proofs.Refused.{table-loaded}
-use Rattle.loads.proofs.Place.{stored-first, stored-ready}
+use Rattle.loads.proofs.Place.{stored-first, stored_ready}
 use Rattle.loads.proofs.loads.load.Statement.{statement}
 use Rattle.loads.proofs.loads.load.Tie as tie
 
 returns : tie.Need-returns
 returns c =
     let a = c.before.before.before.before.before.before.args in
-    let e = as-stored a.table.now a.position a.codes.now ∙ sym c.before.before.before.judge-store.ensures ∙ c.before.refusal.given.1 in
+    let e = as_stored a.table.now a.position a.codes.now ∙ sym c.before.before.before.judge-store.ensures ∙ c.before.refusal.given.1 in
     (sym e, sym (table-loaded a.table.now a.position a.codes.now e))
 
 returns-2 : tie.Need-returns-2
 returns-2 c =
     let a = c.before.before.before.before.before.before.before.before.before.args in
-    let e = as-stored a.table.now a.position a.codes.now ∙ sym c.before.before.before.before.before.before.judge-store.ensures ∙ c.before.before.before.before.enum_told.given.1 in
+    let e = as_stored a.table.now a.position a.codes.now ∙ sym c.before.before.before.before.before.before.judge-store.ensures ∙ c.before.before.before.before.enum_told.given.1 in
     (sym e, search rules ∙ sym (table-loaded a.table.now a.position a.codes.now e))
 
 pub load_spec : {M : Type 1} → statement M
@@ -29,7 +29,7 @@ load_spec =
     (λ c. search rules)
     (λ c. search rules)
     (λ c. omega (arith, stored-first _ _ _ (sym c.before.before.before.judge-store.ensures ∙ c.before.enum_told.given.1)))
-    (λ c κs. stored-ready _ _ _ (sym c.before.before.before.judge-store.ensures ∙ c.before.enum_told.given.1))
+    (λ c κs. stored_ready _ _ _ (sym c.before.before.before.judge-store.ensures ∙ c.before.enum_told.given.1))
     (λ c. search rules)
     returns
     (λ c. search rules)

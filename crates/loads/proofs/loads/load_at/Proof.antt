@@ -5,9 +5,9 @@ use mathlib.Core.List.{List}
 use Prim.Native.Nat.{ℕ, ◌+◌, ◌*◌, ◌≤◌}
 use lib.ListN.{length}
 use borrow.Author.Rules.{rules}
-use Rattle.records.specs.Record.{recordSize}
-use Rattle.judging.specs.Table.{changedAt}
-use Rattle.judging.proofs.Changed.{length-changed, changed-twice}
+use Rattle.records.specs.Record.{record_size}
+use Rattle.judging.specs.Table.{changed_at}
+use Rattle.judging.proofs.Changed.{length-changed, changed_twice}
 use Rattle.cells.specs.Cells.{store, compare, load}
 use Rattle.cells.proofs.Loaded.{length-store}
 use Rattle.loads.proofs.loads.load_at.Statement.{statement}
@@ -17,7 +17,7 @@ compare-at-requires : tie.Need-compare-at-requires
 compare-at-requires c κs =
     let start = c.before.before.before.before.before.before in
     let a = start.args in
-    let at-k : ℕ → Type 0 = λ n. a.k * recordSize + recordSize ≤ n in (
+    let at-k : ℕ → Type 0 = λ n. a.k * record_size + record_size ≤ n in (
       start.requires.0,
       subst⁻¹ (λ (t : List ℕ). at-k (length t)) c.before.before.before.store_at.ensures
           (subst⁻¹ at-k (length-changed a.k (store a.codes.now) (length-store a.codes.now) a.table.now start.requires.1) start.requires.1),
@@ -29,8 +29,8 @@ returns c =
     let start = c.before.before.before.before.before.before.before.before.before in
     let a = start.args in
     c.before.before.compare-at.ensures
-    ∙ ap (changedAt a.k compare) c.before.before.before.before.before.before.store_at.ensures
-    ∙ changed-twice a.k (store a.codes.now) (length-store a.codes.now) a.table.now start.requires.1 compare (load a.codes.now) (λ r l. refl)
+    ∙ ap (changed_at a.k compare) c.before.before.before.before.before.before.store_at.ensures
+    ∙ changed_twice a.k (store a.codes.now) (length-store a.codes.now) a.table.now start.requires.1 compare (load a.codes.now) (λ r l. refl)
 
 pub load-at-spec : {M : Type 1} → statement M
 load-at-spec = tie.close (tie.spec (λ c κs. search rules) compare-at-requires (λ c. search rules) returns)

@@ -4,7 +4,7 @@ use mathlib.Core.Path.{sym, ◌∙◌}
 use native.Mathlib.Omega.{arith}
 use borrow.Author.Rules.{rules}
 use Rattle.loads.proofs.Refused.{table-stored}
-use Rattle.loads.proofs.Place.{stored-first, stored-ready}
+use Rattle.loads.proofs.Place.{stored-first, stored_ready}
 use Rattle.loads.proofs.loads.store.Statement.{statement}
 use Rattle.loads.proofs.loads.store.Tie as tie
 
@@ -28,7 +28,7 @@ store_spec =
     (λ c. search rules)
     (λ c. search rules)
     (λ c. omega (arith, stored-first _ _ _ (sym c.before.before.before.judge-store.ensures ∙ c.before.enum_told.given.1)))
-    (λ c κs. stored-ready _ _ _ (sym c.before.before.before.judge-store.ensures ∙ c.before.enum_told.given.1))
+    (λ c κs. stored_ready _ _ _ (sym c.before.before.before.judge-store.ensures ∙ c.before.enum_told.given.1))
     (λ c. search rules)
     returns
     (λ c. search rules)

@@ -5,7 +5,7 @@ use mathlib.Core.Bool.{◌&&◌}
 use borrow.Author.Rules.{rules}
 use borrow.Author.Tests.{eq-eqb}
 use Rattle.cells.specs.Cells.{store}
-use Rattle.judging.proofs.Lent.{lent-record, came-back}
+use Rattle.judging.proofs.Lent.{lent_record, came-back}
 use Rattle.loads.proofs.loads.store_at.Statement.{statement}
 use Rattle.loads.proofs.loads.store_at.Tie as tie
 
@@ -13,7 +13,7 @@ returns : tie.Need-returns
 returns c =
     let start = c.before.before.before.before.before in
     let a = start.args in
-    came-back a.k a.table.now (store a.codes.now) (ap₂ ◌&&◌ (lent-record a.k a.table.now start.requires.1) (eq-eqb _ _ start.requires.2)) c.before.before.store.ensures.1
+    came-back a.k a.table.now (store a.codes.now) (ap₂ ◌&&◌ (lent_record a.k a.table.now start.requires.1) (eq-eqb _ _ start.requires.2)) c.before.before.store.ensures.1
 
 pub store-at-spec : {M : Type 1} → statement M
 store-at-spec =

@@ -5,14 +5,14 @@ use mathlib.Core.Bool.{Bool, cond}
 use mathlib.Core.List.{List}
 use Prim.Native.Nat.{ℕ}
 use borrow.Author.Rules.{rules}
-use Rattle.records.specs.Record.{cellCount}
-use Rattle.measuring.specs.Measuring.{kindsIn, pending, found}
+use Rattle.records.specs.Record.{cell_count}
+use Rattle.measuring.specs.Measuring.{kinds_in, pending, found}
 use Rattle.measuring.proofs.measuring.found.Statement.{statement}
 use Rattle.measuring.proofs.measuring.found.Tie as tie
 
-found-where : (r : List ℕ) {is : Bool} → pending r ≡ is → cond is 0xFF (kindsIn r cellCount) ≡ found r
+found-where : (r : List ℕ) {is : Bool} → pending r ≡ is → cond is 0xFF (kinds_in r cell_count) ≡ found r
 unfolding found
-found-where r e = ap (λ (is : Bool). cond is 0xFF (kindsIn r cellCount)) (sym e)
+found-where r e = ap (λ (is : Bool). cond is 0xFF (kinds_in r cell_count)) (sym e)
 
 returns : tie.Need-returns
 returns c = found-where _ (sym c.before.is-pending.ensures ∙ c.if1.true)

@@ -11,10 +11,10 @@ use borrow.Author.Rules.{rules}
 use mir.Syntax.{w32, w64}
 use mir.Val.{SFits, to_z, of_z}
 use mir.Facts.{to_z-of_z}
-use Rattle.laws.proofs.Counts.{flag-at-most-one}
+use Rattle.laws.proofs.Counts.{flag_at_most_one}
 use Rattle.thresholds.proofs.TwosComplement.{widens, widened}
 use Rattle.measuring.specs.Measuring.{kinds}
-use Rattle.measuring.proofs.FourBits.{difference-fits, four-kinds}
+use Rattle.measuring.proofs.FourBits.{difference_fits, four-kinds}
 use Rattle.measuring.proofs.measuring.kinds.Statement.{statement}
 use Rattle.measuring.proofs.measuring.kinds.Tie as tie
 
@@ -50,13 +50,13 @@ sub-fell : tie.Need-overflow-sub-fell
 sub-fell c =
     let code = code_fits c.before.before.before.before.before.before in
     let last = last_fits c.before.before.before.before in
-    rw (widened w64 tt last, widened w64 tt code) (difference-fits _ _ last code)
+    rw (widened w64 tt last, widened w64 tt code) (difference_fits _ _ last code)
 
 sub-rose : tie.Need-overflow-sub-rose
 sub-rose c =
     let code = code_fits c.before.before.before.before.before.before in
     let last = last_fits c.before.before.before.before in
-    rw (widened w64 tt last, widened w64 tt code) (difference-fits _ _ code last)
+    rw (widened w64 tt last, widened w64 tt code) (difference_fits _ _ code last)
 
 -- the four tests, as the machine makes them
 abbrev below : tie.After-struct-told4 → Bool
@@ -72,22 +72,22 @@ abbrev rose : tie.After-struct-told4 → Bool
 rose c = let a = c.before.before.before.before.before.before.before.before.args in lt_z (to_z w64 (of_z w64 a.step)) (to_z w64 (of_z w64 (wide a.code.0 -ℤ wide a.last.0)))
 
 mul-result : tie.Need-overflow-mul-result
-mul-result c = omega (arith, flag-at-most-one (below c), flag-at-most-one (above c), flag-at-most-one (fell c), flag-at-most-one (rose c))
+mul-result c = omega (arith, flag_at_most_one (below c), flag_at_most_one (above c), flag_at_most_one (fell c), flag_at_most_one (rose c))
 
 add-result : tie.Need-overflow-add-result
-add-result c = omega (arith, flag-at-most-one (below c), flag-at-most-one (above c), flag-at-most-one (fell c), flag-at-most-one (rose c))
+add-result c = omega (arith, flag_at_most_one (below c), flag_at_most_one (above c), flag_at_most_one (fell c), flag_at_most_one (rose c))
 
 mul-result-2 : tie.Need-overflow-mul-result-2
-mul-result-2 c = omega (arith, flag-at-most-one (below c), flag-at-most-one (above c), flag-at-most-one (fell c), flag-at-most-one (rose c))
+mul-result-2 c = omega (arith, flag_at_most_one (below c), flag_at_most_one (above c), flag_at_most_one (fell c), flag_at_most_one (rose c))
 
 add-result-2 : tie.Need-overflow-add-result-2
-add-result-2 c = omega (arith, flag-at-most-one (below c), flag-at-most-one (above c), flag-at-most-one (fell c), flag-at-most-one (rose c))
+add-result-2 c = omega (arith, flag_at_most_one (below c), flag_at_most_one (above c), flag_at_most_one (fell c), flag_at_most_one (rose c))
 
 mul-result-3 : tie.Need-overflow-mul-result-3
-mul-result-3 c = omega (arith, flag-at-most-one (below c), flag-at-most-one (above c), flag-at-most-one (fell c), flag-at-most-one (rose c))
+mul-result-3 c = omega (arith, flag_at_most_one (below c), flag_at_most_one (above c), flag_at_most_one (fell c), flag_at_most_one (rose c))
 
 add-result-3 : tie.Need-overflow-add-result-3
-add-result-3 c = omega (arith, flag-at-most-one (below c), flag-at-most-one (above c), flag-at-most-one (fell c), flag-at-most-one (rose c))
+add-result-3 c = omega (arith, flag_at_most_one (below c), flag_at_most_one (above c), flag_at_most_one (fell c), flag_at_most_one (rose c))
 
 returns : tie.Need-returns
 unfolding kinds

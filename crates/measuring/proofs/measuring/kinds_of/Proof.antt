@@ -7,7 +7,7 @@ use Prim.Native.Nat.{ℕ}
 use lib.IntN.{ℤ}
 use borrow.Author.Rules.{rules}
 use mir.Facts.{to_z-of_z}
-use Rattle.records.specs.Record.{cells, lastCells}
+use Rattle.records.specs.Record.{cells, last_cells}
 use Rattle.thresholds.specs.declared.thresholds.ResultCode.{ResultCode}
 use Rattle.cells.specs.Cells.{code_in}
 use Rattle.measuring.specs.Measuring.{masked, kinds}
@@ -17,7 +17,7 @@ use Rattle.measuring.proofs.measuring.kinds_of.Tie as tie
 -- by whether it is left out
 module _ (r : List ℕ) (cell : ℕ) (low high step : ℤ) where
   abbrev unmasked : ℕ
-  unmasked = kinds (code_in cells r cell).0 (code_in lastCells r cell).0 low high step
+  unmasked = kinds (code_in cells r cell).0 (code_in last_cells r cell).0 low high step
 
   by_mask : {out : Bool} → masked r cell ≡ out → cond out 0 unmasked ≡ cond (masked r cell) 0 unmasked
   by_mask e = ap (λ (out : Bool). cond out 0 unmasked) (sym e)

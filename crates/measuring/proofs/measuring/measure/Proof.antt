@@ -8,35 +8,35 @@ use lib.Bits.{bit_or}
 use lib.Dec.{eqb}
 use lib.ListN.{length, get_or, set}
 use borrow.Author.Rules.{rules}
-use Rattle.records.specs.Record.{cmf0, lastCells, recordSize, isRecord, byte_of, anew, onBytes}
+use Rattle.records.specs.Record.{cmf0, last_cells, record_size, is_record, byte_of, anew, on_bytes}
 use Rattle.records.proofs.Answers.{is-record, no_record}
-use Rattle.monitor.specs.Effects.{cellsTo}
+use Rattle.monitor.specs.Effects.{cells_to}
 use Rattle.measuring.specs.Measuring.{found, measured, passes}
 use Rattle.measuring.proofs.Measured.{flags-copied, flags-measured}
 use Rattle.measuring.proofs.measuring.measure.Statement.{statement}
 use Rattle.measuring.proofs.measuring.measure.Tie as tie
 
 -- by whether it is a record
-module _ (r : List ℕ) {is : Bool} (e : isRecord r ≡ is) where
-  answer-where : is && passes r ≡ isRecord r && passes r
+module _ (r : List ℕ) {is : Bool} (e : is_record r ≡ is) where
+  answer-where : is && passes r ≡ is_record r && passes r
   answer-where = ap (λ (b : Bool). b && passes r) (sym e)
 
-  left-where : cond is (measured r) r ≡ cond (isRecord r) (measured r) r
+  left-where : cond is (measured r) r ≡ cond (is_record r) (measured r) r
   left-where = ap (λ (b : Bool). cond b (measured r) r) (sym e)
 
-  copied-where : cond (isRecord r) (cellsTo lastCells r) r ≡ cond is (cellsTo lastCells r) r
-  copied-where = ap (λ (b : Bool). cond b (cellsTo lastCells r) r) e
+  copied-where : cond (is_record r) (cells_to last_cells r) r ≡ cond is (cells_to last_cells r) r
+  copied-where = ap (λ (b : Bool). cond b (cells_to last_cells r) r) e
 
 -- one byte made anew
 joined : List ℕ → ℕ → List ℕ
 joined l more = set l cmf0.at (bit_or (get_or l cmf0.at 0) more)
 
-as_one : (r : List ℕ) → joined (cellsTo lastCells r) (found r) ≡ measured r
-unfolding joined measured onBytes anew
+as_one : (r : List ℕ) → joined (cells_to last_cells r) (found r) ≡ measured r
+unfolding joined measured on_bytes anew
 as_one r = refl
 
-module _ (r : List ℕ) (whole : length r ≡ recordSize) {after : List ℕ} {more : ℕ} (a : after ≡ cond (isRecord r) (cellsTo lastCells r) r) (m : more ≡ found r) where
-  copied : after ≡ cellsTo lastCells r
+module _ (r : List ℕ) (whole : length r ≡ record_size) {after : List ℕ} {more : ℕ} (a : after ≡ cond (is_record r) (cells_to last_cells r) r) (m : more ≡ found r) where
+  copied : after ≡ cells_to last_cells r
   copied = a ∙ copied-where r (is-record r whole)
 
   none : eqb (bit_or (get_or after cmf0.at 0) more) 0 ≡ passes r
@@ -46,7 +46,7 @@ module _ (r : List ℕ) (whole : length r ≡ recordSize) {after : List ℕ} {mo
       ∙ ap (λ (old : ℕ). eqb (bit_or old (found r)) 0) (flags-copied r)
       ∙ sym (ap (λ (flags : ℕ). eqb flags 0) (flags-measured r whole))
 
-  made : (eqb (bit_or (get_or after cmf0.at 0) more) 0 ≡ isRecord r && passes r) × (set after cmf0.at (bit_or (get_or after cmf0.at 0) more) ≡ cond (isRecord r) (measured r) r)
+  made : (eqb (bit_or (get_or after cmf0.at 0) more) 0 ≡ is_record r && passes r) × (set after cmf0.at (bit_or (get_or after cmf0.at 0) more) ≡ cond (is_record r) (measured r) r)
   unfolding joined
   made = (none ∙ answer-where r (is-record r whole), ap₂ joined copied m ∙ as_one r ∙ left-where r (is-record r whole))
 

@@ -4,7 +4,7 @@ use mathlib.Core.Path.{sym, ap, ◌∙◌}
 use mathlib.Core.List.{List, [], ◌∷◌, ◌++◌}
 use Prim.Native.Nat.{ℕ}
 use lib.ListN.{get_or}
-use Rattle.pec.specs.Words.{twoBytes, seal}
+use Rattle.pec.specs.Words.{two_bytes, seal}
 use Rattle.messages.specs.Messages.{message}
 use Rattle.messages.proofs.Heads.{head}
 use borrow.Author.Rules.{rules}
@@ -39,7 +39,7 @@ array-read-t34 : tie.Need-array-read-t34
 array-read-t34 c = search rules
 
 returns : tie.Need-returns
-unfolding message seal twoBytes
+unfolding message seal two_bytes
 returns c =
     let own : List ℕ = c.before.before.args.count ∷ c.before.before.args.flags ∷ [] in
     ap (λ (l : List ℕ). 0x00 ∷ 0x43 ∷ 0x47 ∷ 0xB2 ∷ get_or l 0 0 ∷ get_or l 1 0 ∷ get_or l 2 0 ∷ get_or l 3 0 ∷ []) c.sealed-two.ensures

@@ -5,7 +5,7 @@ use mathlib.Core.Bool.{Bool, cond}
 use mathlib.Core.List.{List}
 use Prim.Native.Nat.{ℕ}
 use Rattle.records.specs.declared.commands.Bare.{Bare}
-use Rattle.records.specs.Record.{isRecord}
+use Rattle.records.specs.Record.{is_record}
 use Rattle.records.proofs.Answers.{is-record, no_record}
 use Rattle.monitor.specs.Effects.{done}
 use borrow.Author.Rules.{rules}
@@ -13,7 +13,7 @@ use Rattle.monitor.proofs.effects.carry_out.Statement.{statement}
 use Rattle.monitor.proofs.effects.carry_out.Tie as tie
 
 -- by whether it is a record
-done-where : (what : Bare) (r : List ℕ) {is : Bool} → isRecord r ≡ is → cond is (done what r) r ≡ cond (isRecord r) (done what r) r
+done-where : (what : Bare) (r : List ℕ) {is : Bool} → is_record r ≡ is → cond is (done what r) r ≡ cond (is_record r) (done what r) r
 done-where what r e = ap (λ (is : Bool). cond is (done what r) r) (sym e)
 
 returns : tie.Need-returns

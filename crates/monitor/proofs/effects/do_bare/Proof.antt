@@ -6,15 +6,15 @@ use Prim.Native.Nat.{ℕ}
 use lib.Bits.{bit_and}
 use lib.ListN.{get_or, set}
 use Rattle.records.specs.declared.commands.Bare.TheVariants.{Unsnap}
-use Rattle.records.specs.Record.{statusBits, anew, onBytes}
+use Rattle.records.specs.Record.{status_bits, anew, on_bytes}
 use Rattle.monitor.specs.Effects.{done}
 use borrow.Author.Rules.{rules}
 use Rattle.monitor.proofs.effects.do_bare.Statement.{statement}
 use Rattle.monitor.proofs.effects.do_bare.Tie as tie
 
 -- UNSNAP's one byte
-unsnapped : (r : List ℕ) → set r statusBits.at (bit_and (get_or r statusBits.at 0) 0xDF) ≡ done Unsnap r
-unfolding done onBytes anew
+unsnapped : (r : List ℕ) → set r status_bits.at (bit_and (get_or r status_bits.at 0) 0xDF) ≡ done Unsnap r
+unfolding done on_bytes anew
 unsnapped r = refl
 
 enum_told : tie.Need-enum-told
@@ -69,28 +69,28 @@ same_length : tie.Need-same-length
 same_length c = search rules
 
 returns : tie.Need-returns
-unfolding done onBytes anew
+unfolding done on_bytes anew
 returns c = ap₂ done (sym c.before.enum_told.given.1) refl
 
 same-length-2 : tie.Need-same-length-2
 same-length-2 c = search rules
 
 returns-2 : tie.Need-returns-2
-unfolding done onBytes anew
+unfolding done on_bytes anew
 returns-2 c = ap₂ done (sym c.before.enum-told2.given.1) refl
 
 same-length-3 : tie.Need-same-length-3
 same-length-3 c = search rules
 
 returns-3 : tie.Need-returns-3
-unfolding done onBytes anew
+unfolding done on_bytes anew
 returns-3 c = ap₂ done (sym c.enum-told3.given.1) refl
 
 same-length-4 : tie.Need-same-length-4
 same-length-4 c = search rules
 
 returns-4 : tie.Need-returns-4
-unfolding done onBytes anew
+unfolding done on_bytes anew
 returns-4 c = ap₂ done (sym c.enum-told4.given.1) refl
 
 same-length-5 : tie.Need-same-length-5
@@ -121,7 +121,7 @@ returns-8 c =
     c.before.before.cmen.ensures ∙ ap₂ done (sym c.before.before.before.before.enum-told8.given.1) refl
 
 returns-9 : tie.Need-returns-9
-unfolding done onBytes anew
+unfolding done on_bytes anew
 returns-9 c = ap₂ done (sym c.before.enum-told9.given.1) refl
 
 pub do-bare-spec : {M : Type 1} → statement M

@@ -5,19 +5,19 @@ use mathlib.Core.Bool.{Bool, cond}
 use mathlib.Core.List.{List}
 use Prim.Native.Nat.{ℕ}
 use lib.ListN.{get_or}
-use Rattle.records.specs.Record.{cells, lastCells, isRecord, bytes_of, anew, onBytes}
+use Rattle.records.specs.Record.{cells, last_cells, is_record, bytes_of, anew, on_bytes}
 use Rattle.records.proofs.Answers.{is-record, no_record}
-use Rattle.monitor.specs.Effects.{cellsTo}
+use Rattle.monitor.specs.Effects.{cells_to}
 use borrow.Author.Rules.{rules}
 use Rattle.monitor.proofs.effects.remember.Statement.{statement}
 use Rattle.monitor.proofs.effects.remember.Tie as tie
 
 -- by whether it is a record
-remembered-where : (r : List ℕ) {is : Bool} → isRecord r ≡ is → cond is (cellsTo lastCells r) r ≡ cond (isRecord r) (cellsTo lastCells r) r
-remembered-where r e = ap (λ (is : Bool). cond is (cellsTo lastCells r) r) (sym e)
+remembered-where : (r : List ℕ) {is : Bool} → is_record r ≡ is → cond is (cells_to last_cells r) r ≡ cond (is_record r) (cells_to last_cells r) r
+remembered-where r e = ap (λ (is : Bool). cond is (cells_to last_cells r) r) (sym e)
 
-made : (r : List ℕ) {after : List ℕ} → after ≡ anew (λ i old. get_or (bytes_of cells r) i 0) lastCells.at cells.size r → after ≡ cellsTo lastCells r
-unfolding cellsTo onBytes
+made : (r : List ℕ) {after : List ℕ} → after ≡ anew (λ i old. get_or (bytes_of cells r) i 0) last_cells.at cells.size r → after ≡ cells_to last_cells r
+unfolding cells_to on_bytes
 made r e = e
 
 returns : tie.Need-returns

@@ -6,9 +6,9 @@ use mathlib.Core.List.{List}
 use Prim.Native.Nat.{ℕ}
 use lib.Bits.{bit_or}
 use lib.ListN.{get_or, set}
-use Rattle.records.specs.Record.{cells, snapshot, statusBits, snapped, bytes_of, anew, onBytes}
+use Rattle.records.specs.Record.{cells, snapshot, status_bits, snapped, bytes_of, anew, on_bytes}
 use Rattle.records.specs.declared.commands.Bare.TheVariants.{Snap}
-use Rattle.monitor.specs.Effects.{cellsTo, copied, done}
+use Rattle.monitor.specs.Effects.{cells_to, copied, done}
 use borrow.Author.Rules.{rules}
 use Rattle.monitor.proofs.effects.snap.Statement.{statement}
 use Rattle.monitor.proofs.effects.snap.Tie as tie
@@ -19,15 +19,15 @@ unfolding done
 done-where r e = ap (λ (on : Bool). cond on r (copied r)) (sym e)
 
 -- one byte made anew
-as_one : (l : List ℕ) → set l statusBits.at (bit_or (get_or l statusBits.at 0) 0x20) ≡ onBytes statusBits (λ i old. bit_or old 0x20) l
-unfolding onBytes anew
+as_one : (l : List ℕ) → set l status_bits.at (bit_or (get_or l status_bits.at 0) 0x20) ≡ on_bytes status_bits (λ i old. bit_or old 0x20) l
+unfolding on_bytes anew
 as_one l = refl
 
 -- the cells copied, and one byte more
 made : (r : List ℕ) {after : List ℕ} → after ≡ anew (λ i old. get_or (bytes_of cells r) i 0) snapshot.at cells.size r
-    → set after statusBits.at (bit_or (get_or after statusBits.at 0) 0x20) ≡ copied r
-unfolding copied cellsTo onBytes
-made r e = ap (λ (l : List ℕ). set l statusBits.at (bit_or (get_or l statusBits.at 0) 0x20)) e ∙ as_one _
+    → set after status_bits.at (bit_or (get_or after status_bits.at 0) 0x20) ≡ copied r
+unfolding copied cells_to on_bytes
+made r e = ap (λ (l : List ℕ). set l status_bits.at (bit_or (get_or l status_bits.at 0) 0x20)) e ∙ as_one _
 
 returns : tie.Need-returns
 returns c = done-where c.before.before.before.before.args.rec.now (sym c.before.is-snapped.ensures ∙ c.if1.true)

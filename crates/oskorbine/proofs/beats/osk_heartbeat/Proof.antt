@@ -2,15 +2,15 @@
 -- Assumes nothing.
 use mathlib.Core.Path.{sym}
 use borrow.Author.Rules.{rules}
-use Rattle.oskorbine.specs.Answers.{sentParts}
-use Rattle.packing.proofs.Packed.{as-told}
+use Rattle.oskorbine.specs.Answers.{sent_parts}
+use Rattle.packing.proofs.Packed.{as_told}
 use Rattle.oskorbine.proofs.beats.osk_heartbeat.Statement.{statement}
 use Rattle.oskorbine.proofs.beats.osk_heartbeat.Tie as tie
 
 returns : tie.Need-returns
 returns c =
     let done = c.before.before.before.before.before.heartbeat.ensures in
-    (as-told sentParts c.sent-answer.ensures (sym done.0), (done.1.0, done.1.1))
+    (as_told sent_parts c.sent-answer.ensures (sym done.0), (done.1.0, done.1.1))
 
 pub osk-heartbeat-spec : {M : Type 1} → statement M
 osk-heartbeat-spec = tie.close (tie.spec (λ c κs. search rules) (λ c κs. search rules) (λ c. search rules) (λ c. search rules) returns)

@@ -2,15 +2,15 @@
 -- Assumes nothing.
 use mathlib.Core.Path.{sym}
 use borrow.Author.Rules.{rules}
-use Rattle.oskorbine.specs.Answers.{relayedParts}
-use Rattle.packing.proofs.Packed.{as-told}
+use Rattle.oskorbine.specs.Answers.{relayed_parts}
+use Rattle.packing.proofs.Packed.{as_told}
 use Rattle.oskorbine.proofs.beats.osk_relay.Statement.{statement}
 use Rattle.oskorbine.proofs.beats.osk_relay.Tie as tie
 
 returns : tie.Need-returns
 returns c =
     let done = c.before.before.before.before.before.relay.ensures in
-    (as-told relayedParts c.relayed-answer.ensures (sym done.0), (done.1.0, done.1.1))
+    (as_told relayed_parts c.relayed-answer.ensures (sym done.0), (done.1.0, done.1.1))
 
 pub osk-relay-spec : {M : Type 1} → statement M
 osk-relay-spec = tie.close (tie.spec (λ c κs. search rules) (λ c κs. search rules) (λ c. search rules) (λ c. search rules) returns)

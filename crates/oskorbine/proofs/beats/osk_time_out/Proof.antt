@@ -2,15 +2,15 @@
 -- Assumes nothing.
 use mathlib.Core.Path.{sym}
 use borrow.Author.Rules.{rules}
-use Rattle.oskorbine.specs.Answers.{timedParts}
-use Rattle.packing.proofs.Packed.{as-told}
+use Rattle.oskorbine.specs.Answers.{timed_parts}
+use Rattle.packing.proofs.Packed.{as_told}
 use Rattle.oskorbine.proofs.beats.osk_time_out.Statement.{statement}
 use Rattle.oskorbine.proofs.beats.osk_time_out.Tie as tie
 
 returns : tie.Need-returns
 returns c =
     let done = c.before.before.before.time-out.ensures in
-    (as-told timedParts c.timed-answer.ensures (sym done.0), done.1)
+    (as_told timed_parts c.timed-answer.ensures (sym done.0), done.1)
 
 pub osk-time-out-spec : {M : Type 1} → statement M
 osk-time-out-spec = tie.close (tie.spec (λ c κs. search rules) (λ c κs. search rules) (λ c. search rules) returns)

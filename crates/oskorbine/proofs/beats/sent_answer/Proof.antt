@@ -1,22 +1,22 @@
 -- `oskorbine::beats::sent_answer` meets its contract, answer by answer.
 -- Assumes nothing.
 use borrow.Author.Rules.{rules}
-use Rattle.oskorbine.specs.Answers.{sentParts}
-use Rattle.packing.proofs.Packed.{as-told}
+use Rattle.oskorbine.specs.Answers.{sent_parts}
+use Rattle.packing.proofs.Packed.{as_told}
 use Rattle.oskorbine.proofs.beats.sent_answer.Statement.{statement}
 use Rattle.oskorbine.proofs.beats.sent_answer.Tie as tie
 
 returns : tie.Need-returns
-returns c = as-told sentParts c.refused.ensures c.before.before.sent.given.1
+returns c = as_told sent_parts c.refused.ensures c.before.before.sent.given.1
 
 returns-2 : tie.Need-returns-2
-returns-2 c = as-told sentParts c.accepted.ensures c.before.enum_told.given.1
+returns-2 c = as_told sent_parts c.accepted.ensures c.before.enum_told.given.1
 
 returns-3 : tie.Need-returns-3
-returns-3 c = as-told sentParts c.accepted2.ensures c.before.enum-told2.given.1
+returns-3 c = as_told sent_parts c.accepted2.ensures c.before.enum-told2.given.1
 
 returns-4 : tie.Need-returns-4
-returns-4 c = as-told sentParts c.accepted3.ensures c.before.enum-told3.given.1
+returns-4 c = as_told sent_parts c.accepted3.ensures c.before.enum-told3.given.1
 
 pub sent-answer-spec : {M : Type 1} → statement M
 sent-answer-spec =

@@ -4,12 +4,12 @@ use mathlib.Core.Path.{ap, ◌∙◌}
 use borrow.Author.Rules.{rules}
 use Rattle.loads.specs.declared.loads.Loaded.{Loaded}
 use Rattle.packing.specs.Packed.{packed}
-use Rattle.oskorbine.specs.Answers.{loadParts}
+use Rattle.oskorbine.specs.Answers.{load_parts}
 use Rattle.oskorbine.proofs.cells.osk_store.Statement.{statement}
 use Rattle.oskorbine.proofs.cells.osk_store.Tie as tie
 
 returns : tie.Need-returns
-returns c = (c.load-answer.ensures ∙ ap (λ (l : Loaded). packed (loadParts l)) c.before.before.before.store.ensures.0, search rules)
+returns c = (c.load-answer.ensures ∙ ap (λ (l : Loaded). packed (load_parts l)) c.before.before.before.store.ensures.0, search rules)
 
 pub osk-store-spec : {M : Type 1} → statement M
 osk-store-spec = tie.close (tie.spec (λ c κs. search rules) (λ c κs. search rules) (λ c. search rules) returns)

@@ -5,12 +5,12 @@ use Prim.Native.Nat.{ℕ, ◌/◌}
 use native.Mathlib.Nat.{div-one}
 use Rattle.laws.specs.Bits.{odd, bit_at}
 use Rattle.priorities.specs.declared.outputs.Events.{Events}
-use Rattle.oskorbine.specs.Events.{eventsIn}
+use Rattle.oskorbine.specs.Events.{events_in}
 use Rattle.oskorbine.proofs.discharges.events_in.Statement.{statement}
 use Rattle.oskorbine.proofs.discharges.events_in.Tie as tie
 
 returns : tie.Need-returns
-unfolding eventsIn bit_at odd
+unfolding events_in bit_at odd
 returns c =
     let bits = c.args.bits in
     ap {B = Events} (λ (n : ℕ). record { shutdown = odd n; measurement = odd (bits / 2); wrcfgb = odd (bits / 4); wrpwm = odd (bits / 8) }) (sym (div-one bits))

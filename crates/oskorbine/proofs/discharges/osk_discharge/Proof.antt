@@ -8,11 +8,11 @@ use lib.ListN.{length}
 use borrow.Author.Rules.{rules}
 use Rattle.priorities.specs.declared.outputs.Events.{Events}
 use Rattle.discharge.specs.declared.question.Discharged.{Discharged}
-use Rattle.discharge.specs.Question.{discharged, outputsAfter}
+use Rattle.discharge.specs.Question.{discharged, outputs_after}
 use Rattle.packing.specs.Packed.{packed}
-use Rattle.packing.proofs.Packed.{fits-as-told}
-use Rattle.oskorbine.specs.Answers.{dischargedParts}
-use Rattle.oskorbine.proofs.Fits.{discharge-fits}
+use Rattle.packing.proofs.Packed.{fits_as_told}
+use Rattle.oskorbine.specs.Answers.{discharged_parts}
+use Rattle.oskorbine.proofs.Fits.{discharge_fits}
 use Rattle.oskorbine.proofs.discharges.osk_discharge.Statement.{statement}
 use Rattle.oskorbine.proofs.discharges.osk_discharge.Tie as tie
 
@@ -20,19 +20,19 @@ cast-accepted : tie.Need-overflow-cast-accepted
 cast-accepted c =
     let call = c.before.before.before.before.before in
     let a = call.before.before.before.before.before.args in
-    let fit = fits-as-told dischargedParts (sym call.discharge.ensures.0 ∙ c.before.outputs.given.1) (discharge-fits a.table.now a.position call.before.before.events-in.result a.phase (length a.out.now)) in
+    let fit = fits_as_told discharged_parts (sym call.discharge.ensures.0 ∙ c.before.outputs.given.1) (discharge_fits a.table.now a.position call.before.before.events-in.result a.phase (length a.out.now)) in
     omega (arith, fit.first_fits)
 
 -- the question as the byte of events asks it: its answer, packed, and its outputs
 module _ (table : List ℕ) (position phase : ℕ) (out : List ℕ) {given asked : Events} (e : given ≡ asked) where
   as-asked : {came told : Discharged} {answer : ℕ} {after : List ℕ} → came ≡ discharged table position given phase (length out)
-      → after ≡ outputsAfter table position given phase out → came ≡ told → answer ≡ packed (dischargedParts told)
-      → (answer ≡ packed (dischargedParts (discharged table position asked phase (length out)))) × (after ≡ outputsAfter table position asked phase out)
+      → after ≡ outputs_after table position given phase out → came ≡ told → answer ≡ packed (discharged_parts told)
+      → (answer ≡ packed (discharged_parts (discharged table position asked phase (length out)))) × (after ≡ outputs_after table position asked phase out)
   as-asked d o t a = (
     a
-        ∙ ap (λ (x : Discharged). packed (dischargedParts x)) (sym t ∙ d)
-        ∙ ap (λ (ev : Events). packed (dischargedParts (discharged table position ev phase (length out)))) e,
-    o ∙ ap (λ (ev : Events). outputsAfter table position ev phase out) e,
+        ∙ ap (λ (x : Discharged). packed (discharged_parts x)) (sym t ∙ d)
+        ∙ ap (λ (ev : Events). packed (discharged_parts (discharged table position ev phase (length out)))) e,
+    o ∙ ap (λ (ev : Events). outputs_after table position ev phase out) e,
   )
 
 returns : tie.Need-returns

@@ -4,7 +4,7 @@ use mathlib.Core.Path.{sym, ◌∙◌, subst}
 use Prim.Native.Nat.{ℕ, ◌-◌, ◌≤◌, ◌<◌}
 use native.Mathlib.Omega.{arith}
 use borrow.Author.Rules.{rules}
-use Rattle.passing.proofs.Laps.{Lap, first-lap, few-hops, last-lap, reachable, still-whole, stopped, next-lap}
+use Rattle.passing.proofs.Laps.{Lap, first_lap, few-hops, last_lap, reachable, still_whole, stopped, next_lap}
 use Rattle.passing.proofs.hops.pass_on.Statement.{statement}
 use Rattle.passing.proofs.hops.pass_on.Tie as tie
 
@@ -17,7 +17,7 @@ decreases-loop table₀ to-a n k count flags c₀ f₀ last i₀ table c f i = l
 loop-holds : tie.Need-loop-init invariant-loop decreases-loop
 loop-holds c =
     let start = c.before.before in
-    first-lap _ _ _ _ _ _ start.requires.2
+    first_lap _ _ _ _ _ _ start.requires.2
 
 behind-requires : tie.Need-behind-requires invariant-loop decreases-loop
 behind-requires c κs =
@@ -40,7 +40,7 @@ same_length c =
     let l = c.before.before.before.before.before.before.before.before.before.before.loop in
     let more = subst (λ (x : ℕ). l.i < x) c.before.before.before.before.before.before.before.before.before.before.before.hops.ensures c.before.before.before.before.before.before.before.before.before.loop-test.true in
     let came = c.before.before.before.before.reach-at.ensures in
-    still-whole _ _ _ _ _ _ l.invariant start.requires.0 more c.before.before.before.before.before.before.behind.ensures c.before.before.before.before.before.before.before.before.message.ensures came.0 came.1 ∙ sym start.requires.2
+    still_whole _ _ _ _ _ _ l.invariant start.requires.0 more c.before.before.before.before.before.before.behind.ensures c.before.before.before.before.before.before.before.before.message.ensures came.0 came.1 ∙ sym start.requires.2
 
 returns : tie.Need-returns invariant-loop decreases-loop
 returns c =
@@ -64,7 +64,7 @@ loop-again c =
     let l = c.before.before.before.before.before.before.before.before.before.before.before.loop in
     let more = subst (λ (x : ℕ). l.i < x) c.before.before.before.before.before.before.before.before.before.before.before.before.hops.ensures c.before.before.before.before.before.before.before.before.before.before.loop-test.true in
     let came = c.before.before.before.before.before.reach-at.ensures in
-    next-lap _ _ _ _ _ _ l.invariant start.requires.0 more c.before.before.before.before.before.before.before.behind.ensures c.before.before.before.before.before.before.before.before.before.message.ensures came.0 came.1 c.before.count.given.1
+    next_lap _ _ _ _ _ _ l.invariant start.requires.0 more c.before.before.before.before.before.before.before.behind.ensures c.before.before.before.before.before.before.before.before.before.message.ensures came.0 came.1 c.before.count.given.1
 
 same-length-2 : tie.Need-same-length-2 invariant-loop decreases-loop
 same-length-2 c = c.before.loop.invariant.whole ∙ sym c.before.before.before.before.requires.2
@@ -72,7 +72,7 @@ same-length-2 c = c.before.loop.invariant.whole ∙ sym c.before.before.before.b
 returns-2 : tie.Need-returns-2 invariant-loop decreases-loop
 returns-2 c =
     let none = subst (λ (x : ℕ). x ≤ c.before.loop.i) c.before.before.hops.ensures c.loop-test.false in
-    last-lap _ _ _ _ _ _ c.before.loop.invariant none
+    last_lap _ _ _ _ _ _ c.before.loop.invariant none
 
 pub pass-on-spec : {M : Type 1} → statement M
 pass-on-spec =

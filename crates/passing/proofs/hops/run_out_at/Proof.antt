@@ -3,9 +3,9 @@
 use mathlib.Core.Path.{ap, ◌∙◌}
 use mathlib.Core.Bool.{Bool, ◌&&◌}
 use borrow.Author.Rules.{rules}
-use Rattle.judging.proofs.Lent.{lent, lent-record, came-back}
-use Rattle.heartbeats.specs.Steps.{isTimeout, late}
-use Rattle.passing.proofs.Lent.{as-it-lies}
+use Rattle.judging.proofs.Lent.{lent, lent_record, came-back}
+use Rattle.heartbeats.specs.Steps.{is_timeout, late}
+use Rattle.passing.proofs.Lent.{as_it_lies}
 use Rattle.passing.proofs.hops.run_out_at.Statement.{statement}
 use Rattle.passing.proofs.hops.run_out_at.Tie as tie
 
@@ -13,8 +13,8 @@ returns : tie.Need-returns
 returns c =
     let start = c.before.before.before.before.before in
     let a = start.args in
-    let whole = lent-record a.k a.table.now start.requires.1 in (
-      as-it-lies a.k a.table.now isTimeout (c.before.before.run_out.ensures.0 ∙ ap (λ (b : Bool). b && isTimeout (lent a.k a.table.now)) whole),
+    let whole = lent_record a.k a.table.now start.requires.1 in (
+      as_it_lies a.k a.table.now is_timeout (c.before.before.run_out.ensures.0 ∙ ap (λ (b : Bool). b && is_timeout (lent a.k a.table.now)) whole),
       came-back a.k a.table.now late whole c.before.before.run_out.ensures.1,
     )
 

@@ -5,7 +5,7 @@ use borrow.Author.Rules.{rules}
 use Rattle.judging.specs.declared.places.Placed.TheVariants.{At}
 use Rattle.judging.specs.Places.{placed}
 use Rattle.judging.proofs.Place.{at-few, at-fits}
-use Rattle.passing.proofs.Done.{time-stays, time-done}
+use Rattle.passing.proofs.Done.{time_stays, time_done}
 use Rattle.passing.proofs.operations.time_out.Statement.{statement}
 use Rattle.passing.proofs.operations.time_out.Tie as tie
 
@@ -19,15 +19,15 @@ run-out-at-requires c κs = (at-few _ _ (found c.before.before), at-fits _ _ (fo
 returns : tie.Need-returns
 returns c =
     let ran = c.before.before.before.run-out-at.ensures in
-    time-done _ _ (found c.before.before.before.before.before.before) ran.0 c.if1.true ran.1
+    time_done _ _ (found c.before.before.before.before.before.before) ran.0 c.if1.true ran.1
 
 returns-2 : tie.Need-returns-2
-returns-2 c = time-stays _ _ (sym c.before.before.before.place-of.ensures ∙ c.before.refusal.given.1)
+returns-2 c = time_stays _ _ (sym c.before.before.before.place-of.ensures ∙ c.before.refusal.given.1)
 
 returns-3 : tie.Need-returns-3
 returns-3 c =
     let ran = c.before.before.before.run-out-at.ensures in
-    time-done _ _ (found c.before.before.before.before.before.before) ran.0 c.if1.false ran.1
+    time_done _ _ (found c.before.before.before.before.before.before) ran.0 c.if1.false ran.1
 
 pub time-out-spec : {M : Type 1} → statement M
 time-out-spec =

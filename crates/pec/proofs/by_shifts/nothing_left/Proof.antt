@@ -7,9 +7,9 @@ use lib.Dec.{eqb}
 use borrow.Author.Rules.{rules}
 use Rattle.laws.specs.Bits.{◌⊕◌, odd, bits_of}
 use Rattle.laws.proofs.Tests.{same_test}
-use Rattle.laws.proofs.Xor.{zero_xor, xor_same, xor-twice}
+use Rattle.laws.proofs.Xor.{zero_xor, xor_same, xor_twice}
 use Rattle.pec.specs.Remainder.{once, step, remainder}
-use Rattle.pec.specs.Words.{polynomial10, numberRight}
+use Rattle.pec.specs.Words.{polynomial10, number_right}
 use Rattle.pec.proofs.ManyBits.{from_start}
 use Rattle.pec.proofs.by_shifts.nothing_left.Statement.{statement}
 use Rattle.pec.proofs.by_shifts.nothing_left.Tie as tie
@@ -20,13 +20,13 @@ of-zeros = refl
 
 sum-is-zero : (a b : ℕ) → eqb a b ≡ eqb (a ⊕ b) 0
 sum-is-zero a b =
-    same_test a b (a ⊕ b) 0 (λ e. ap (λ (n : ℕ). n ⊕ b) e ∙ xor_same b) (λ e. sym (xor-twice a b) ∙ ap (λ (n : ℕ). n ⊕ b) e ∙ zero_xor b)
+    same_test a b (a ⊕ b) 0 (λ e. ap (λ (n : ℕ). n ⊕ b) e ∙ xor_same b) (λ e. sym (xor_twice a b) ∙ ap (λ (n : ℕ). n ⊕ b) e ∙ zero_xor b)
 
 remainder-10-requires : tie.Need-remainder-10-requires
 remainder-10-requires c κs = search rules
 
 returns : tie.Need-returns
-unfolding numberRight
+unfolding number_right
 returns c =
     sum-is-zero c.remainder-10.result 0x04c
     ∙ ap (λ (n : ℕ). eqb n 0) (ap₂ ◌⊕◌ c.remainder-10.ensures (sym of-zeros) ∙ from_start 10 polynomial10 16 64 c.before.args.payload)

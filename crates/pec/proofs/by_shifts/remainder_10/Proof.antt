@@ -10,9 +10,9 @@ use Rattle.laws.specs.Bits.{◌⊕◌, odd}
 use Rattle.laws.specs.Tables.{tabulate}
 use Rattle.laws.proofs.Xor.{xor_below}
 use Rattle.pec.specs.Remainder.{once, step}
-use Rattle.pec.specs.ByShifts.{withMoved, timesOne}
+use Rattle.pec.specs.ByShifts.{with_moved, times_one}
 use Rattle.pec.specs.Words.{polynomial10}
-use Rattle.pec.proofs.ByShifts.{Linear, then-linear, same, sum, down, up, low, times-linear, powers, formula, rule, by-shifts}
+use Rattle.pec.proofs.ByShifts.{Linear, then_linear, same, sum, down, up, low, times_linear, powers, formula, rule, by_shifts}
 use Rattle.pec.proofs.by_shifts.remainder_10.Statement.{statement}
 use Rattle.pec.proofs.by_shifts.remainder_10.Tie as tie
 
@@ -22,19 +22,19 @@ lower q = (q ⊕ q * 2 ^ 1) ⊕ (q ⊕ q * 2 ^ 1) * 2 ^ 2 ⊕ q * 2 ^ 7
 
 -- what is left, by a quotient that lacks the last factor
 tail : ℕ → ℕ
-tail d = lower (withMoved 48 d % 2 ^ 10) % 2 ^ 10
+tail d = lower (with_moved 48 d % 2 ^ 10) % 2 ^ 10
 
 left : ℕ → ℕ
-left x = tail (timesOne 8 (timesOne 4 (timesOne 2 (timesOne 1 x))))
+left x = tail (times_one 8 (times_one 4 (times_one 2 (times_one 1 x))))
 
 left-linear : Linear left
-unfolding left tail lower withMoved
+unfolding left tail lower with_moved
 left-linear =
-    then-linear (then-linear (then-linear (then-linear (times-linear 1) (times-linear 2)) (times-linear 4)) (times-linear 8))
-    (then-linear (then-linear (then-linear (sum same (down 48)) (low 10)) (sum (then-linear (sum same (up 1)) (sum same (up 2))) (up 7))) (low 10))
+    then_linear (then_linear (then_linear (then_linear (times_linear 1) (times_linear 2)) (times_linear 4)) (times_linear 8))
+    (then_linear (then_linear (then_linear (sum same (down 48)) (low 10)) (sum (then_linear (sum same (up 1)) (sum same (up 2))) (up 7))) (low 10))
 
 tested : formula 10 polynomial10 64 left ≡ rule 10 polynomial10 64 left
-unfolding formula rule left tail lower timesOne withMoved tabulate powers step once odd ◌⊕◌ xor
+unfolding formula rule left tail lower times_one with_moved tabulate powers step once odd ◌⊕◌ xor
 tested = refl
 
 -- q and twice q
@@ -70,12 +70,12 @@ cast-result : tie.Need-overflow-cast-result
 cast-result c = search rules
 
 returns : tie.Need-returns
-unfolding left tail lower withMoved ◌⊕◌
+unfolding left tail lower with_moved ◌⊕◌
 returns c =
     ap tail
     (c.times4.ensures
-    ∙ ap (timesOne 8) (c.before.times3.ensures ∙ ap (timesOne 4) (c.before.before.times2.ensures ∙ ap (timesOne 2) c.before.before.before.times.ensures)))
-    ∙ by-shifts 10 polynomial10 64 left left-linear tested c.before.before.before.before.ranges.message.fits
+    ∙ ap (times_one 8) (c.before.times3.ensures ∙ ap (times_one 4) (c.before.before.times2.ensures ∙ ap (times_one 2) c.before.before.before.times.ensures)))
+    ∙ by_shifts 10 polynomial10 64 left left-linear tested c.before.before.before.before.ranges.message.fits
 
 pub remainder-10-spec : {M : Type 1} → statement M
 remainder-10-spec =

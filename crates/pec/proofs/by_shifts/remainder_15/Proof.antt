@@ -9,7 +9,7 @@ use Rattle.laws.specs.Bits.{◌⊕◌, odd}
 use Rattle.laws.specs.Tables.{tabulate}
 use Rattle.pec.specs.Remainder.{once, step}
 use Rattle.pec.specs.Words.{polynomial15}
-use Rattle.pec.proofs.ByShifts.{Linear, then-linear, down, up, low, sums, moved_sum, powers, formula, rule, by-shifts}
+use Rattle.pec.proofs.ByShifts.{Linear, then_linear, down, up, low, sums, moved_sum, powers, formula, rule, by_shifts}
 use Rattle.pec.proofs.by_shifts.remainder_15.Statement.{statement}
 use Rattle.pec.proofs.by_shifts.remainder_15.Tie as tie
 
@@ -52,9 +52,9 @@ left-linear : Linear left
 unfolding left quotient downs ups
 left-linear =
     let lower : (ss : List ℕ) → Linear (λ (x : ℕ). sums (λ s y. y / 2 ^ s) x ss x) = moved_sum _ down in
-    then-linear
-    (then-linear (then-linear (then-linear (lower (1 ∷ 5 ∷ 7 ∷ 8 ∷ 11 ∷ 12 ∷ 15 ∷ [])) (lower (2 ∷ 10 ∷ 14 ∷ []))) (lower (4 ∷ []))) (lower (8 ∷ [])))
-    (then-linear (then-linear (low 15) (moved_sum _ up (3 ∷ 4 ∷ 7 ∷ 8 ∷ 10 ∷ 14 ∷ []))) (low 15))
+    then_linear
+    (then_linear (then_linear (then_linear (lower (1 ∷ 5 ∷ 7 ∷ 8 ∷ 11 ∷ 12 ∷ 15 ∷ [])) (lower (2 ∷ 10 ∷ 14 ∷ []))) (lower (4 ∷ []))) (lower (8 ∷ [])))
+    (then_linear (then_linear (low 15) (moved_sum _ up (3 ∷ 4 ∷ 7 ∷ 8 ∷ 10 ∷ 14 ∷ []))) (low 15))
 
 tested : formula 15 polynomial15 16 left ≡ rule 15 polynomial15 16 left
 unfolding formula rule left quotient downs ups sums tabulate powers step once odd ◌⊕◌ xor
@@ -62,7 +62,7 @@ tested = refl
 
 returns : tie.Need-returns
 unfolding left quotient downs ups sums ◌⊕◌
-returns c = by-shifts 15 polynomial15 16 left left-linear tested c.ranges.message.fits
+returns c = by_shifts 15 polynomial15 16 left left-linear tested c.ranges.message.fits
 
 pub remainder-15-spec : {M : Type 1} → statement M
 remainder-15-spec = tie.close (tie.spec mul_left mul-left-2 mul-left-3 mul-left-4 mul-left-5 mul-left-6 cast-result returns)

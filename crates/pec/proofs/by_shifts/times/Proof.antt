@@ -3,7 +3,7 @@
 use mathlib.Core.Path.{refl}
 use borrow.Author.Rules.{rules}
 use Rattle.laws.specs.Bits.{◌⊕◌}
-use Rattle.pec.specs.ByShifts.{withMoved, timesOne}
+use Rattle.pec.specs.ByShifts.{with_moved, times_one}
 use Rattle.pec.proofs.by_shifts.times.Statement.{statement}
 use Rattle.pec.proofs.by_shifts.times.Tie as tie
 
@@ -29,7 +29,7 @@ shr-result : tie.Need-overflow-shr-result
 shr-result c = search rules
 
 returns : tie.Need-returns
-unfolding timesOne withMoved ◌⊕◌
+unfolding times_one with_moved ◌⊕◌
 returns c = refl
 
 pub times-spec : {M : Type 1} → statement M

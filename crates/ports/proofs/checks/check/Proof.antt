@@ -7,14 +7,14 @@ use Prim.Native.Nat.{ℕ}
 use lib.Dec.{eqb, ltb}
 use lib.ListN.{length}
 use borrow.Author.Tests.{eq-eqb, ne_eqb, lt-ltb, le-ltb, not-true, not-false}
-use Rattle.pec.specs.Words.{counterOf, payloadRight}
+use Rattle.pec.specs.Words.{counter_of, payload_right}
 use Rattle.refusals.specs.declared.Refusal.TheVariants.{LengthWrong, PositionWrong}
 use Rattle.refusals.specs.Order.{decide}
-use Rattle.records.specs.Record.{mostCount}
-use Rattle.records.specs.Commands.{payloadSize}
+use Rattle.records.specs.Record.{most_count}
+use Rattle.records.specs.Commands.{payload_size}
 use Rattle.ports.specs.declared.checks.Checked.TheVariants.{Unchecked, Right, CounterDiffers, Damaged}
-use Rattle.ports.specs.Verdicts.{isDamaged, counterDiffers, counterRow}
-use Rattle.ports.specs.Check.{checkRefusals, checked}
+use Rattle.ports.specs.Verdicts.{is_damaged, counter_differs, counter_row}
+use Rattle.ports.specs.Check.{check_refusals, checked}
 use borrow.Author.Rules.{rules}
 use Rattle.ports.proofs.checks.check.Statement.{statement}
 use Rattle.ports.proofs.checks.check.Tie as tie
@@ -22,25 +22,25 @@ use Rattle.ports.proofs.checks.check.Tie as tie
 -- ---- down the list
 
 module _ (payload : List ℕ) (expected : ℕ) where
-  counter-wrong : ltb mostCount expected ≡ true → checked payload expected ≡ Unchecked PositionWrong
-  unfolding checked checkRefusals counterRow decide
-  counter-wrong c = simp c
+  counter_wrong : ltb most_count expected ≡ true → checked payload expected ≡ Unchecked PositionWrong
+  unfolding checked check_refusals counter_row decide
+  counter_wrong c = simp c
 
-  length-wrong : ltb mostCount expected ≡ false → eqb (length payload) payloadSize ≡ false → checked payload expected ≡ Unchecked LengthWrong
-  unfolding checked checkRefusals counterRow decide
-  length-wrong c l = simp (c, l)
+  length_wrong : ltb most_count expected ≡ false → eqb (length payload) payload_size ≡ false → checked payload expected ≡ Unchecked LengthWrong
+  unfolding checked check_refusals counter_row decide
+  length_wrong c l = simp (c, l)
 
-  module _ (c : ltb mostCount expected ≡ false) (l : eqb (length payload) payloadSize ≡ true) where
-    is-damaged : payloadRight payload ≡ false → checked payload expected ≡ Damaged
-    unfolding checked checkRefusals counterRow decide isDamaged
+  module _ (c : ltb most_count expected ≡ false) (l : eqb (length payload) payload_size ≡ true) where
+    is-damaged : payload_right payload ≡ false → checked payload expected ≡ Damaged
+    unfolding checked check_refusals counter_row decide is_damaged
     is-damaged r = simp (c, l, r)
 
-    differs : payloadRight payload ≡ true → eqb (counterOf payload) expected ≡ false → checked payload expected ≡ CounterDiffers (counterOf payload)
-    unfolding checked checkRefusals counterRow decide isDamaged counterDiffers
+    differs : payload_right payload ≡ true → eqb (counter_of payload) expected ≡ false → checked payload expected ≡ CounterDiffers (counter_of payload)
+    unfolding checked check_refusals counter_row decide is_damaged counter_differs
     differs r e = simp (c, l, r, e)
 
-    is_right : payloadRight payload ≡ true → eqb (counterOf payload) expected ≡ true → checked payload expected ≡ Right
-    unfolding checked checkRefusals counterRow decide isDamaged counterDiffers
+    is_right : payload_right payload ≡ true → eqb (counter_of payload) expected ≡ true → checked payload expected ≡ Right
+    unfolding checked check_refusals counter_row decide is_damaged counter_differs
     is_right r e = simp (c, l, r, e)
 
 -- ---- test by test
@@ -48,19 +48,19 @@ module _ (payload : List ℕ) (expected : ℕ) where
 returns : tie.Need-returns
 returns c =
     let q = c.before.before.args in
-    sym (counter-wrong q.payload.now q.expected (lt-ltb mostCount q.expected c.if1.true))
+    sym (counter_wrong q.payload.now q.expected (lt-ltb most_count q.expected c.if1.true))
 
 -- behind the first test, and the second
-counted : (c : tie.Else1) → let q = c.before.before.args in ltb mostCount q.expected ≡ false
-counted c = le-ltb mostCount c.before.before.args.expected c.if1.false
+counted : (c : tie.Else1) → let q = c.before.before.args in ltb most_count q.expected ≡ false
+counted c = le-ltb most_count c.before.before.args.expected c.if1.false
 
-whole : (c : tie.Else2) → let q = c.before.before.before.args in eqb (length q.payload.now) payloadSize ≡ true
-whole c = eq-eqb (length c.before.before.before.args.payload.now) payloadSize c.if2.false
+whole : (c : tie.Else2) → let q = c.before.before.before.args in eqb (length q.payload.now) payload_size ≡ true
+whole c = eq-eqb (length c.before.before.before.args.payload.now) payload_size c.if2.false
 
 returns-2 : tie.Need-returns-2
 returns-2 c =
     let q = c.before.before.before.args in
-    sym (length-wrong q.payload.now q.expected (counted c.before) (ne_eqb (length q.payload.now) payloadSize c.if2.true))
+    sym (length_wrong q.payload.now q.expected (counted c.before) (ne_eqb (length q.payload.now) payload_size c.if2.true))
 
 returns-3 : tie.Need-returns-3
 returns-3 c =

@@ -2,7 +2,7 @@
 -- Assumes nothing.
 use native.Mathlib.Omega.{arith}
 use borrow.Author.Tests.{le-leb, lt-leb}
-use Rattle.laws.proofs.Counts.{and-true, and-false}
+use Rattle.laws.proofs.Counts.{and_true, and-false}
 use Rattle.ports.proofs.ports.is_position.Statement.{statement}
 use Rattle.ports.proofs.ports.is_position.Tie as tie
 
@@ -15,7 +15,7 @@ returns-2 c = let a = c.before.before.args in simp (lt-leb a.k a.n c.if2.true, a
 returns-3 : tie.Need-returns-3
 returns-3 c =
     let a = c.before.before.args in
-    simp (le-leb 1 a.n (omega arith), le-leb 1 a.k c.before.if1.false, le-leb a.k a.n c.if2.false, and-true)
+    simp (le-leb 1 a.n (omega arith), le-leb 1 a.k c.before.if1.false, le-leb a.k a.n c.if2.false, and_true)
 
 pub is-position-spec : {M : Type 1} → statement M
 is-position-spec = tie.close (tie.spec returns returns-2 returns-3)

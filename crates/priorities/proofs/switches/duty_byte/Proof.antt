@@ -2,19 +2,19 @@
 -- Assumes nothing.
 use mathlib.Core.Path.{◌∙◌}
 use borrow.Author.Rules.{rules}
-use Rattle.priorities.proofs.Cells.{in-group-a, in-group-b}
+use Rattle.priorities.proofs.Cells.{in_group_a, in_group_b}
 use Rattle.priorities.proofs.switches.duty_byte.Statement.{statement}
 use Rattle.priorities.proofs.switches.duty_byte.Tie as tie
 
 returns : tie.Need-returns
 returns c =
     let start = c.before.before.before in
-    c.byte_at.ensures ∙ in-group-a start.args.rec.now start.args.cell start.requires.0 c.before.if1.true
+    c.byte_at.ensures ∙ in_group_a start.args.rec.now start.args.cell start.requires.0 c.before.if1.true
 
 returns-2 : tie.Need-returns-2
 returns-2 c =
     let start = c.before.before.before in
-    c.byte-at2.ensures ∙ in-group-b start.args.rec.now start.args.cell c.before.if1.false start.requires.1
+    c.byte-at2.ensures ∙ in_group_b start.args.rec.now start.args.cell c.before.if1.false start.requires.1
 
 pub duty-byte-spec : {M : Type 1} → statement M
 duty-byte-spec =

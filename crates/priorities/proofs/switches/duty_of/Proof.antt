@@ -7,14 +7,14 @@ use Prim.Native.Nat.{ℕ, ◌/◌, ◌%◌}
 use borrow.Author.Rules.{rules}
 use borrow.Author.Tests.{eq-eqb, ne_eqb}
 use Rattle.laws.specs.Bits.{odd}
-use Rattle.priorities.specs.Switches.{dutyByte, duty}
+use Rattle.priorities.specs.Switches.{duty_byte, duty}
 use Rattle.priorities.proofs.switches.duty_of.Statement.{statement}
 use Rattle.priorities.proofs.switches.duty_of.Tie as tie
 
 -- the half that the cell's number says, of the byte that was read
-half : (r : List ℕ) (c : ℕ) {byte : ℕ} → byte ≡ dutyByte r c → (b : Bool) → odd c ≡ b → cond b (byte % 16) (byte / 16 % 16) ≡ duty r c
+half : (r : List ℕ) (c : ℕ) {byte : ℕ} → byte ≡ duty_byte r c → (b : Bool) → odd c ≡ b → cond b (byte % 16) (byte / 16 % 16) ≡ duty r c
 unfolding duty
-half r c e b h = ap (λ (n : ℕ). cond b (n % 16) (n / 16 % 16)) e ∙ sym (ap (λ (t : Bool). cond t (dutyByte r c % 16) (dutyByte r c / 16 % 16)) h)
+half r c e b h = ap (λ (n : ℕ). cond b (n % 16) (n / 16 % 16)) e ∙ sym (ap (λ (t : Bool). cond t (duty_byte r c % 16) (duty_byte r c / 16 % 16)) h)
 
 returns : tie.Need-returns
 unfolding odd

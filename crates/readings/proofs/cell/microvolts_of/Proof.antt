@@ -7,7 +7,7 @@ use mir.Val.{SFits, to_z, of_z}
 use mir.Facts.{to_z-of_z}
 use Rattle.thresholds.proofs.TwosComplement.{widens, widened}
 use Rattle.readings.specs.Readings.{microvolts}
-use Rattle.readings.proofs.Codes.{steps-fit, microvolts-fit}
+use Rattle.readings.proofs.Codes.{steps_fit, microvolts_fit}
 use Rattle.readings.proofs.cell.microvolts_of.Statement.{statement}
 use Rattle.readings.proofs.cell.microvolts_of.Tie as tie
 
@@ -22,7 +22,7 @@ steps : (c : tie.After-struct-told)
 steps c = ap (λ (z : ℤ). pos 150 *ℤ z) (widened w64 tt (fits c))
 
 mul-result : tie.Need-overflow-mul-result
-mul-result c = subst⁻¹ (SFits w64) (steps c) (steps-fit c.before.before.args.code (fits c))
+mul-result c = subst⁻¹ (SFits w64) (steps c) (steps_fit c.before.before.args.code (fits c))
 
 sum : (c : tie.After-struct-told)
     → pos 1_500_000 +ℤ to_z w64 (of_z w64 (pos 150 *ℤ to_z w64 (of_z w64 (to_z w32 (of_z w32 c.before.before.args.code.0)))))
@@ -31,7 +31,7 @@ unfolding microvolts
 sum c = ap (λ (z : ℤ). pos 1_500_000 +ℤ z) (to_z-of_z (mul-result c) ∙ steps c)
 
 add-result : tie.Need-overflow-add-result
-add-result c = subst⁻¹ (SFits w64) (sum c) (microvolts-fit c.before.before.args.code (fits c))
+add-result c = subst⁻¹ (SFits w64) (sum c) (microvolts_fit c.before.before.args.code (fits c))
 
 returns : tie.Need-returns
 returns c = to_z-of_z (add-result c) ∙ sum c

@@ -12,7 +12,7 @@ use mir.Val.{SFits, to_z, of_z}
 use mir.Facts.{to_z-of_z}
 use Rattle.readings.specs.declared.cell.Reading.TheVariants.{Volts, Cleared}
 use Rattle.readings.specs.Readings.{microvolts, volts, reading_of}
-use Rattle.readings.proofs.Codes.{microvolts-fit, microvolts-exact}
+use Rattle.readings.proofs.Codes.{microvolts_fit, microvolts_exact}
 use Rattle.readings.proofs.cell.reading_of.Statement.{statement}
 use Rattle.readings.proofs.cell.reading_of.Tie as tie
 
@@ -35,12 +35,12 @@ fits c = record { sfits = omega arith }
 same : (c : tie.After-microvolts-of) → to_z w64 (of_z w64 c.microvolts-of.result) ≡ microvolts c.before.before.before.args.code
 same c =
     let start = c.before.before.before in
-    ap (λ (z : ℤ). to_z w64 (of_z w64 z)) c.microvolts-of.ensures ∙ to_z-of_z (microvolts-fit start.args.code (fits start))
+    ap (λ (z : ℤ). to_z w64 (of_z w64 z)) c.microvolts-of.ensures ∙ to_z-of_z (microvolts_fit start.args.code (fits start))
 
 volts-of-requires : tie.Need-volts-of-requires
 volts-of-requires c κs =
     let start = c.before.before.before in
-    subst⁻¹ (λ (z : ℤ). in_float binary64 z ≡ true) (same c) (microvolts-exact start.args.code (fits start))
+    subst⁻¹ (λ (z : ℤ). in_float binary64 z ≡ true) (same c) (microvolts_exact start.args.code (fits start))
 
 returns-2 : tie.Need-returns-2
 unfolding reading_of

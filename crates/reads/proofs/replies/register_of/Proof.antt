@@ -5,17 +5,17 @@ use mathlib.Core.List.{List}
 use mathlib.Core.Logic.{⊎_elim}
 use Prim.Native.Nat.{ℕ}
 use Rattle.records.specs.declared.record.Part.{Part}
-use Rattle.reads.specs.Shown.{shownPart}
-use Rattle.reads.specs.Reply.{sixBytes, register}
-use Rattle.reads.proofs.Parts.{shows-copy, shows-live, shows-other}
+use Rattle.reads.specs.Shown.{shown_part}
+use Rattle.reads.specs.Reply.{six_bytes, register}
+use Rattle.reads.proofs.Parts.{shows_copy, shows_live, shows_other}
 use borrow.Author.Rules.{rules}
 use Rattle.reads.proofs.replies.register_of.Statement.{statement}
 use Rattle.reads.proofs.replies.register_of.Tie as tie
 
 -- of the part that is shown
-shown : (part : Part) (r : List ℕ) {q : Part} → shownPart part r ≡ q → sixBytes q r ≡ register part r
+shown : (part : Part) (r : List ℕ) {q : Part} → shown_part part r ≡ q → six_bytes q r ≡ register part r
 unfolding register
-shown part r e = ap (λ (q : Part). sixBytes q r) (sym e)
+shown part r e = ap (λ (q : Part). six_bytes q r) (sym e)
 
 of-cells-requires : tie.Need-of-cells-requires
 of-cells-requires c κs = search rules
@@ -33,9 +33,9 @@ returns : tie.Need-returns
 returns c =
     let a = c.before.before.before.before.before.before.before.args in
     c.part_bytes.ensures
-    ∙ ap (λ (q : Part). sixBytes q a.rec.now) c.before.copy_of.ensures
+    ∙ ap (λ (q : Part). six_bytes q a.rec.now) c.before.copy_of.ensures
     ∙ shown a.part a.rec.now
-    (shows-copy a.part a.rec.now (sym c.before.before.before.before.before.of-cells.ensures ∙ c.before.before.before.before.if1.true)
+    (shows_copy a.part a.rec.now (sym c.before.before.before.before.before.of-cells.ensures ∙ c.before.before.before.before.if1.true)
     (sym c.before.before.before.is-snapped.ensures ∙ c.before.before.if2.true))
 
 part-bytes-requires-2 : tie.Need-part-bytes-requires-2
@@ -46,8 +46,8 @@ returns-2 c =
     let a = c.before.before.before.before.args in
     c.part-bytes2.ensures
     ∙ shown a.part a.rec.now
-    (⊎_elim (λ w. shows-live a.part a.rec.now (sym w.1.ensures ∙ w.2.left))
-    (λ w. shows-other a.part a.rec.now (sym c.before.before.of-cells.ensures ∙ w.left)) c.before.if1.branch)
+    (⊎_elim (λ w. shows_live a.part a.rec.now (sym w.1.ensures ∙ w.2.left))
+    (λ w. shows_other a.part a.rec.now (sym c.before.before.of-cells.ensures ∙ w.left)) c.before.if1.branch)
 
 pub register-of-spec : {M : Type 1} → statement M
 register-of-spec =

@@ -1,7 +1,7 @@
 -- `reads::replies::shown_byte` meets its contract, by its tests.
 -- Assumes nothing.
 use native.Mathlib.Omega.{arith}
-use Rattle.reads.proofs.Showing.{shows, shows-past, past-part, past-slice}
+use Rattle.reads.proofs.Showing.{shows, shows_past, past_part, past_slice}
 use borrow.Author.Rules.{rules}
 use Rattle.reads.proofs.replies.shown_byte.Statement.{statement}
 use Rattle.reads.proofs.replies.shown_byte.Tie as tie
@@ -29,17 +29,17 @@ returns c =
 returns-2 : tie.Need-returns-2
 returns-2 c =
     let a = c.before.before.before.before.before.args in
-    shows-past a.part a.rec.now a.i (past-slice a.part a.rec.now a.i c.if3.false)
+    shows_past a.part a.rec.now a.i (past_slice a.part a.rec.now a.i c.if3.false)
 
 returns-3 : tie.Need-returns-3
 returns-3 c =
     let a = c.before.before.before.before.args in
-    shows-past a.part a.rec.now a.i (past-slice a.part a.rec.now a.i (omega arith))
+    shows_past a.part a.rec.now a.i (past_slice a.part a.rec.now a.i (omega arith))
 
 returns-4 : tie.Need-returns-4
 returns-4 c =
     let a = c.before.before.before.args in
-    shows-past a.part a.rec.now a.i (past-part a.part a.rec.now a.i c.if1.false)
+    shows_past a.part a.rec.now a.i (past_part a.part a.rec.now a.i c.if1.false)
 
 pub shown-byte-spec : {M : Type 1} → statement M
 shown-byte-spec =

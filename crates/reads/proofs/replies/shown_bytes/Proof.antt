@@ -2,7 +2,7 @@
 -- Assumes nothing.
 use mathlib.Core.List.{List, [], ◌∷◌}
 use Rattle.laws.specs.Tables.{tabulate}
-use Rattle.reads.specs.Reply.{sixBytes}
+use Rattle.reads.specs.Reply.{six_bytes}
 use borrow.Author.Rules.{rules}
 use Rattle.reads.proofs.replies.shown_bytes.Statement.{statement}
 use Rattle.reads.proofs.replies.shown_bytes.Tie as tie
@@ -26,7 +26,7 @@ shown-byte-requires-6 : tie.Need-shown-byte-requires-6
 shown-byte-requires-6 c κs = search rules
 
 returns : tie.Need-returns
-unfolding sixBytes tabulate
+unfolding six_bytes tabulate
 returns c =
     λ k. c.before.before.before.before.before.shown-byte.ensures k ∷ c.before.before.before.before.shown-byte2.ensures k ∷ c.before.before.before.shown-byte3.ensures k ∷ c.before.before.shown-byte4.ensures k ∷ c.before.shown-byte5.ensures k ∷ c.shown-byte6.ensures k ∷ []
 

@@ -7,7 +7,7 @@ use lib.Dec.{leb}
 use borrow.Author.Tests.{le-leb, lt-leb}
 use Rattle.records.specs.declared.record.Part.{Part}
 use Rattle.records.specs.Record.{cells}
-use Rattle.reads.specs.Shown.{ofCells}
+use Rattle.reads.specs.Shown.{of_cells}
 use borrow.Author.Rules.{rules}
 use Rattle.reads.proofs.shown.of_cells.Statement.{statement}
 use Rattle.reads.proofs.shown.of_cells.Tie as tie
@@ -25,7 +25,7 @@ add-result-2 : tie.Need-overflow-add-result-2
 add-result-2 c = search rules
 
 -- by whether it begins at the cells or behind
-begins : (p : Part) {b : Bool} → leb cells.at p.at ≡ b → b && leb (p.at + p.size) (cells.at + cells.size) ≡ ofCells p
+begins : (p : Part) {b : Bool} → leb cells.at p.at ≡ b → b && leb (p.at + p.size) (cells.at + cells.size) ≡ of_cells p
 begins p e = ap (λ (b : Bool). b && leb (p.at + p.size) (cells.at + cells.size)) (sym e)
 
 returns : tie.Need-returns

@@ -2,13 +2,13 @@
 -- number; in the last one the code is none of the numbers, which are the list's in the list's order.
 -- Assumes nothing.
 use mathlib.Core.Path.{sym}
-use Rattle.records.specs.Commands.{commands, commandOf}
-use Rattle.records.proofs.CommandList.{in_row, in-no-row}
+use Rattle.records.specs.Commands.{commands, command_of}
+use Rattle.records.proofs.CommandList.{in_row, in_no_row}
 use Rattle.records.proofs.commands.command_of.Statement.{statement}
 use Rattle.records.proofs.commands.command_of.Tie as tie
 
 pub command-of-spec : {M : Type 1} → statement M
-unfolding commands commandOf
+unfolding commands command_of
 command-of-spec =
     tie.close
     (tie.spec
@@ -50,4 +50,4 @@ command-of-spec =
     (λ c. in_row c.match.keys36)
     (λ c. in_row c.match.keys37)
     (λ c. in_row c.match.keys38)
-    (λ c. sym (in-no-row c.before.args.code commands Unit c.match.rest).1))
+    (λ c. sym (in_no_row c.before.args.code commands Unit c.match.rest).1))

@@ -5,8 +5,8 @@ use Rattle.records.specs.declared.commands.Command.{Command}
 use Prim.Native.Nat.{ℕ, ◌+◌, ◌*◌, ◌≤◌}
 use native.Mathlib.Nat.{mul-le-mul}
 use native.Mathlib.Omega.{arith}
-use Rattle.records.specs.Commands.{mostMonitors, payloadSize, width_of, frameLength}
-use Rattle.records.proofs.CommandList.{too_many, not-too-many}
+use Rattle.records.specs.Commands.{most_monitors, payload_size, width_of, frame_length}
+use Rattle.records.proofs.CommandList.{too_many, not_too_many}
 use borrow.Author.Rules.{rules}
 use Rattle.records.proofs.commands.frame_length.Statement.{statement}
 use Rattle.records.proofs.commands.frame_length.Tie as tie
@@ -32,13 +32,13 @@ width-of-requires c κs = search rules
 mul-result-2 : tie.Need-overflow-mul-result-2
 mul-result-2 c =
     let n = c.before.before.before.before.args.n in
-    let most : c.width-of.result * n ≤ payloadSize * mostMonitors = mul-le-mul c.width-of.ensures.1 c.before.before.before.if1.false in
+    let most : c.width-of.result * n ≤ payload_size * most_monitors = mul-le-mul c.width-of.ensures.1 c.before.before.before.if1.false in
     omega arith
 
 add-result-2 : tie.Need-overflow-add-result-2
 add-result-2 c =
     let n = c.before.before.before.before.args.n in
-    let most : c.width-of.result * n ≤ payloadSize * mostMonitors = mul-le-mul c.width-of.ensures.1 c.before.before.before.if1.false in
+    let most : c.width-of.result * n ≤ payload_size * most_monitors = mul-le-mul c.width-of.ensures.1 c.before.before.before.if1.false in
     omega arith
 
 enum-told-3 : tie.Need-enum-told-3
@@ -49,22 +49,22 @@ enum-told-4 c = search rules
 
 returns-2 : tie.Need-returns-2
 returns-2 c =
-    not-too-many c.before.before.before.args.command c.before.before.before.args.n c.before.before.if1.false (ap (λ (k : Command). frameLength k c.before.before.before.args.n) (sym c.enum_told.given.1))
+    not_too_many c.before.before.before.args.command c.before.before.before.args.n c.before.before.if1.false (ap (λ (k : Command). frame_length k c.before.before.before.args.n) (sym c.enum_told.given.1))
 
 returns-3 : tie.Need-returns-3
 returns-3 c =
     let a = c.before.before.before.before.args in
     let e = sym c.before.enum-told2.given.1 in
-    not-too-many a.command a.n c.before.before.before.if1.false
-    (ap (λ (w : ℕ). 4 + w * a.n) (c.width-of.ensures.0 ∙ ap width_of (sym e)) ∙ ap (λ (k : Command). frameLength k a.n) e)
+    not_too_many a.command a.n c.before.before.before.if1.false
+    (ap (λ (w : ℕ). 4 + w * a.n) (c.width-of.ensures.0 ∙ ap width_of (sym e)) ∙ ap (λ (k : Command). frame_length k a.n) e)
 
 returns-4 : tie.Need-returns-4
 returns-4 c =
-    not-too-many c.before.before.before.args.command c.before.before.before.args.n c.before.before.if1.false (ap (λ (k : Command). frameLength k c.before.before.before.args.n) (sym c.enum-told3.given.1))
+    not_too_many c.before.before.before.args.command c.before.before.before.args.n c.before.before.if1.false (ap (λ (k : Command). frame_length k c.before.before.before.args.n) (sym c.enum-told3.given.1))
 
 returns-5 : tie.Need-returns-5
 returns-5 c =
-    not-too-many c.before.before.before.args.command c.before.before.before.args.n c.before.before.if1.false (ap (λ (k : Command). frameLength k c.before.before.before.args.n) (sym c.enum-told4.given.1))
+    not_too_many c.before.before.before.args.command c.before.before.before.args.n c.before.before.if1.false (ap (λ (k : Command). frame_length k c.before.before.before.args.n) (sym c.enum-told4.given.1))
 
 pub frame-length-spec : {M : Type 1} → statement M
 frame-length-spec =

@@ -6,21 +6,21 @@ use Prim.Native.Nat.{ℕ, ◌≤◌}
 use lib.Dec.{leb}
 use borrow.Author.Tests.{le-leb, lt-leb}
 use Rattle.records.specs.declared.commands.Command.{Command}
-use Rattle.records.specs.Commands.{mostMonitors, replyLength}
+use Rattle.records.specs.Commands.{most_monitors, reply_length}
 use borrow.Author.Rules.{rules}
 use Rattle.records.proofs.commands.reply_size.Statement.{statement}
 use Rattle.records.proofs.commands.reply_size.Tie as tie
 
 -- of no more monitors than a chain has, by the command's kind
-by_kind : (command : Command) (n : ℕ) {kind : Command} → n ≤ mostMonitors → command ≡ kind
-    → replyLength kind n ≡ cond (leb n mostMonitors) (replyLength command n) 0
+by_kind : (command : Command) (n : ℕ) {kind : Command} → n ≤ most_monitors → command ≡ kind
+    → reply_length kind n ≡ cond (leb n most_monitors) (reply_length command n) 0
 by_kind command n few e =
-    ap (λ (k : Command). replyLength k n) (sym e) ∙ sym (ap (λ (b : Bool). cond b (replyLength command n) 0) (le-leb n mostMonitors few))
+    ap (λ (k : Command). reply_length k n) (sym e) ∙ sym (ap (λ (b : Bool). cond b (reply_length command n) 0) (le-leb n most_monitors few))
 
 returns : tie.Need-returns
 returns c =
     let a = c.before.args in
-    sym (ap (λ (b : Bool). cond b (replyLength a.command a.n) 0) (lt-leb a.n mostMonitors c.if1.true))
+    sym (ap (λ (b : Bool). cond b (reply_length a.command a.n) 0) (lt-leb a.n most_monitors c.if1.true))
 
 enum_told : tie.Need-enum-told
 enum_told c = search rules

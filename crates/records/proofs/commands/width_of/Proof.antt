@@ -3,7 +3,7 @@
 use mathlib.Core.Path.{sym, ap, ◌∙◌}
 use Prim.Native.Nat.{ℕ, ◌+◌}
 use native.Mathlib.Omega.{arith}
-use Rattle.records.specs.Commands.{sealSize, width_of}
+use Rattle.records.specs.Commands.{seal_size, width_of}
 use borrow.Author.Rules.{rules}
 use Rattle.records.proofs.commands.width_of.Statement.{statement}
 use Rattle.records.proofs.commands.width_of.Tie as tie
@@ -13,7 +13,7 @@ add-result c = omega (arith, c.data-size.ensures.1)
 
 returns-2 : tie.Need-returns-2
 returns-2 c = (
-  ap (λ (n : ℕ). n + sealSize) c.data-size.ensures.0 ∙ ap width_of (sym c.before.before.command.given.1),
+  ap (λ (n : ℕ). n + seal_size) c.data-size.ensures.0 ∙ ap width_of (sym c.before.before.command.given.1),
   omega (arith, c.data-size.ensures.1),
 )
 

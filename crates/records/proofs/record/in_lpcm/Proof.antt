@@ -5,12 +5,12 @@ use Prim.Native.Nat.{ℕ, ◌/◌, ◌%◌}
 use lib.Dec.{eqb}
 use borrow.Author.Rules.{rules}
 use Rattle.laws.specs.Bits.{odd, bit_at}
-use Rattle.records.specs.Record.{byte_of, inLpcm}
+use Rattle.records.specs.Record.{byte_of, in_lpcm}
 use Rattle.records.proofs.record.in_lpcm.Statement.{statement}
 use Rattle.records.proofs.record.in_lpcm.Tie as tie
 
 returns : tie.Need-returns
-unfolding inLpcm bit_at odd byte_of
+unfolding in_lpcm bit_at odd byte_of
 returns c = ap (λ (n : ℕ). eqb (n / 128 % 2) 1) c.byte_at.ensures
 
 pub in-lpcm-spec : {M : Type 1} → statement M

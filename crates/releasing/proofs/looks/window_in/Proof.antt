@@ -5,25 +5,25 @@ use mathlib.Core.List.{List, []}
 use Prim.Native.Nat.{ℕ, ◌+◌, ◌-◌, ◌*◌, ◌≤◌, ◌<◌}
 use native.Mathlib.Omega.{arith}
 use lib.ListN.{get_or, take, drop}
-use Rattle.records.specs.Commands.{mostMonitors, payloadSize}
+use Rattle.records.specs.Commands.{most_monitors, payload_size}
 use Rattle.clock_state.specs.declared.state.Kind.{Kind}
 use Rattle.clock_state.specs.declared.state.Kind.TheVariants.{Fills}
-use Rattle.clock_state.specs.State.{windows_at, seenIn, kindIn, chainedIn, width_in, registerIn}
-use Rattle.clock_state.proofs.Widths.{wide-fills}
-use Rattle.clocking.specs.Bytes.{windowsIn, clockOf}
-use Rattle.clocking.proofs.Register.{register-fits, come, next_place, fills-at, drains-at, still-at}
+use Rattle.clock_state.specs.State.{windows_at, seen_in, kind_in, chained_in, width_in, register_in}
+use Rattle.clock_state.proofs.Widths.{wide_fills}
+use Rattle.clocking.specs.Bytes.{windows_in, clock_of}
+use Rattle.clocking.proofs.Register.{register-fits, come, next_place, fills_at, drains_at, still_at}
 use borrow.Author.Rules.{rules}
 use Rattle.releasing.proofs.looks.window_in.Statement.{statement}
 use Rattle.releasing.proofs.looks.window_in.Tie as tie
 
 -- a write's windows up to the one at k fit a state, and have the bytes of one
 record Place (w n k : ℕ) : Type 0 where
-  most : w ≤ payloadSize
-  room : w * (n - k) ≤ payloadSize * mostMonitors
+  most : w ≤ payload_size
+  room : w * (n - k) ≤ payload_size * most_monitors
   own : w ≤ w * (n - k)
 
-place : (s : List ℕ) {w n k : ℕ} → kindIn s ≡ Fills w → n ≤ mostMonitors → k < n → Place w n k
-place s {w} e few h = let wide = wide-fills s e in record { most = wide.most; room = register-fits wide (omega arith); own = omega (arith, next_place w h) }
+place : (s : List ℕ) {w n k : ℕ} → kind_in s ≡ Fills w → n ≤ most_monitors → k < n → Place w n k
+place s {w} e few h = let wide = wide_fills s e in record { most = wide.most; room = register-fits wide (omega arith); own = omega (arith, next_place w h) }
 
 kind-in-requires : tie.Need-kind-in-requires
 kind-in-requires c κs = search rules
@@ -101,10 +101,10 @@ slice-aggregate-result : tie.Need-slice-aggregate-result
 slice-aggregate-result c = search rules
 
 -- the window at k by the kind and N that the code read
-lies : (s : List ℕ) (k : ℕ) {kind : Kind} {n : ℕ} → kindIn s ≡ kind → n ≡ chainedIn s
-    → get_or (windowsIn kind (seenIn s) n (registerIn (width_in kind) n s)) k [] ≡ get_or (clockOf s).windows k []
-unfolding clockOf
-lies s k e f = ap₂ (λ (kind : Kind) (n : ℕ). get_or (windowsIn kind (seenIn s) n (registerIn (width_in kind) n s)) k []) (sym e) f
+lies : (s : List ℕ) (k : ℕ) {kind : Kind} {n : ℕ} → kind_in s ≡ kind → n ≡ chained_in s
+    → get_or (windows_in kind (seen_in s) n (register_in (width_in kind) n s)) k [] ≡ get_or (clock_of s).windows k []
+unfolding clock_of
+lies s k e f = ap₂ (λ (kind : Kind) (n : ℕ). get_or (windows_in kind (seen_in s) n (register_in (width_in kind) n s)) k []) (sym e) f
 
 returns : tie.Need-returns
 returns c =
@@ -112,30 +112,30 @@ returns c =
     let a = start.args in
     let s = a.state.now in
     let w = c.before.before.before.before.width.given.0.0 in
-    let kind : kindIn s ≡ Fills w = sym c.before.before.before.before.before.before.kind-in.ensures ∙ c.before.before.before.before.width.given.1 in
+    let kind : kind_in s ≡ Fills w = sym c.before.before.before.before.before.before.kind-in.ensures ∙ c.before.before.before.before.width.given.1 in
     let end = windows_at + w * (a.n - a.k) in
-    let held : c.before.held_by.result ≡ come w (seenIn s) a.k = c.before.held_by.ensures ∙ ap (λ (seen : ℕ). come w seen a.k) c.before.before.seen-in.ensures.0 in
+    let held : c.before.held_by.result ≡ come w (seen_in s) a.k = c.before.held_by.ensures ∙ ap (λ (seen : ℕ). come w seen a.k) c.before.before.seen-in.ensures.0 in
     let own = (place s kind start.requires.2 start.requires.3).own in
-    let size : end - (end - c.before.held_by.result) ≡ come w (seenIn s) a.k = omega (arith, held) in
+    let size : end - (end - c.before.held_by.result) ≡ come w (seen_in s) a.k = omega (arith, held) in
     ap₂ (λ (m at : ℕ). take m (drop at s)) size (ap (λ (m : ℕ). end - m) held)
-    ∙ sym (fills-at w (seenIn s) a.n a.k s start.requires.3)
+    ∙ sym (fills_at w (seen_in s) a.n a.k s start.requires.3)
     ∙ lies s a.k kind start.requires.1
 
 returns-2 : tie.Need-returns-2
 returns-2 c =
     let a = c.before.before.before.before.before.args in
     let s = a.state.now in
-    let at = windows_at + payloadSize * a.k in
-    let size : at + payloadSize - at ≡ payloadSize = omega arith in
+    let at = windows_at + payload_size * a.k in
+    let size : at + payload_size - at ≡ payload_size = omega arith in
     ap (λ (m : ℕ). take m (drop at s)) size
-    ∙ sym (drains-at (seenIn s) a.n a.k s c.before.before.before.before.before.requires.3)
+    ∙ sym (drains_at (seen_in s) a.n a.k s c.before.before.before.before.before.requires.3)
     ∙ lies s a.k (sym c.before.before.before.kind-in.ensures ∙ c.before.enum_told.given.1) c.before.before.before.before.before.requires.1
 
 returns-3 : tie.Need-returns-3
 returns-3 c =
     let a = c.before.before.before.before.before.args in
     let s = a.state.now in
-    sym (still-at (seenIn s) a.n a.k (registerIn payloadSize a.n s))
+    sym (still_at (seen_in s) a.n a.k (register_in payload_size a.n s))
     ∙ lies s a.k (sym c.before.before.before.kind-in.ensures ∙ c.before.enum-told2.given.1) c.before.before.before.before.before.requires.1
 
 pub window-in-spec : {M : Type 1} → statement M

@@ -9,22 +9,22 @@ use native.Mathlib.Nat.{add-zero}
 use native.Mathlib.Omega.{arith}
 use lib.ListN.{length}
 use borrow.Author.Rules.{rules}
-use Rattle.records.specs.Record.{recordSize}
-use Rattle.serving.proofs.EachActs.{Acted, acted-none, acted-more, acted-taken, acted-table}
-use Rattle.clock_state.specs.State.{kindIn, seenIn, chainedIn}
-use Rattle.clocking.specs.Bytes.{clockOf}
+use Rattle.records.specs.Record.{record_size}
+use Rattle.serving.proofs.EachActs.{Acted, acted-none, acted_more, acted-taken, acted-table}
+use Rattle.clock_state.specs.State.{kind_in, seen_in, chained_in}
+use Rattle.clocking.specs.Bytes.{clock_of}
 use Rattle.clocking.proofs.Register.{length-windows}
 use Rattle.releasing.proofs.releases.act_all.Statement.{statement}
 use Rattle.releasing.proofs.releases.act_all.Tie as tie
 
 -- the windows that a state holds
 abbrev windowsOf : List ℕ → List (List ℕ)
-windowsOf s = (clockOf s).windows
+windowsOf s = (clock_of s).windows
 
 -- one for each monitor
-as_many : (s : List ℕ) {n : ℕ} → n ≡ chainedIn s → length (windowsOf s) ≡ n
-unfolding clockOf
-as_many s e = length-windows (kindIn s) (seenIn s) (chainedIn s) _ ∙ sym e
+as_many : (s : List ℕ) {n : ℕ} → n ≡ chained_in s → length (windowsOf s) ≡ n
+unfolding clock_of
+as_many s e = length-windows (kind_in s) (seen_in s) (chained_in s) _ ∙ sym e
 
 abbrev invariant-loop : tie.invariant-loop
 invariant-loop table₀ command state n taken₀ k₀ table taken k = (k ≤ n) × Acted command table₀ (windowsOf state) table k taken
@@ -60,10 +60,10 @@ loop-again c =
     let p = c.before.before.before.before.before.before.before.before.before.before.requires in
     let l = c.before.before.before.before.before.before.before.before.loop in
     let within : l.k < length (windowsOf a.state.now) = omega (arith, as_many a.state.now p.1) in
-    let fits : l.k * recordSize + recordSize ≤ length a.table.now = omega (arith, p.0) in
+    let fits : l.k * record_size + record_size ≤ length a.table.now = omega (arith, p.0) in
     let one : c.if1.taken ≡ l.taken + cond c.before.before.before.serve-at.result 1 0 = ⊎_elim (λ w. w.1 ∙ ap (λ (b : Bool). l.taken + cond b 1 0) (sym w.0.taken)) (λ w. w.1 ∙ sym (add-zero l.taken) ∙ ap (λ (b : Bool). l.taken + cond b 1 0) (sym w.0.left)) c.if1.branch in (
       omega arith,
-      acted-more a.command a.table.now (windowsOf a.state.now) l.k within _ l.invariant.1 fits
+      acted_more a.command a.table.now (windowsOf a.state.now) l.k within _ l.invariant.1 fits
           c.before.before.before.before.before.window-in.ensures
           c.before.before.before.serve-at.ensures.0
           c.before.before.before.serve-at.ensures.1

@@ -6,7 +6,7 @@ use Prim.Native.Nat.{ℕ, ◌-◌, ◌^◌, ◌≤◌, ◌<◌}
 use native.Mathlib.Omega.{arith}
 use Rattle.laws.specs.Bits.{bits_of}
 use Rattle.pec.specs.Remainder.{remainder}
-use Rattle.pec.proofs.Remainder.{step-below, next_bit, no-bit}
+use Rattle.pec.proofs.Remainder.{step-below, next_bit, no_bit}
 use Rattle.remainders.proofs.bit_by_bit.step_byte.Statement.{statement}
 use Rattle.remainders.proofs.bit_by_bit.step_byte.Tie as tie
 
@@ -49,7 +49,7 @@ returns : tie.Need-returns invariant-loop decreases-loop
 returns c =
     let a = c.before.before.args in
     let l = c.before.loop in
-    no-bit a.w a.g l.r l.k a.b c.loop-test.false ∙ l.invariant.2
+    no_bit a.w a.g l.r l.k a.b c.loop-test.false ∙ l.invariant.2
 
 pub step-byte-spec : {M : Type 1} → statement M
 step-byte-spec =

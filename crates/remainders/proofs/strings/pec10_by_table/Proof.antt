@@ -3,7 +3,7 @@
 use mathlib.Core.Path.{ap, ◌∙◌}
 use mathlib.Core.Bool.{Bool}
 use mathlib.Core.List.{List, append-nil}
-use Rattle.laws.specs.Bits.{bits_of, bitsOfBytes}
+use Rattle.laws.specs.Bits.{bits_of, bits_of_bytes}
 use Rattle.pec.specs.Remainder.{remainder}
 use Rattle.pec.specs.Words.{polynomial10, pec10}
 use borrow.Author.Rules.{rules}
@@ -17,7 +17,7 @@ returns : tie.Need-returns
 unfolding pec10 bits_of
 returns c =
     c.pec10-and-bits.ensures
-    ∙ ap (remainder 10 polynomial10 16) (append-nil (bitsOfBytes c.before.before.args.bytes.now))
+    ∙ ap (remainder 10 polynomial10 16) (append-nil (bits_of_bytes c.before.before.args.bytes.now))
 
 pub pec10-by-table-spec : {M : Type 1} → statement M
 pec10-by-table-spec = tie.close (tie.spec pec10-and-bits-requires returns)

@@ -4,8 +4,8 @@ use mathlib.Core.Path.{ap, ◌∙◌, subst⁻¹}
 use mathlib.Core.List.{List}
 use Prim.Native.Nat.{ℕ, ◌+◌, ◌*◌, ◌%◌, ◌^◌, ◌<◌}
 use native.Mathlib.Omega.{arith}
-use Rattle.pec.specs.Words.{twoBytes, seal}
-use Rattle.pec.proofs.CheckWords.{dataPec-below}
+use Rattle.pec.specs.Words.{two_bytes, seal}
+use Rattle.pec.proofs.CheckWords.{data_pec-below}
 use borrow.Author.Rules.{rules}
 use Rattle.remainders.proofs.strings.seal.Statement.{statement}
 use Rattle.remainders.proofs.strings.seal.Tie as tie
@@ -21,7 +21,7 @@ mul-two-bytes c = search rules
 
 add-two-bytes : tie.Need-overflow-add-two-bytes
 add-two-bytes c =
-    let below : c.data-pec.result < 2 ^ 10 = subst⁻¹ (λ (n : ℕ). n < 2 ^ 10) c.data-pec.ensures (dataPec-below _ _) in
+    let below : c.data-pec.result < 2 ^ 10 = subst⁻¹ (λ (n : ℕ). n < 2 ^ 10) c.data-pec.ensures (data_pec-below _ _) in
     omega arith
 
 two-bytes-requires : tie.Need-two-bytes-requires
@@ -30,8 +30,8 @@ two-bytes-requires c κs = search rules
 returns : tie.Need-returns
 unfolding seal
 returns c =
-    c.two_bytes.ensures
-    ∙ ap (λ (n : ℕ). twoBytes (c.before.before.before.args.counter % 64 * 1024 + n)) c.before.data-pec.ensures
+    c.two_bytes_lem.ensures
+    ∙ ap (λ (n : ℕ). two_bytes (c.before.before.before.args.counter % 64 * 1024 + n)) c.before.data-pec.ensures
 
 pub seal-spec : {M : Type 1} → statement M
 seal-spec =

@@ -3,7 +3,7 @@
 use Prim.Native.Nat.{◌-◌}
 use native.Mathlib.Omega.{arith}
 use lib.ListN.{length}
-use Rattle.remainders.proofs.Along.{Along, along-start, along-more, along-end}
+use Rattle.remainders.proofs.Along.{Along, along-start, along_more, along_end}
 use Rattle.remainders.proofs.through_table.over_bytes.Statement.{statement}
 use Rattle.remainders.proofs.through_table.over_bytes.Tie as tie
 
@@ -39,10 +39,10 @@ loop-less c = omega arith
 loop-again : tie.Need-loop-preserved invariant-loop decreases-loop
 loop-again c =
     let l = c.before.before.before in
-    along-more _ _ _ _ l.loop.invariant c.before.before.loop-test.true l.before.before.requires.0.polynomial c.step-bits.ensures
+    along_more _ _ _ _ l.loop.invariant c.before.before.loop-test.true l.before.before.requires.0.polynomial c.step-bits.ensures
 
 returns : tie.Need-returns invariant-loop decreases-loop
-returns c = along-end _ _ _ _ c.before.loop.invariant c.loop-test.false
+returns c = along_end _ _ _ _ c.before.loop.invariant c.loop-test.false
 
 pub over-bytes-spec : {M : Type 1} → statement M
 over-bytes-spec =

@@ -12,8 +12,8 @@ use lib.ListN.{get_or}
 use lib.Pow.{pow_pos, pow_mono}
 use Rattle.laws.specs.Bits.{◌⊕◌}
 use Rattle.laws.proofs.Shifts.{power, up_fits}
-use Rattle.remainders.specs.ByTable.{tableStep}
-use Rattle.remainders.proofs.ByTable.{index_below, table_step}
+use Rattle.remainders.specs.ByTable.{table_step}
+use Rattle.remainders.proofs.ByTable.{index_below, table_step_lem}
 use Rattle.remainders.proofs.through_table.step_bits.Statement.{statement}
 use Rattle.remainders.proofs.through_table.step_bits.Tie as tie
 
@@ -62,13 +62,13 @@ element-copy-out-result : tie.Need-element-copy-out-result
 element-copy-out-result c = index c
 
 returns : tie.Need-returns
-unfolding ◌⊕◌ tableStep
+unfolding ◌⊕◌ table_step
 returns c =
     let s = c.before in
     let a = s.args in
     ap₂ (λ (n m : ℕ). bit_xor (n % m) (get_or a.table.now (bit_xor (n / 2 ^ a.w) a.x) 0)) (up s) (top s)
-    ∙ ap (λ (t : List ℕ). tableStep a.w t a.k a.r a.x) s.requires.1.0
-    ∙ table_step a.w a.g a.k s.requires.1.1.0 s.requires.0.below s.requires.1.1.1
+    ∙ ap (λ (t : List ℕ). table_step a.w t a.k a.r a.x) s.requires.1.0
+    ∙ table_step_lem a.w a.g a.k s.requires.1.1.0 s.requires.0.below s.requires.1.1.1
 
 pub step-bits-spec : {M : Type 1} → statement M
 step-bits-spec =

@@ -8,15 +8,15 @@ use native.Mathlib.Omega.{arith}
 use borrow.Author.Rules.{rules}
 use lib.ListN.{length, take, drop}
 use Rattle.laws.specs.Rows.{rows, row_at, joined}
-use Rattle.laws.proofs.Filling.{Filling, filling-start, filling-more}
+use Rattle.laws.proofs.Filling.{Filling, filling_start, filling_more}
 use Rattle.laws.proofs.LentParts.{part-lent}
-use Rattle.bytes.specs.Placed.{placed}
-use Rattle.bytes.proofs.Placed.{laid}
-use Rattle.wire.specs.Order.{replyData}
-use Rattle.records.specs.Record.{recordSize}
+use Rattle.laying.specs.Placed.{placed}
+use Rattle.laying.proofs.Placed.{laid}
+use Rattle.wire.specs.Order.{reply_data}
+use Rattle.records.specs.Record.{record_size}
 use Rattle.reads.specs.Reply.{reply}
 use Rattle.reads.proofs.Showing.{length-reply}
-use Rattle.replying.proofs.Turns.{replies, replies-more}
+use Rattle.replying.proofs.Turns.{replies, replies_more}
 use Rattle.replying.proofs.answers.write_replies.Statement.{statement}
 use Rattle.replying.proofs.answers.write_replies.Tie as tie
 
@@ -28,7 +28,7 @@ decreases-loop part table n buffer₀ k₀ buffer k = n - k
 
 loop-holds : tie.Need-loop-init invariant-loop decreases-loop
 unfolding rows
-loop-holds c = (omega arith, filling-start 8 _)
+loop-holds c = (omega arith, filling_start 8 _)
 
 mul_at : tie.Need-overflow-mul-at invariant-loop decreases-loop
 mul_at c = omega arith
@@ -70,14 +70,14 @@ unfolding placed
 loop-again c =
     let a = c.before.before.before.before.before.before.before.before.before.before.before.args in
     let l = c.before.before.before.before.before.before.before.before.loop in
-    let new = reply a.part (row_at recordSize l.k a.table.now) in
-    let eight : c.before.before.before.before.before.reply-of.result ≡ new = c.before.before.before.before.before.reply-of.ensures ∙ ap (reply a.part) (part-lent recordSize l.k a.table.now) in
-    let size : length c.before.before.before.before.before.reply-of.result ≡ 8 = ap length eight ∙ length-reply a.part (row_at recordSize l.k a.table.now) in
+    let new = reply a.part (row_at record_size l.k a.table.now) in
+    let eight : c.before.before.before.before.before.reply-of.result ≡ new = c.before.before.before.before.before.reply-of.ensures ∙ ap (reply a.part) (part-lent record_size l.k a.table.now) in
+    let size : length c.before.before.before.before.before.reply-of.result ≡ 8 = ap length eight ∙ length-reply a.part (row_at record_size l.k a.table.now) in
     let whole = l.invariant.1.size in
     let room : l.k * 8 + length c.before.before.before.before.before.reply-of.result ≤ length l.buffer = omega (arith, c.before.before.before.before.before.before.before.before.before.before.before.requires.2) in (
       omega arith,
-      subst⁻¹ (Filling 8 a.buffer.now c.before.before.put.new.0 (l.k + 1)) (replies-more a.part a.table.now l.k)
-          (filling-more 8 a.buffer.now l.invariant.1 new (omega (arith, c.before.before.before.before.before.before.before.before.before.before.before.requires.2)) (length-reply a.part (row_at recordSize l.k a.table.now))
+      subst⁻¹ (Filling 8 a.buffer.now c.before.before.put.new.0 (l.k + 1)) (replies_more a.part a.table.now l.k)
+          (filling_more 8 a.buffer.now l.invariant.1 new (omega (arith, c.before.before.before.before.before.before.before.before.before.before.before.requires.2)) (length-reply a.part (row_at record_size l.k a.table.now))
           (c.before.before.put.ensures ∙ laid (l.k * 8) c.before.before.before.before.before.reply-of.result l.buffer room ∙ ap₂ (λ (x : List ℕ) (m : ℕ). take (l.k * 8) l.buffer ++ x ++ drop (l.k * 8 + m) l.buffer) eight size)),
     )
 
@@ -85,7 +85,7 @@ same_length : tie.Need-same-length invariant-loop decreases-loop
 same_length c = c.before.loop.invariant.1.size
 
 returns : tie.Need-returns invariant-loop decreases-loop
-unfolding replyData
+unfolding reply_data
 returns c =
     let a = c.before.before.before.before.args in
     let l = c.before.loop in

@@ -1,7 +1,7 @@
 -- `serving::served::act_at` meets its contract: the record is lent and comes back, where there is one.
 -- Assumes nothing.
 use native.Mathlib.Omega.{arith}
-use Rattle.serving.proofs.Serving.{served, not-served}
+use Rattle.serving.proofs.Serving.{served, not_served}
 use borrow.Author.Rules.{rules}
 use Rattle.serving.proofs.served.act_at.Statement.{statement}
 use Rattle.serving.proofs.served.act_at.Tie as tie
@@ -9,7 +9,7 @@ use Rattle.serving.proofs.served.act_at.Tie as tie
 returns : tie.Need-returns
 returns c =
     let a = c.before.before.before.args in
-    not-served a.k a.table.now a.own.now a.command c.if1.true
+    not_served a.k a.table.now a.own.now a.command c.if1.true
 
 mul_at : tie.Need-overflow-mul-at
 mul_at c = omega arith

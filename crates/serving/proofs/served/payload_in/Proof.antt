@@ -3,8 +3,8 @@
 use mathlib.Core.Path.{◌≡◌}
 use Prim.Native.Nat.{ℕ, ◌+◌, ◌-◌, ◌*◌, ◌≤◌, ◌<◌}
 use native.Mathlib.Omega.{arith}
-use Rattle.records.specs.Commands.{mostMonitors, payloadSize}
-use Rattle.serving.proofs.Payloads.{whole_part, short-part, no_part, ends-within, few-in-all}
+use Rattle.records.specs.Commands.{most_monitors, payload_size}
+use Rattle.serving.proofs.Payloads.{whole_part, short_part, no_part, ends_within, few_in_all}
 use borrow.Author.Rules.{rules}
 use Rattle.serving.proofs.served.payload_in.Statement.{statement}
 use Rattle.serving.proofs.served.payload_in.Tie as tie
@@ -14,12 +14,12 @@ so-many : (at width : ℕ) → at + width - at ≡ width
 so-many at width = omega arith
 
 -- where the last of them ends
-module _ (n k width : ℕ) (pre : (k < n) × (n ≤ mostMonitors) × (width ≤ payloadSize)) where
+module _ (n k width : ℕ) (pre : (k < n) × (n ≤ most_monitors) × (width ≤ payload_size)) where
   within : (n - 1 - k) * width + width ≤ n * width
-  within = ends-within width n k pre.0
+  within = ends_within width n k pre.0
 
-  few : n * width ≤ mostMonitors * payloadSize
-  few = few-in-all width n k pre.0 pre.1 pre.2
+  few : n * width ≤ most_monitors * payload_size
+  few = few_in_all width n k pre.0 pre.1 pre.2
 
 mul_at : tie.Need-overflow-mul-at
 mul_at c = omega (arith, within c.args.n c.args.k c.args.width c.requires, few c.args.n c.args.k c.args.width c.requires)
@@ -48,7 +48,7 @@ returns-2 c =
 returns-3 : tie.Need-returns-3
 returns-3 c =
     let a = c.before.before.before.before.args in
-    short-part a.width a.payloads.now a.n a.k (omega (arith, c.before.before.if2.false))
+    short_part a.width a.payloads.now a.n a.k (omega (arith, c.before.before.if2.false))
 
 returns-4 : tie.Need-returns-4
 returns-4 c =

@@ -9,17 +9,17 @@ use native.Mathlib.Nat.{add-zero}
 use native.Mathlib.Omega.{arith}
 use lib.ListN.{length}
 use Rattle.laws.specs.Rows.{row_at}
-use Rattle.records.specs.Record.{recordSize}
+use Rattle.records.specs.Record.{record_size}
 use Rattle.records.specs.Commands.{width_of}
-use Rattle.wire.specs.Order.{writePayloads}
-use Rattle.wire.proofs.Order.{length-writePayloads, write-at}
-use Rattle.serving.proofs.EachActs.{Acted, acted-none, acted-more, acted-taken, acted-table}
+use Rattle.wire.specs.Order.{write_payloads}
+use Rattle.wire.proofs.Order.{length-write_payloads, write_at}
+use Rattle.serving.proofs.EachActs.{Acted, acted-none, acted_more, acted-taken, acted-table}
 use borrow.Author.Rules.{rules}
 use Rattle.serving.proofs.served.serve_whole.Statement.{statement}
 use Rattle.serving.proofs.served.serve_whole.Tie as tie
 
 abbrev invariant-loop : tie.invariant-loop
-invariant-loop table₀ command n payloads width taken₀ k₀ table taken k = (k ≤ n) × Acted command table₀ (writePayloads (width_of command) n payloads) table k taken
+invariant-loop table₀ command n payloads width taken₀ k₀ table taken k = (k ≤ n) × Acted command table₀ (write_payloads (width_of command) n payloads) table k taken
 
 abbrev decreases-loop : tie.decreases-loop
 decreases-loop table₀ command n payloads width taken₀ k₀ table taken k = n - k
@@ -27,7 +27,7 @@ decreases-loop table₀ command n payloads width taken₀ k₀ table taken k = n
 loop-holds : tie.Need-loop-init invariant-loop decreases-loop
 loop-holds c =
     let a = c.before.before.before.args in
-    (omega arith, acted-none a.command a.table.now (writePayloads (width_of a.command) a.n a.payloads.now))
+    (omega arith, acted-none a.command a.table.now (write_payloads (width_of a.command) a.n a.payloads.now))
 
 payload-in-requires : tie.Need-payload-in-requires invariant-loop decreases-loop
 payload-in-requires c κs = (omega arith, omega arith, c.before.before.width-of.ensures.1)
@@ -37,16 +37,16 @@ loop-again c =
     let l = c.before.before.before.before.before.before.before.loop in
     let s = c.before.before.before.before.before.before.before.before in
     let a = s.before.before.before.args in
-    let owns = writePayloads (width_of a.command) a.n a.payloads.now in
+    let owns = write_payloads (width_of a.command) a.n a.payloads.now in
     let more = c.before.before.before.before.before.before.loop-test.true in
-    let within : l.k < length owns = omega (arith, length-writePayloads (width_of a.command) a.n a.payloads.now) in
-    let fits : l.k * recordSize + recordSize ≤ length a.table.now = omega (arith, s.before.before.before.requires.0) in
+    let within : l.k < length owns = omega (arith, length-write_payloads (width_of a.command) a.n a.payloads.now) in
+    let fits : l.k * record_size + record_size ≤ length a.table.now = omega (arith, s.before.before.before.requires.0) in
     let one : c.if1.taken ≡ l.taken + cond c.before.before.before.act-at.result 1 0 = ⊎_elim (λ w. w.1 ∙ ap (λ (b : Bool). l.taken + cond b 1 0) (sym w.0.taken)) (λ w. w.1 ∙ sym (add-zero l.taken) ∙ ap (λ (b : Bool). l.taken + cond b 1 0) (sym w.0.left)) c.if1.branch in (
       omega arith,
-      acted-more a.command a.table.now owns l.k within _ l.invariant.1 fits
+      acted_more a.command a.table.now owns l.k within _ l.invariant.1 fits
           (c.before.before.before.before.before.payload-in.ensures
           ∙ ap (λ (w : ℕ). row_at w (a.n - suc l.k) a.payloads.now) s.width-of.ensures.0
-          ∙ sym (write-at (width_of a.command) a.n a.payloads.now l.k [] more))
+          ∙ sym (write_at (width_of a.command) a.n a.payloads.now l.k [] more))
           c.before.before.before.act-at.ensures.0
           c.before.before.before.act-at.ensures.1
           one,
@@ -60,8 +60,8 @@ returns c =
     let s = c.before.before.before.before.before in
     let a = s.args in
     let l = c.before.loop in
-    let owns = writePayloads (width_of a.command) a.n a.payloads.now in
-    let as_many = length-writePayloads (width_of a.command) a.n a.payloads.now in
+    let owns = write_payloads (width_of a.command) a.n a.payloads.now in
+    let as_many = length-write_payloads (width_of a.command) a.n a.payloads.now in
     let last : l.k ≡ a.n = omega arith in (
       acted-taken a.command a.table.now owns a.n as_many last l.invariant.1,
       acted-table a.command a.table.now owns a.n as_many last l.invariant.1 s.requires.0,

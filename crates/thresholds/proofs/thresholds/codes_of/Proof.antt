@@ -9,7 +9,7 @@ use mir.Val.{SFits}
 use mir.Facts.{to_z-of_z}
 use Rattle.thresholds.specs.declared.thresholds.ResultCode.{ResultCode}
 use Rattle.thresholds.specs.Thresholds.{codes_of}
-use Rattle.thresholds.proofs.TwosComplement.{widens, widened, times-fit}
+use Rattle.thresholds.proofs.TwosComplement.{widens, widened, times_fit}
 use Rattle.thresholds.proofs.thresholds.codes_of.Statement.{statement}
 use Rattle.thresholds.proofs.thresholds.codes_of.Tie as tie
 
@@ -20,7 +20,7 @@ cast-t2 : tie.Need-overflow-cast-t2
 cast-t2 c = widens w32 tt (fits c)
 
 mul-t3 : tie.Need-overflow-mul-t3
-mul-t3 c = rw (widened w32 tt (fits c)) (times-fit _ c.before.before.args.step.0 (omega arith) (fits c))
+mul-t3 c = rw (widened w32 tt (fits c)) (times_fit _ c.before.before.args.step.0 (omega arith) (fits c))
 
 returns : tie.Need-returns
 unfolding codes_of

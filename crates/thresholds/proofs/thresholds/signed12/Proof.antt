@@ -6,7 +6,7 @@ use borrow.Author.Rules.{rules}
 use mir.Syntax.{w16}
 use mir.Val.{SFits}
 use mir.Facts.{to_z_pos, to_z-of_z}
-use Rattle.thresholds.proofs.TwosComplement.{signed_low, signed_high, taken-away}
+use Rattle.thresholds.proofs.TwosComplement.{signed_low, signed_high, taken_away}
 use Rattle.thresholds.proofs.thresholds.signed12.Statement.{statement}
 use Rattle.thresholds.proofs.thresholds.signed12.Tie as tie
 
@@ -17,13 +17,13 @@ cast-result-2 : tie.Need-overflow-cast-result-2
 cast-result-2 c = search rules
 
 sub-result : tie.Need-overflow-sub-result
-sub-result c = subst⁻¹ (SFits w16) (taken-away w16 {n = c.before.args.n} {m = 4095} (omega arith) (omega arith)) (omega arith)
+sub-result c = subst⁻¹ (SFits w16) (taken_away w16 {n = c.before.args.n} {m = 4095} (omega arith) (omega arith)) (omega arith)
 
 returns : tie.Need-returns
 returns c = to_z_pos w16 (omega arith) ∙ sym (signed_low 12 c.if1.true)
 
 returns-2 : tie.Need-returns-2
-returns-2 c = to_z-of_z (sub-result c) ∙ taken-away w16 {m = 4095} (omega arith) (omega arith) ∙ sym (signed_high 12 c.if1.false)
+returns-2 c = to_z-of_z (sub-result c) ∙ taken_away w16 {m = 4095} (omega arith) (omega arith) ∙ sym (signed_high 12 c.if1.false)
 
 pub signed12-spec : {M : Type 1} → statement M
 signed12-spec = tie.close (tie.spec cast-result cast-result-2 sub-result returns returns-2)

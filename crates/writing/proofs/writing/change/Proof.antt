@@ -3,7 +3,7 @@
 use Prim.Native.Nat.{◌-◌}
 use native.Mathlib.Omega.{arith}
 use Rattle.writes.specs.Writes.{changed}
-use Rattle.records.proofs.Making.{Making, making-start, making-more, making-end}
+use Rattle.records.proofs.Making.{Making, making_start, making_more, making_end}
 use Rattle.writing.proofs.writing.change.Statement.{statement}
 use Rattle.writing.proofs.writing.change.Tie as tie
 
@@ -14,19 +14,19 @@ abbrev decreases-loop : tie.decreases-loop
 decreases-loop rec₀ rules sent size at i₀ rec i = size - i
 
 loop-holds : tie.Need-loop-init invariant-loop decreases-loop
-loop-holds c = making-start _ _ _ _
+loop-holds c = making_start _ _ _ _
 
 changed-byte-requires : tie.Need-changed-byte-requires invariant-loop decreases-loop
 changed-byte-requires c κs = (omega arith, omega arith)
 
 loop-again : tie.Need-loop-preserved invariant-loop decreases-loop
-loop-again c = making-more _ _ _ _ c.before.before.before.loop.invariant c.before.before.loop-test.true c.changed-byte.ensures
+loop-again c = making_more _ _ _ _ c.before.before.before.loop.invariant c.before.before.loop-test.true c.changed-byte.ensures
 
 same_length : tie.Need-same-length invariant-loop decreases-loop
 same_length c = c.before.loop.invariant.size
 
 returns : tie.Need-returns invariant-loop decreases-loop
-returns c = making-end _ _ _ _ c.before.loop.invariant c.loop-test.false
+returns c = making_end _ _ _ _ c.before.loop.invariant c.loop-test.false
 
 pub change-spec : {M : Type 1} → statement M
 change-spec =

@@ -5,7 +5,7 @@ use Prim.Native.Nat.{◌-◌, ◌%◌}
 use native.Mathlib.Nat.{mod-eq_of_lt}
 use native.Mathlib.Omega.{arith}
 use lib.ListN.{get_or}
-use Rattle.records.proofs.Making.{Making, making-start, making-more, making-end}
+use Rattle.records.proofs.Making.{Making, making_start, making_more, making_end}
 use Rattle.writing.proofs.writing.store.Statement.{statement}
 use Rattle.writing.proofs.writing.store.Tie as tie
 
@@ -16,16 +16,16 @@ abbrev decreases-loop : tie.decreases-loop
 decreases-loop rec₀ at sent i₀ rec i = 6 - i
 
 loop-holds : tie.Need-loop-init invariant-loop decreases-loop
-loop-holds c = making-start _ _ _ _
+loop-holds c = making_start _ _ _ _
 
 loop-again : tie.Need-loop-preserved invariant-loop decreases-loop
-loop-again c = making-more _ _ _ _ c.before.before.loop.invariant c.before.loop-test.true (sym (mod-eq_of_lt (c.shared-slice-known.given c.before.before.loop.i).fits))
+loop-again c = making_more _ _ _ _ c.before.before.loop.invariant c.before.loop-test.true (sym (mod-eq_of_lt (c.shared-slice-known.given c.before.before.loop.i).fits))
 
 same_length : tie.Need-same-length invariant-loop decreases-loop
 same_length c = c.before.loop.invariant.size
 
 returns : tie.Need-returns invariant-loop decreases-loop
-returns c = making-end _ _ _ _ c.before.loop.invariant c.loop-test.false
+returns c = making_end _ _ _ _ c.before.loop.invariant c.loop-test.false
 
 pub store_spec : {M : Type 1} → statement M
 store_spec =

@@ -10,44 +10,44 @@ use lib.Dec.{leb}
 use lib.ListN.{length, get_or}
 use Rattle.records.specs.declared.commands.Write.{Write}
 use Rattle.writes.specs.declared.writes.Rules.{Rules}
-use Rattle.records.specs.Record.{recordSize, anew, isRecord}
-use Rattle.records.specs.Commands.{dataSize}
-use Rattle.writes.specs.Writes.{rulesOf, changed, byRules, opens, written}
-use Rattle.writes.proofs.Storing.{stored-whole, whole-is-six}
-use Rattle.writes.proofs.Written.{rules-fit, enough-for-record, fewer-for-record, for-no-record}
+use Rattle.records.specs.Record.{record_size, anew, is_record}
+use Rattle.records.specs.Commands.{data_size}
+use Rattle.writes.specs.Writes.{rules_of, changed, by_rules, opens, written}
+use Rattle.writes.proofs.Storing.{stored-whole, whole_is_six}
+use Rattle.writes.proofs.Written.{rules_fit, enough_for_record, fewer_for_record, for_no_record}
 use borrow.Author.Rules.{rules}
 use Rattle.writing.proofs.writing.write.Statement.{statement}
 use Rattle.writing.proofs.writing.write.Tie as tie
 
 -- the rules that the code read fit a record
-fits : (what : Write) {rules : Rules} → rules ≡ rulesOf what → rules.at + dataSize what ≤ recordSize
-fits what e = subst⁻¹ (λ (x : Rules). x.at + dataSize what ≤ recordSize) e (rules-fit what)
+fits : (what : Write) {rules : Rules} → rules ≡ rules_of what → rules.at + data_size what ≤ record_size
+fits what e = subst⁻¹ (λ (x : Rules). x.at + data_size what ≤ record_size) e (rules_fit what)
 
 -- bytes changed by the rules that the code read, as many as it counts
-as-ruled : (what : Write) (sent r : List ℕ) {rules : Rules} → rules ≡ rulesOf what → {size : ℕ} → size ≡ dataSize what
-    → anew (changed rules sent) rules.at size r ≡ byRules what sent r
-unfolding byRules
+as-ruled : (what : Write) (sent r : List ℕ) {rules : Rules} → rules ≡ rules_of what → {size : ℕ} → size ≡ data_size what
+    → anew (changed rules sent) rules.at size r ≡ by_rules what sent r
+unfolding by_rules
 as-ruled what sent r e f = ap₂ (λ (x : Rules) (n : ℕ). anew (changed x sent) x.at n r) e f
 
 -- what is written, by whether the write opens
-module _ (what : Write) (was : ℕ) (sent r : List ℕ) (h : length r ≡ recordSize) (k : dataSize what ≤ length sent)
-    {rules : Rules} (e : rules ≡ rulesOf what) {t : Bool} (o : t ≡ opens rules was) where
+module _ (what : Write) (was : ℕ) (sent r : List ℕ) (h : length r ≡ record_size) (k : data_size what ≤ length sent)
+    {rules : Rules} (e : rules ≡ rules_of what) {t : Bool} (o : t ≡ opens rules was) where
   as-opened : (u : Bool) → t ≡ u
-      → cond u (byRules what sent r) r ≡ cond (isRecord r && leb (dataSize what) (length sent)) (written what was sent r) r
+      → cond u (by_rules what sent r) r ≡ cond (is_record r && leb (data_size what) (length sent)) (written what was sent r) r
   unfolding written
   as-opened u p =
-      sym (ap (λ (b : Bool). cond b (byRules what sent r) r) (ap (λ (x : Rules). opens x was) (sym e) ∙ sym o ∙ p))
-      ∙ sym (enough-for-record what was sent r h k)
+      sym (ap (λ (b : Bool). cond b (by_rules what sent r) r) (ap (λ (x : Rules). opens x was) (sym e) ∙ sym o ∙ p))
+      ∙ sym (enough_for_record what was sent r h k)
 
 returns : tie.Need-returns
 returns c =
     let a = c.before.before.before.args in
-    sym (for-no-record a.what a.was a.sent.now a.rec.now c.if1.true)
+    sym (for_no_record a.what a.was a.sent.now a.rec.now c.if1.true)
 
 returns-2 : tie.Need-returns-2
 returns-2 c =
     let a = c.before.before.before.before.before.args in
-    sym (fewer-for-record a.what a.was a.sent.now a.rec.now c.before.before.if1.false (omega (arith, c.if2.true, c.before.data-size.ensures.0)))
+    sym (fewer_for_record a.what a.was a.sent.now a.rec.now c.before.before.if1.false (omega (arith, c.if2.true, c.before.data-size.ensures.0)))
 
 rules-of-requires : tie.Need-rules-of-requires
 rules-of-requires c κs = search rules
@@ -62,7 +62,7 @@ store-requires : tie.Need-store-requires
 store-requires c κs =
     let s = c.before.before.before.before.before in
     let what = s.before.before.before.before.before.before.args.what in
-    let six = whole-is-six what (sym c.before.before.stores-whole.ensures ∙ c.before.if4.true) in
+    let six = whole_is_six what (sym c.before.before.stores-whole.ensures ∙ c.before.if4.true) in
     let size = s.before.before.data-size.ensures.0 in
     (omega (arith, six, fits what s.rules-of.ensures, s.before.before.before.if1.false), omega (arith, six, size, s.before.if2.false))
 

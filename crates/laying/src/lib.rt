@@ -1,6 +1,6 @@
 // Bytes laid into a buffer.
 ghost use Rattle.std.specs.Prelude.{◌≡◌, cond};
-ghost use Rattle.bytes.specs.Placed.{placed, fits};
+ghost use Rattle.laying.specs.Placed.{placed, fits};
 
 // Bytes laid into a buffer from a place on; where they do not fit the buffer stays.
 pub fn put(buffer: &mut [u8], at: usize, bytes: &[u8])

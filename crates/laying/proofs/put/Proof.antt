@@ -6,10 +6,10 @@ use Prim.Native.Nat.{ℕ, ◌+◌, ◌-◌, ◌≤◌, ◌<◌}
 use native.Mathlib.Omega.{arith}
 use lib.ListN.{length, get_or, take, set, length-set}
 use lib.Seq.{take_all}
-use Rattle.bytes.specs.Placed.{placed}
-use Rattle.bytes.proofs.Placed.{placed-none, copied_more, stays, laid}
-use Rattle.bytes.proofs.put.Statement.{statement}
-use Rattle.bytes.proofs.put.Tie as tie
+use Rattle.laying.specs.Placed.{placed}
+use Rattle.laying.proofs.Placed.{placed-none, copied_more, stays, laid}
+use Rattle.laying.proofs.put.Statement.{statement}
+use Rattle.laying.proofs.put.Tie as tie
 
 abbrev invariant-loop : tie.invariant-loop
 invariant-loop buffer₀ at bytes i₀ buffer i =

@@ -11,7 +11,7 @@ use native.Mathlib.Omega.{arith}
 use lib.ListN.{length, get_or, set, take, drop, length-append, length-drop, take-append-drop}
 use borrow.Author.Tests.{le-leb, lt-leb}
 use lib.Seq.{length-take-le, take-suc, take_at, drop_at, drop-drop, set_split, append_snoc}
-use Rattle.bytes.specs.Placed.{placed, fits}
+use Rattle.laying.specs.Placed.{placed, fits}
 
 pub placed-none : (at : ℕ) (buffer : List ℕ) → placed at [] buffer ≡ buffer
 unfolding placed
@@ -28,23 +28,23 @@ module _ (at end : ℕ) (xs buffer : List ℕ) (e : at + length xs ≡ end) (fit
   length_front : length (take at buffer ++ xs) ≡ end
   length_front = length-append (take at buffer) xs ∙ ap (λ (n : ℕ). n + length xs) (length-take-le at buffer (omega arith)) ∙ e
 
-  pub placed-front : placed at xs buffer ≡ take at buffer ++ xs ++ drop end buffer
+  pub placed_front : placed at xs buffer ≡ take at buffer ++ xs ++ drop end buffer
   unfolding placed
-  placed-front = ap (λ (n : ℕ). take at buffer ++ xs ++ drop n buffer) e
+  placed_front = ap (λ (n : ℕ). take at buffer ++ xs ++ drop n buffer) e
 
   pub length-placed : length (placed at xs buffer) ≡ length buffer
   length-placed =
-      ap length placed-front
+      ap length placed_front
       ∙ length-append (take at buffer ++ xs) (drop end buffer)
       ∙ ap₂ ◌+◌ length_front (length-drop end buffer)
       ∙ omega arith
 
   -- bytes put behind them
-  pub placed-more : (ys : List ℕ) → placed end ys (placed at xs buffer) ≡ placed at (xs ++ ys) buffer
+  pub placed_more : (ys : List ℕ) → placed end ys (placed at xs buffer) ≡ placed at (xs ++ ys) buffer
   unfolding placed
-  placed-more ys =
+  placed_more ys =
       let all : end + length ys ≡ at + length (xs ++ ys) = omega (arith, length-append xs ys) in
-      ap (λ (l : List ℕ). take end l ++ ys ++ drop (end + length ys) l) placed-front
+      ap (λ (l : List ℕ). take end l ++ ys ++ drop (end + length ys) l) placed_front
       ∙ ap₂ ◌++◌
       (ap (λ (l : List ℕ). l ++ ys) (take_at (take at buffer ++ xs) (drop end buffer) end length_front) ∙ append_assoc (take at buffer) xs ys)
       (sym (drop-drop (length ys) end (take at buffer ++ xs ++ drop end buffer))
@@ -65,12 +65,12 @@ pub stays : (at : ℕ) (bytes buffer : List ℕ) → length buffer < at + length
 stays at bytes buffer h = ap (λ (b : Bool). cond b (placed at bytes buffer) buffer) (lt-leb _ _ h)
 
 -- bytes put behind bytes, where both fit
-pub laid-behind : (at end : ℕ) (xs ys buffer : List ℕ) → at + length xs ≡ end → end + length ys ≤ length buffer
+pub laid_behind : (at end : ℕ) (xs ys buffer : List ℕ) → at + length xs ≡ end → end + length ys ≤ length buffer
     → tried end ys (tried at xs buffer) ≡ placed at (xs ++ ys) buffer
-laid-behind at end xs ys buffer e h =
+laid_behind at end xs ys buffer e h =
     let fits : end ≤ length buffer = omega arith in
     let l : length (placed at xs buffer) ≡ length buffer = length-placed at end xs buffer e fits in
-    ap (tried end ys) (laid at xs buffer (omega arith)) ∙ laid end ys (placed at xs buffer) (omega arith) ∙ placed-more at end xs buffer e fits ys
+    ap (tried end ys) (laid at xs buffer (omega arith)) ∙ laid end ys (placed at xs buffer) (omega arith) ∙ placed_more at end xs buffer e fits ys
 
 -- ---- by stores
 
@@ -88,7 +88,7 @@ pub placed-next : (at end : ℕ) (xs buffer : List ℕ) (v : ℕ) → at + lengt
 placed-next at end xs buffer v e h =
     let fits : end ≤ length buffer = omega arith in
     let l : length (placed at xs buffer) ≡ length buffer = length-placed at end xs buffer e fits in
-    placed_one end v (placed at xs buffer) (omega arith) ∙ placed-more at end xs buffer e fits (v ∷ [])
+    placed_one end v (placed at xs buffer) (omega arith) ∙ placed_more at end xs buffer e fits (v ∷ [])
 
 -- a list is put byte by byte, after i turns of a loop
 pub copied_more : (at i : ℕ) (bytes buffer : List ℕ) → i < length bytes → at + i < length buffer
