@@ -1,5 +1,7 @@
 // A backup-battery cabinet that balances. Our host writes the duties of its cells; then its outputs are asked for, while nothing else goes
 // on and while something does, muted and not. What is expected stands beside each step, worked out from the paper and not from the chain.
+#![tactic(auto)]
+
 mod bench;
 mod say;
 mod words;

@@ -43,7 +43,7 @@ pub(crate) const SEEN_SIZE: usize = FIRST + 8 * READS;
 
 // All that is read of a half: behind the first six bytes eight for each register. Each counts 1 where it was read at port A, and 16 where
 // it was read at port B; 256 times as much where its counter differs. The counter is that of the first register.
-#[derive(Drop)]
+#[derive(Clone, Copy)]
 pub(crate) struct Seen {
     pub bytes: [u8; SEEN_SIZE],
     pub ports: u64,

@@ -2,6 +2,8 @@
 // sent the two payloads in list order, so each monitor got the other's thresholds; it read the replies with the same reversal,
 // passed the board, and half the pack ran flat. Here our host and our chain do the same work, and then the old order is played. In the old
 // bench's cabinet our host then writes anew, and one half misses the write: what a repair shop reads, and how it is made good.
+#![tactic(auto)]
+
 mod bench;
 mod judged;
 mod numbers;

@@ -1,4 +1,6 @@
 // Sixteen codes stored in one record, and compared with its thresholds.
+#![tactic(auto)]
+
 mod cells;
 
 pub use cells::{code_in, compare, store};

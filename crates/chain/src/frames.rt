@@ -13,7 +13,7 @@ use replying::replies_of;
 use serving::serve;
 
 // What comes of a frame: its refusal, or how many monitors took it and how long the reply is.
-#[derive(Drop)]
+#[derive(Clone, Copy)]
 pub enum Answer {
     Refused(Refusal),
     Accepted { taken: usize, reply: usize },

@@ -1,4 +1,6 @@
 // The engine that handles a whole frame: it is judged, answered and served.
+#![tactic(auto)]
+
 mod frames;
 mod numbers;
 

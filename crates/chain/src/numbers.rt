@@ -5,7 +5,7 @@ ghost use Rattle.chain.specs.Numbers.{numbers_of};
 use crate::frames::Answer;
 
 // A refusal's number, or 0 with how many monitors took the frame and how long the reply is.
-#[derive(Drop)]
+#[derive(Clone, Copy)]
 pub struct Numbers {
     pub number: u8,
     pub taken: usize,

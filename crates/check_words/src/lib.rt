@@ -1,4 +1,6 @@
 // The check words of document 01 as they are sent: of a command and of data, and are they right.
+#![tactic(auto)]
+
 mod words;
 
 pub use words::{

@@ -1,4 +1,6 @@
 // The state of the engine that clocks a frame a byte at a time. The caller lends it.
+#![tactic(auto)]
+
 mod state;
 
 pub use state::{

@@ -8,7 +8,7 @@ use records::{MOST_MONITORS, PAYLOAD_SIZE, byte_at};
 
 // What the bytes after the fourth do: in a known write they fill windows of so many bytes, in a known read they drain the windows,
 // and in any other frame the windows stay empty.
-#[derive(Drop)]
+#[derive(Clone, Copy)]
 pub enum Kind {
     Fills(usize),
     Drains,

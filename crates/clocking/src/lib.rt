@@ -1,4 +1,6 @@
 // One byte clocked in.
+#![tactic(auto)]
+
 mod bytes_in;
 
 pub use bytes_in::clock;

@@ -11,7 +11,7 @@ use refusals::Refusal;
 const LAST_PHASE: u8 = 14;
 
 // What comes of the question: its refusal, or how many outputs are on.
-#[derive(Drop)]
+#[derive(Clone, Copy)]
 pub enum Discharged {
     Refused(Refusal),
     On(usize),

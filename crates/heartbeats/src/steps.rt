@@ -12,14 +12,14 @@ use messages::message_right;
 use records::{CMF1, LPCM_FLAGS, RDCMCFG, RECORD_SIZE, byte_at, byte_in, in_lpcm};
 
 // What a monitor sends: nothing, or a message of this count and these flags.
-#[derive(Drop)]
+#[derive(Clone, Copy)]
 pub enum Beat {
     Silent,
     Sends { count: u8, flags: u8 },
 }
 
 // The count and the flags once a monitor has taken its own step.
-#[derive(Drop)]
+#[derive(Clone, Copy)]
 struct Tally {
     count: u8,
     flags: u8,

@@ -12,7 +12,7 @@ use records::Command;
 use refusals::Refusal;
 
 // What comes of building a frame: its refusal, or its length.
-#[derive(Drop)]
+#[derive(Clone, Copy)]
 pub enum Built {
     Unbuilt(Refusal),
     Length(usize),

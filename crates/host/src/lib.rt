@@ -1,4 +1,6 @@
 // The frames that our host writes.
+#![tactic(auto)]
+
 mod chain;
 mod frames;
 

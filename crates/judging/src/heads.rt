@@ -8,7 +8,7 @@ use records::{Command, MOST_MONITORS};
 use refusals::Refusal;
 
 // What the refusals say of a frame: the first that holds, or the command and the number of monitors.
-#[derive(Drop)]
+#[derive(Clone, Copy)]
 pub enum Judged {
     Bad(Refusal),
     Good(Command, usize),

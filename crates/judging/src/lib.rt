@@ -1,4 +1,6 @@
 // The table of records, the refusals of a frame that both engines judge alike, and the place of one monitor.
+#![tactic(auto)]
+
 mod heads;
 mod places;
 mod tables;

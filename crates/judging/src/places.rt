@@ -6,7 +6,7 @@ use crate::tables::sound_count;
 use refusals::Refusal;
 
 // The record at k, counted from 0, or the refusal of a table or a position.
-#[derive(Drop)]
+#[derive(Clone, Copy)]
 pub enum Placed {
     Nowhere(Refusal),
     At(usize),

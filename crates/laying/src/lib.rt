@@ -1,4 +1,6 @@
 // Bytes laid into a buffer.
+#![tactic(auto)]
+
 ghost use Rattle.std.specs.Prelude.{◌≡◌, cond};
 ghost use Rattle.laying.specs.Placed.{placed, fits};
 

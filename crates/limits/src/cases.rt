@@ -7,7 +7,7 @@ use crate::say::text;
 use crate::starts::start;
 use crate::words::{AND, FLAGS, LOADED, REFUSED, REPLY, SENT, STAYS, TAKEN, words};
 
-#[derive(Drop)]
+#[derive(Clone, Copy)]
 pub(crate) struct Case {
     pub given: u64,
     pub sizes: u64,

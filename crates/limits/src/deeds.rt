@@ -3,7 +3,7 @@ use crate::bench::{Bytes, RECORD, ROOM, TWO, same};
 use chain::Numbers;
 
 // The table and the reply buffer after it, and the numbers that came.
-#[derive(Drop)]
+#[derive(Clone, Copy)]
 pub(crate) struct Came {
     pub table: Bytes,
     pub buffer: Bytes,

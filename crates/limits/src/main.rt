@@ -1,6 +1,8 @@
 // Shows the chain at its limits by running it: each line says what was tried and what came back. What is expected stands in
 // the program beside each case, worked out from the paper and not from the chain. Each frame goes through both engines, and where they do not come
 // to the same it is not as expected.
+#![tactic(auto)]
+
 mod beats;
 mod bench;
 mod cases;

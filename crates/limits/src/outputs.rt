@@ -303,7 +303,7 @@ fn told(came: Discharged) -> u64 {
 }
 
 // What came: the number that `told` gives, and the buffer.
-#[derive(Drop)]
+#[derive(Clone, Copy)]
 struct Answer {
     came: u64,
     out: Bytes,

@@ -1,4 +1,6 @@
 // The cells of one monitor of a table: stored, compared, and loaded, which is both; with their refusals.
+#![tactic(auto)]
+
 mod judged;
 mod loads;
 mod numbers;

@@ -18,7 +18,7 @@ use records::RECORD_SIZE;
 use refusals::Refusal;
 
 // What comes of a load, and of either half of it, a store and a compare.
-#[derive(Drop)]
+#[derive(Clone, Copy)]
 pub enum Loaded {
     Unloaded(Refusal),
     Done,

@@ -1,4 +1,6 @@
 // One monitor's measurement in LPCM.
+#![tactic(auto)]
+
 mod measuring;
 
 pub use measuring::measure;

@@ -1,4 +1,6 @@
 // A heartbeat as it is sent, and what our host makes of what comes.
+#![tactic(auto)]
+
 mod messages;
 mod verdicts;
 

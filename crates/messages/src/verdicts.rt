@@ -7,7 +7,7 @@ use crate::messages::{MESSAGE_SIZE, message_right};
 use refusals::Refusal;
 
 // What comes of the question.
-#[derive(Drop)]
+#[derive(Clone, Copy)]
 pub enum Verdict {
     Refused(Refusal),
     Passed,

@@ -1,6 +1,8 @@
 // A backup-battery cabinet goes to sleep. Our host sets up low power cell monitoring (LPCM) in its two halves. Then come nights in which all is
 // well, a cell runs low, a cell jumps, a message is damaged, a monitor drops out, and in which a monitor judges in the host's place. What is
 // expected stands beside each step, worked out from the paper and not from the chain.
+#![tactic(auto)]
+
 mod bench;
 mod say;
 mod words;

@@ -1,5 +1,7 @@
 // The chain for C, by both engines: numbers and slices only, and nothing decided here. A slice is a pointer and a length; an answer is a
 // u32 that holds the refusal number and two values (`packing`). The host's functions are those of `door`: the library has both crates.
+#![tactic(auto)]
+
 mod answers;
 mod beats;
 mod cells;

@@ -1,4 +1,6 @@
 // A heartbeat in a table: the manager wakes, a message reaches a monitor, a whole heartbeat, and the time runs out.
+#![tactic(auto)]
+
 mod hops;
 mod operations;
 

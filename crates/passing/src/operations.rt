@@ -31,7 +31,7 @@ use records::RECORD_SIZE;
 use refusals::Refusal;
 
 // What comes of a manager that wakes, and of a whole heartbeat: the end of the chain that a message is sent towards, or leaves at.
-#[derive(Drop)]
+#[derive(Clone, Copy)]
 pub enum Sent {
     Unsent(Refusal),
     Nothing,
@@ -40,7 +40,7 @@ pub enum Sent {
 }
 
 // What comes of a message that reaches a monitor.
-#[derive(Drop)]
+#[derive(Clone, Copy)]
 pub enum Relayed {
     Unrelayed(Refusal),
     Stopped,
@@ -48,7 +48,7 @@ pub enum Relayed {
 }
 
 // What comes of the time that runs out.
-#[derive(Drop)]
+#[derive(Clone, Copy)]
 pub enum TimedOut {
     Untimed(Refusal),
     NoTimeoutMonitor,

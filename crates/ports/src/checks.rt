@@ -6,7 +6,7 @@ use records::{MOST_COUNT, PAYLOAD_SIZE};
 use refusals::Refusal;
 
 // What comes of the check of one payload: where only its counter differs, the one received.
-#[derive(Drop)]
+#[derive(Clone, Copy)]
 pub enum Checked {
     Unchecked(Refusal),
     Right,

@@ -1,4 +1,6 @@
 // What our host makes of replies: the check of one payload, and the two ports.
+#![tactic(auto)]
+
 mod checks;
 mod ports;
 

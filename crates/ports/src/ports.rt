@@ -13,7 +13,7 @@ use records::{MOST_COUNT, MOST_MONITORS, PAYLOAD_SIZE};
 use refusals::Refusal;
 
 // Which reply has the bytes, and does their counter differ; or why none is handed back.
-#[derive(Drop)]
+#[derive(Clone, Copy)]
 pub enum Port {
     Refused(Refusal),
     A(bool),

@@ -1,4 +1,6 @@
 // The discharge of one monitor's cells: the priorities of the sheet's Table 27.
+#![tactic(auto)]
+
 mod outputs;
 mod switches;
 

@@ -8,7 +8,7 @@ use crate::switches::{duty_of, has_dcc, is_muted};
 use records::CELL_COUNT;
 
 // What goes on at a monitor while its outputs are asked for.
-#[derive(Drop)]
+#[derive(Clone, Copy)]
 pub struct Events {
     // Thermal shutdown.
     pub shutdown: bool,
@@ -21,7 +21,7 @@ pub struct Events {
 }
 
 // The row of Table 27 that decides an output, and whether it is on.
-#[derive(Drop)]
+#[derive(Clone, Copy)]
 pub struct Output {
     pub row: u8,
     pub on: bool,

@@ -11,7 +11,7 @@ use thresholds::ResultCode;
 const CLEARED: i32 = -32768;
 
 // A voltage in volts, or no voltage: the cell was cleared.
-#[derive(Drop)]
+#[derive(Clone, Copy)]
 pub enum Reading {
     Volts(f64),
     Cleared,

@@ -1,4 +1,6 @@
 // The host's readings: a code as a voltage, and the summary of a pack of cells.
+#![tactic(auto)]
+
 mod cell;
 mod gathering;
 mod pack_summary;

@@ -1,4 +1,6 @@
 // What one monitor replies to a read.
+#![tactic(auto)]
+
 mod replies;
 mod shown;
 

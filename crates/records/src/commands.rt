@@ -7,7 +7,7 @@ use crate::record::{
     RDCVE, RDCVF, RDPWMA, RDPWMB, RDRR, RDSID, RDSTATC, RDSTATD,
 };
 
-#[derive(Drop)]
+#[derive(Clone, Copy)]
 pub enum Write {
     Wrcfga,
     Wrcfgb,
@@ -22,7 +22,7 @@ pub enum Write {
     Clrcmflag,
 }
 
-#[derive(Drop)]
+#[derive(Clone, Copy)]
 pub enum Bare {
     Mute,
     Unmute,
@@ -35,7 +35,7 @@ pub enum Bare {
     Cmdis,
 }
 
-#[derive(Drop)]
+#[derive(Clone, Copy)]
 pub enum Command {
     // A read names a part of the record.
     Reads(Part),

@@ -1,4 +1,6 @@
 // One monitor's record, and the list of commands.
+#![tactic(auto)]
+
 mod commands;
 mod record;
 

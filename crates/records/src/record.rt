@@ -66,7 +66,7 @@ pub const LAST_CELLS: usize = 138;
 
 // Where a part of the record begins, and how many bytes it has. In bytes, so that a command is three of them: the compiler copies a
 // larger one in pieces that wait for each other.
-#[derive(Drop)]
+#[derive(Clone, Copy)]
 pub struct Part {
     pub at: u8,
     pub size: u8,

@@ -1,8 +1,10 @@
 // Document 01, "Numbers that come back": the refusals by name, and their numbers.
+#![tactic(auto)]
+
 ghost use Rattle.std.specs.Prelude.{◌≡◌};
 ghost use Rattle.refusals.specs.Numbers.{number_of};
 
-#[derive(Drop)]
+#[derive(Clone, Copy)]
 pub enum Refusal {
     // The table is not sound; at a release also: it was not, or had another N, at byte four.
     TableNotSound,

@@ -10,7 +10,7 @@ use records::PAYLOAD_SIZE;
 use refusals::Refusal;
 
 // What comes of a look: its refusal, or how many bytes the window holds.
-#[derive(Drop)]
+#[derive(Clone, Copy)]
 pub enum Looked {
     Refused(Refusal),
     Holds(usize),

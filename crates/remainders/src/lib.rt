@@ -1,4 +1,6 @@
 // The same remainders, of byte strings of any length: bit by bit, and through a table of 256 remainders.
+#![tactic(auto)]
+
 mod bit_by_bit;
 mod strings;
 mod tables;

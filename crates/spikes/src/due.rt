@@ -6,7 +6,7 @@ use std::num::wrapping_add_u8;
 
 // A write: what is there before, the frame as our host wrote it, where a monitor keeps its six bytes, and the hits that are to be told by a
 // check.
-#[derive(Drop)]
+#[derive(Clone, Copy)]
 pub(crate) struct Trial {
     pub before: Outcome,
     pub sent: Frame,

@@ -1,6 +1,8 @@
 // What a spike on the wire can do. Every spike that the check words are to tell is tried on our host's frames for two monitors, through both
 // engines; then one of each kind that is longer, and gets through. What is expected is worked out from the paper, in due.rt, and not by the
 // chain.
+#![tactic(auto)]
+
 mod bench;
 mod bursts;
 mod due;

@@ -1,4 +1,6 @@
 // The two thresholds of a record, and the two kinds of count.
+#![tactic(auto)]
+
 mod thresholds;
 
 pub use thresholds::{

@@ -5,11 +5,11 @@ ghost use Rattle.thresholds.specs.Thresholds.{signed, lower, upper, vuv, vov, co
 use records::{Part, RDCFGB, byte_in};
 
 // A count of codes of 150 microvolts.
-#[derive(Drop)]
+#[derive(Clone, Copy)]
 pub struct ResultCode(pub i32);
 
 // A count of threshold steps, each of 16 codes.
-#[derive(Drop)]
+#[derive(Clone, Copy)]
 pub struct ThresholdStep(pub i16);
 
 // A count of steps as a count of codes: the one conversion between the two.

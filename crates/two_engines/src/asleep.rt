@@ -195,7 +195,7 @@ fn place_of(way: usize, first: usize, any: usize, n: usize) -> usize
 }
 
 // The positions of the manager, and of something on the way.
-#[derive(Drop)]
+#[derive(Clone, Copy)]
 pub(crate) struct Asleep {
     pub luck: usize,
     pub manager: usize,

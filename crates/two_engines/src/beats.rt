@@ -29,7 +29,7 @@ const HEAD: [u8; 9] = *b"\x00\x43\x47\xb2\x00\x00\x00\x00\xff";
 const COUNTS: [usize; 8] = [0x43, 0x43, 0x42, 0x44, 0x00, 0x01, 0x62, 0xff];
 
 // An operation: its kind, how many bytes of the table and of the message are lent, the position, and the room.
-#[derive(Drop)]
+#[derive(Clone, Copy)]
 struct Operation {
     kind: usize,
     size: usize,

@@ -160,7 +160,7 @@ fn command_drawn(luck: usize) -> Drawn
 }
 
 // A frame, at the start of an array.
-#[derive(Drop)]
+#[derive(Clone, Copy)]
 pub(crate) struct Frame {
     pub bytes: [u8; LONGEST],
     pub length: usize,

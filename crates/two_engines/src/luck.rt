@@ -13,7 +13,7 @@ const MODULUS: usize = 4294967296;
 pub(crate) const NONE: usize = 65536;
 
 // A number, and the generator's last one, from which the next is drawn.
-#[derive(Drop)]
+#[derive(Clone, Copy)]
 pub(crate) struct Drawn {
     pub luck: usize,
     pub number: usize,

@@ -2,6 +2,8 @@
 // way that has a number; stores, compares and loads between; after each frame the question about the discharge, put to both engines' tables,
 // and now and then an operation of a heartbeat on them. Printed: what became of the frames, how much differed, and digests of every table, reply and answer.
 // What that must be is worked out by tools/two-engines-model, from the paper alone.
+#![tactic(auto)]
+
 mod asleep;
 mod beats;
 mod book;

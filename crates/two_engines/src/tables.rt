@@ -77,7 +77,7 @@ pub(crate) fn new(mut w: World, n: usize) -> World {
 }
 
 // A table to lend: of so many bytes, and with so much room for the reply.
-#[derive(Drop)]
+#[derive(Clone, Copy)]
 pub(crate) struct Lent {
     pub table: Outcome,
     pub size: usize,
@@ -131,7 +131,7 @@ pub(crate) fn spoil(whole: Outcome, n: usize, luck: usize) -> Lent
 }
 
 // What came of a store, a compare or a load.
-#[derive(Drop)]
+#[derive(Clone, Copy)]
 struct Came {
     table: Outcome,
     number: u8,

@@ -3,7 +3,7 @@ use crate::book::Book;
 use crate::outcomes::{Outcome, Reply};
 use clock_state::STATE_SIZE;
 
-#[derive(Drop)]
+#[derive(Clone, Copy)]
 pub(crate) struct World {
     // The generator's last number.
     pub luck: usize,

@@ -4,7 +4,7 @@ ghost use Rattle.std.specs.Prelude.{◌≡◌, ◌+◌, ◌*◌, ◌/◌, ◌%�
 use crate::file::u16_of;
 use crate::{count, say};
 
-#[derive(Drop)]
+#[derive(Clone, Copy)]
 pub(crate) struct Commands {
     pub codes: u64,
     pub taken: u64,

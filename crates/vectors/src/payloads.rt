@@ -5,7 +5,7 @@ use crate::file::{left, u16_at, u16_of};
 use crate::{count, say};
 
 // `at` is where the file goes on. `short` says that it ended within a record.
-#[derive(Drop)]
+#[derive(Clone, Copy)]
 pub(crate) struct Payloads {
     pub at: usize,
     pub short: bool,
@@ -17,7 +17,7 @@ pub(crate) struct Payloads {
 }
 
 // Payloads with one bit wrong.
-#[derive(Drop)]
+#[derive(Clone, Copy)]
 pub(crate) struct Wrong {
     pub tried: u64,
     pub taken: u64,

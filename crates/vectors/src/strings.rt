@@ -5,7 +5,7 @@ use crate::file::{left, u16_at};
 use crate::{count, say};
 
 // `at` is where the file goes on. `short` says that it ended within a record.
-#[derive(Drop)]
+#[derive(Clone, Copy)]
 pub(crate) struct Strings {
     pub at: usize,
     pub short: bool,

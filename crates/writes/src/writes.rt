@@ -10,7 +10,7 @@ use records::{
 // Whether a write is taken only with its data check right, where its data bytes go, and what it does to each bit there, by masks of which as
 // many bytes count as it has data: stored bits become as sent, kept bits stay as they were, but for those that are clearable and sent as 1, ones become 1; every other bit
 // becomes 0. WRRR does so whatever its check, and only where the retention was unlocked.
-#[derive(Drop)]
+#[derive(Clone, Copy)]
 pub struct Rules {
     pub needs_check: bool,
     pub only_unlocked: bool,
