@@ -1,0 +1,16 @@
+-- `passing::operations::hand_out` meets its contract: a message has eight bytes, for which there is room.
+-- Assumes nothing.
+use Rattle.passing.proofs.HandedOut.{nothing_out, message_out}
+use Rattle.passing.proofs.operations.hand_out.Goals as goal
+
+pub returns-in-Silent : goal.returns-in-Silent
+returns-in-Silent c =
+    let told = nothing_out c.args.out.now c.enum_told-1.given.1 in
+    record { value = told.0; out_after = told.1 }
+
+pub returns-in-Sends : goal.returns-in-Sends
+returns-in-Sends c =
+    let start = c in
+    let a = start.args in
+    let told = message_out a.out.now _ _ start.requires c.beat-1.given.1 c.message-own.ensures c.put.ensures in
+    record { value = told.0; out_after = told.1 }

@@ -1,0 +1,65 @@
+-- `ports::ports::part_of` meets its contract, port by port.
+-- Assumes nothing.
+use mathlib.Core.Path.{sym, ap, ◌∙◌, subst⁻¹}
+use mathlib.Core.List.{[]}
+use Prim.Native.Nat.{ℕ, ◌+◌, ◌*◌, ◌≤◌}
+use native.Mathlib.Nat.{add-zero}
+use lib.ListN.{length}
+use Rattle.records.specs.Commands.{payload_size}
+use Rattle.ports.specs.Ports.{by_port}
+use Rattle.ports.specs.Parts.{part}
+use Rattle.ports.proofs.TwoPorts.{Asked, asked-a, asked-b, within_a, within_b}
+use Rattle.ports.proofs.Handed.{in_a, in_b, handed}
+use Rattle.ports.proofs.ports.part_of.Goals as goal
+
+
+-- where port A answers, and where port B does
+in-reply-a : (c : goal.In-A) → let q = c.args in Asked q.a.now q.b.now q.n q.k
+in-reply-a c =
+    let q = c.args in
+    asked-a q.a.now q.b.now q.n q.k q.expected _ (sym c.port_of-port.ensures ∙ c.enum_told-in-A-1.given.1)
+
+in-reply-b : (c : goal.In-B) → let q = c.args in Asked q.a.now q.b.now q.n q.k
+in-reply-b c =
+    let q = c.args in
+    asked-b q.a.now q.b.now q.n q.k q.expected _ (sym c.port_of-port.ensures ∙ c.enum_told-in-B-1.given.1)
+
+pub place_a-requires : goal.place_a-requires
+place_a-requires c = ((in-reply-a c).first, (in-reply-a c).last)
+
+pub part_at-requires : goal.part_at-requires
+part_at-requires c =
+    let q = c.args in
+    subst⁻¹ (λ (at : ℕ). at * payload_size + payload_size ≤ length q.a.now) c.place_a.ensures (within_a q.a.now q.b.now q.n q.k (in-reply-a c.before))
+
+pub place_b-requires : goal.place_b-requires
+place_b-requires c = ((in-reply-b c).first, (in-reply-b c).last)
+
+pub part_at-requires-in-B : goal.part_at-requires-in-B
+part_at-requires-in-B c =
+    let q = c.args in
+    subst⁻¹ (λ (at : ℕ). at * payload_size + payload_size ≤ length q.b.now) c.place_b.ensures (within_b q.a.now q.b.now q.n q.k (in-reply-b c.before))
+
+pub returns-in-Refused : goal.returns-in-Refused
+returns-in-Refused c =
+    let q = c.args in
+    let told = handed q.a q.b q.n q.k q.expected c.port_of-port.ensures
+    (ap (λ (start : ℕ). record { block = q.a.ptr.0; start = start; bytes = [] }) (sym (add-zero q.a.ptr.1))
+    ∙ ap (by_port (part q.a 0 0) (in_a q.a q.b q.n q.k) (in_b q.a q.b q.n q.k)) (sym c.enum_told-1.given.1)) in
+    record { result_value = told.0; result_value_2 = told.1 }
+
+pub returns-in-A : goal.returns-in-A
+returns-in-A c =
+    let s = c in
+    let q = s.args in
+    let told = handed q.a q.b q.n q.k q.expected (sym s.enum_told-in-A-1.given.1 ∙ s.port_of-port.ensures)
+    (c.part_at.ensures ∙ ap (λ (at : ℕ). part q.a (at * payload_size) payload_size) c.place_a.ensures) in
+    record { result_value = told.0; result_value_2 = told.1 }
+
+pub returns-in-B : goal.returns-in-B
+returns-in-B c =
+    let s = c in
+    let q = s.args in
+    let told = handed q.a q.b q.n q.k q.expected (sym s.enum_told-in-B-1.given.1 ∙ s.port_of-port.ensures)
+    (c.part_at-in-B.ensures ∙ ap (λ (at : ℕ). part q.b (at * payload_size) payload_size) c.place_b.ensures) in
+    record { result_value = told.0; result_value_2 = told.1 }

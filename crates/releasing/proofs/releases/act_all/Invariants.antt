@@ -1,0 +1,11 @@
+-- `releasing::releases::act_all` meets its contract: a monitor a turn, from the front of the table. The measure is what is left of the monitors.
+-- Assumes nothing.
+use Prim.Native.Nat.{◌-◌, ◌≤◌}
+use Rattle.serving.proofs.EachActs.{Acted}
+use Rattle.releasing.proofs.releases.act_all.Given as goal
+
+abbrev pub invariant-loop-k : goal.invariant-loop-k
+invariant-loop-k l = (l.k ≤ l.n) × Acted l.command l.initial.table (windowsOf l.state) l.table l.k l.taken
+
+abbrev pub decreases-loop-k : goal.decreases-loop-k
+decreases-loop-k l = l.n - l.k

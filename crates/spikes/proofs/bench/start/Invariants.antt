@@ -1,0 +1,10 @@
+-- `spikes::bench::start` is safe and ends: the measure is the number of bytes that are left. Assumes nothing.
+use Rattle.std.proofs.Common.{◌-◌, ◌*◌}
+use Rattle.records.specs.Record.{record_size}
+use Rattle.spikes.proofs.bench.start.Given as goal
+
+abbrev pub invariant-loop-i : goal.invariant-loop-i
+invariant-loop-i l = Unit {0}
+
+abbrev pub decreases-loop-i : goal.decreases-loop-i
+decreases-loop-i l = 2 * record_size - l.i

@@ -1,0 +1,10 @@
+-- `two_engines::questions::told` is safe and ends: the measure is the number of outputs that are left.
+-- Assumes nothing.
+use Rattle.std.proofs.Common.{◌-◌}
+use Rattle.two_engines.proofs.questions.told.Given as goal
+
+abbrev pub invariant-loop-i : goal.invariant-loop-i
+invariant-loop-i l = Unit {0}
+
+abbrev pub decreases-loop-i : goal.decreases-loop-i
+decreases-loop-i l = 17 - l.i
