@@ -32,7 +32,7 @@ step-below w r b h = xor_below w (mod-lt (r * 2) (pow_pos w)) (once-below w (xor
 pub remainder-below : (w : ℕ) {g r : ℕ} (bs : List Bool) → g < 2 ^ w → r < 2 ^ w → remainder w g r bs < 2 ^ w
 unfolding remainder
 remainder-below w [] hg hr = hr
-remainder-below w {r = r} (b ∷ bs) hg hr = remainder-below w bs hg (step-below w r b hg)
+remainder-below w {g = g} {r = r} (b ∷ bs) hg hr = remainder-below w {r = step w g r b} bs hg (step-below w r b hg)
 
 -- ---- over a longer string
 

@@ -46,6 +46,7 @@ pub enum Command {
 }
 
 // The command that a code stands for.
+#[tactic(auto, unfolding(crate::specs::Commands::commands, crate::specs::Commands::command_of))]
 pub fn command_of(code: u16) -> Command
     ensures { result ≡ command_of code commands }
 {
