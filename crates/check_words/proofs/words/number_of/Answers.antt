@@ -11,13 +11,8 @@ use lib.ListN.{length, get_or, drop, drop_of_length-le}
 use lib.Pow.{pow-add, pow_mono}
 use lib.Seq.{drop-cons}
 use Rattle.laws.specs.Bits.{number_from, number_of}
+use Rattle.check_words.proofs.words.number_of.Invariants.{Leads}
 use Rattle.check_words.proofs.words.number_of.Goals as goal
-
-
-record Leads (bytes : List ℕ) (n i : ℕ) : Type 0 where
-  within : i ≤ length bytes
-  below : n < 2 ^ (8 * i)
-  leads : number_from n (drop i bytes) ≡ number_of bytes
 
 module _ (bytes : List ℕ) {n i : ℕ} (l : Leads bytes n i) where
   fits : length bytes ≤ 8 → i < length bytes → n < 2 ^ 56

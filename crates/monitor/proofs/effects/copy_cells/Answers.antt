@@ -9,12 +9,8 @@ use Rattle.records.specs.Record.{cells, bytes_of}
 use Rattle.records.proofs.Anew.{anew-below}
 use Rattle.records.proofs.Making.{Making, making_start, making_more, making_end}
 use Rattle.records.proofs.Parts.{byte_of-part}
+use Rattle.monitor.proofs.effects.copy_cells.Invariants.{cell}
 use Rattle.monitor.proofs.effects.copy_cells.Goals as goal
-
-
--- what the part's bytes become, from the record as it was
-abbrev cell : List ℕ → ℕ → ℕ → ℕ
-cell r k old = get_or (bytes_of cells r) k 0
 
 -- a cell's byte, read while the copy is made
 still : (to : ℕ) (r₀ r : List ℕ) (i : ℕ) → cells.at + cells.size ≤ to → Making (cell r₀) to cells.size r₀ r i → i < cells.size

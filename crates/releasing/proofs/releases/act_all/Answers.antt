@@ -14,12 +14,8 @@ use Rattle.serving.proofs.EachActs.{acted-none, acted_more, acted-taken, acted-t
 use Rattle.clock_state.specs.State.{kind_in, seen_in, chained_in}
 use Rattle.clocking.specs.Bytes.{clock_of}
 use Rattle.clocking.proofs.Register.{length-windows}
+use Rattle.releasing.proofs.releases.act_all.Invariants.{windowsOf}
 use Rattle.releasing.proofs.releases.act_all.Goals as goal
-
-
--- the windows that a state holds
-abbrev windowsOf : List ℕ → List (List ℕ)
-windowsOf s = (clock_of s).windows
 
 -- one for each monitor
 as_many : (s : List ℕ) {n : ℕ} → n ≡ chained_in s → length (windowsOf s) ≡ n
