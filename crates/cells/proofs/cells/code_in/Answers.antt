@@ -24,6 +24,6 @@ pub returns : goal.returns
 unfolding code_in
 returns c =
     ap {B = ResultCode} (λ (z : ℤ). record { 0 = z })
-    (to_z-of_z (record { sfits = c.signed16.type-inv })
+    (to_z-of_z (record { sfits = c.signed16.type_inv })
     ∙ c.signed16.ensures
     ∙ ap₂ (λ (m n : ℕ). signed 16 (m + n * 256)) c.byte_in-low.ensures c.byte_in-high.ensures)

@@ -18,7 +18,6 @@ use Rattle.writes.proofs.Written.{rules_fit, enough_for_record, fewer_for_record
 use borrow.Author.Rules.{rules}
 use Rattle.writing.proofs.writing.write.Goals as goal
 
-
 -- the rules that the code read fit a record
 fits : (what : Write) {rules : Rules} → rules ≡ rules_of what → rules.at + data_size what ≤ record_size
 fits what e = subst⁻¹ (λ (x : Rules). x.at + data_size what ≤ record_size) e (rules_fit what)
@@ -56,13 +55,6 @@ store-requires c =
     let six = whole_is_six what (sym c.stores_whole.ensures ∙ c.if-stores_whole.true) in
     let size = s.data_size-size.ensures.value in
     (omega (arith, six, fits what s.rules_of-rules.ensures, s.if-rec-ne-RECORD_SIZE.false), omega (arith, six, size, s.if-sent-size.false))
-
-pub change-requires : goal.change-requires
-change-requires c =
-    let s = c in
-    let what = s.args.what in
-    let size = s.data_size-size.ensures in
-    (size.1, omega (arith, size.0, fits what s.rules_of-rules.ensures, s.if-rec-ne-RECORD_SIZE.false), omega (arith, s.if-sent-size.false))
 
 pub returns-then-stores_whole : goal.returns-then-stores_whole
 returns-then-stores_whole c =
