@@ -30,6 +30,7 @@ Ends (row ∷ next ∷ rows) = Ends (next ∷ rows)
 
 decider : (rows : List Row) → Ends rows → Decider rows
 unfolding decided
+decider [] e = elim e [ ]
 decider (row ∷ []) e = record { row = row; decides = inl (e, refl); told = ap (λ (b : Bool). cond b (output row.priority row.on) (decided [])) e }
 decider (row ∷ next ∷ rows) e = by row.event refl (decider (next ∷ rows) e)
   where
@@ -44,6 +45,7 @@ decider (row ∷ next ∷ rows) e = by row.event refl (decider (next ∷ rows) e
         }
 
 pub one_decides : (rows : List Row) (p q : Row) → Decides rows p → Decides rows q → p ≡ q
+one_decides [] p q h _ = elim h [ ]
 one_decides (row ∷ rows) p q (inl h) (inl k) = sym h.1 ∙ k.1
 one_decides (row ∷ rows) p q (inl h) (inr k) = absurd (false≢true (sym k.0 ∙ h.0))
 one_decides (row ∷ rows) p q (inr h) (inl k) = absurd (false≢true (sym h.0 ∙ k.0))

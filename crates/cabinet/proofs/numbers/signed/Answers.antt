@@ -11,5 +11,5 @@ overflow_sub-result c =
 pub overflow_cast-result-else-word-lt32768-2 : goal.overflow_cast-result-else-word-lt32768-2
 overflow_cast-result-else-word-lt32768-2 c =
     subst⁻¹ (SFits w16)
-    (to_z-of_z (sub-result c) ∙ taken_away w32 {n = c.args.word} {m = 65535} (omega arith) (omega arith))
+    (to_z-of_z (overflow_sub-result c) ∙ taken_away w32 {n = c.args.word} {m = 65535} (omega arith) (omega arith))
     (omega arith)

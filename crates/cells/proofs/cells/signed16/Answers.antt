@@ -17,4 +17,4 @@ returns-then-n-lt32768 c = to_z_pos w32 (omega arith) ∙ sym (signed_low 16 c.i
 
 pub returns-else-n-lt32768 : goal.returns-else-n-lt32768
 returns-else-n-lt32768 c =
-    to_z-of_z (sub-result c) ∙ taken_away w32 {m = 65535} (omega arith) (omega arith) ∙ sym (signed_high 16 c.if-n-lt32768.false)
+    to_z-of_z (overflow_sub-result c) ∙ taken_away w32 {m = 65535} (omega arith) (omega arith) ∙ sym (signed_high 16 c.if-n-lt32768.false)

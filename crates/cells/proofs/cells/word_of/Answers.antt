@@ -36,7 +36,7 @@ overflow_add-result c = subst⁻¹ (SFits w32) (sum c) (omega (arith, word_below
 -- what is read of a word's number is that word
 pub overflow_cast-result-then-code-lt0 : goal.overflow_cast-result-then-code-lt0
 overflow_cast-result-then-code-lt0 c =
-    subst⁻¹ (λ (z : ℤ). T (non_neg z) × Fits w16 (nat_abs z)) (to_z-of_z (add-result c) ∙ sum c)
+    subst⁻¹ (λ (z : ℤ). T (non_neg z) × Fits w16 (nat_abs z)) (to_z-of_z (overflow_add-result c) ∙ sum c)
     (tt, record { fits = word_below c.args.code c.ranges.code })
 
 pub overflow_cast-result-else-code-lt0 : goal.overflow_cast-result-else-code-lt0
@@ -45,7 +45,7 @@ overflow_cast-result-else-code-lt0 c =
     (tt, record { fits = word_below c.args.code c.ranges.code })
 
 pub returns-then-code-lt0 : goal.returns-then-code-lt0
-returns-then-code-lt0 c = ap nat_abs (to_z-of_z (add-result c) ∙ sum c)
+returns-then-code-lt0 c = ap nat_abs (to_z-of_z (overflow_add-result c) ∙ sum c)
 
 pub returns-else-code-lt0 : goal.returns-else-code-lt0
 returns-else-code-lt0 c = ap nat_abs (plain c)

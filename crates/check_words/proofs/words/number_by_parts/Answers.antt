@@ -11,7 +11,7 @@ use Rattle.check_words.proofs.words.number_by_parts.Goals as goal
 
 
 -- what the two parts stay below
-first : (c : goal.After-number_of) → c.number_of.result < 2 ^ 32
+first : (c : goal.After-number_of-2) → c.number_of.result < 2 ^ 32
 first c =
     let s = c in
     subst (λ (n : ℕ). c.number_of.result < 2 ^ (8 * n)) (first-four s.args.bytes.now s.args.rest s.requires.0) c.number_of.ensures.upper_bound
@@ -51,11 +51,11 @@ number_of-requires c =
 pub overflow_add-result : goal.overflow_add-result
 overflow_add-result c =
     let s = c in
-    record { fits = fits s.args.rest s.requires.1 (first c.before.before) (second c) }
+    record { fits = fits s.args.rest s.requires.1 (first c) (second c) }
 
 pub returns : goal.returns
 returns c =
     let s = c in
-    let a = first c.before.before in
+    let a = first c in
     record { value = ap (λ (x : ℕ). x + c.number_of-2.result) (moved s.args.rest s.requires.1 a)
           ∙ two_parts s.args.bytes.now s.args.rest s.requires.0 c.number_of.ensures.value c.number_of-2.ensures.value; upper_bound = below s.args.rest s.requires.1 a (second c) }

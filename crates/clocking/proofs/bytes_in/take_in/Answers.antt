@@ -14,7 +14,7 @@ use Rattle.clocking.proofs.bytes_in.take_in.Goals as goal
 pub shape_of-state-then-seen-eq3 : goal.shape_of-state-then-seen-eq3
 shape_of-state-then-seen-eq3 c =
     let start = c in
-    ap length (returns c).1 ∙ length-taken_in start.args.table.now start.args.byte start.args.state.now start.requires ∙ sym start.requires
+    ap length (returns-then-seen-eq3 c).1 ∙ length-taken_in start.args.table.now start.args.byte start.args.state.now start.requires ∙ sym start.requires
 
 pub returns-then-seen-eq3 : goal.returns-then-seen-eq3
 unfolding headed

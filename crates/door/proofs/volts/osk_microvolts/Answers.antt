@@ -34,4 +34,4 @@ overflow_cast-result c =
     subst⁻¹ (SFits w32) (same c) (fits-by-size w32 (microvolts (record { 0 = code })) (omega (arith, code-size code (fits c.before))))
 
 pub returns : goal.returns
-returns c = to_z-of_z (cast-result c) ∙ same c
+returns c = to_z-of_z (overflow_cast-result c) ∙ same c

@@ -107,5 +107,5 @@ returns c =
     ∙ ap₂ ◌+◌
     (ap₂ ◌+◌
     (ap₂ ◌+◌ (ap₂ (λ (x y : ℤ). cond (lt_z x y) 0x01 0) code low) (ap₂ (λ (x y : ℤ). cond (lt_z x y) 0x02 0) high code))
-    (ap₂ (λ (x y : ℤ). cond (lt_z x y) 0x04 0) step (to_z-of_z (sub-fell c) ∙ ap₂ ◌-ℤ◌ last code)))
-    (ap₂ (λ (x y : ℤ). cond (lt_z x y) 0x08 0) step (to_z-of_z (sub-rose c) ∙ ap₂ ◌-ℤ◌ code last))
+    (ap₂ (λ (x y : ℤ). cond (lt_z x y) 0x04 0) step (to_z-of_z (overflow_sub-fell c) ∙ ap₂ ◌-ℤ◌ last code)))
+    (ap₂ (λ (x y : ℤ). cond (lt_z x y) 0x08 0) step (to_z-of_z (overflow_sub-rose c) ∙ ap₂ ◌-ℤ◌ code last))

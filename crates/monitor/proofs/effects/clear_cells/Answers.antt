@@ -10,6 +10,7 @@ use Rattle.monitor.specs.Effects.{cleared_byte, done}
 use Rattle.records.proofs.Making.{making_start, making_more, making_end}
 use Rattle.monitor.proofs.effects.clear_cells.Goals as goal
 
+
 even : (i : ℕ) → i % 2 ≡ 0 → 0 ≡ cleared_byte i
 unfolding cleared_byte
 even i h = ap (λ (b : Bool). cond b 0 0x80) (sym (eq-eqb (i % 2) 0 h))
@@ -20,6 +21,12 @@ uneven i h = ap (λ (b : Bool). cond b 0 0x80) (sym (ne_eqb (i % 2) 0 h))
 
 pub loop-i-init : goal.loop-i-init
 loop-i-init c = making_start _ _ _ _
+
+pub loop-i-preserved : goal.loop-i-preserved
+loop-i-preserved c =
+    let i = c.loop-i.i in
+    making_more _ _ _ _ c.loop-i.invariant c.loop-i-test.true
+    (⊎_elim (λ w. w.1 ∙ even i w.0.taken) (λ w. w.1 ∙ uneven i w.0.left) c.if-i-eq0.branch)
 
 pub shape_of-rec : goal.shape_of-rec
 shape_of-rec c = c.loop-i.invariant.size

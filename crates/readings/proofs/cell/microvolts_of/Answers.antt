@@ -22,7 +22,7 @@ sum : (c : goal.After-struct_told-1)
     → pos 1_500_000 +ℤ to_z w64 (of_z w64 (pos 150 *ℤ to_z w64 (of_z w64 (to_z w32 (of_z w32 c.args.code.0)))))
     ≡ microvolts c.args.code
 unfolding microvolts
-sum c = ap (λ (z : ℤ). pos 1_500_000 +ℤ z) (to_z-of_z (mul-result c) ∙ steps c)
+sum c = ap (λ (z : ℤ). pos 1_500_000 +ℤ z) (to_z-of_z (overflow_mul-result c) ∙ steps c)
 
 pub overflow_cast-result : goal.overflow_cast-result
 overflow_cast-result c = widens w64 tt (fits c)
@@ -34,4 +34,4 @@ pub overflow_add-result : goal.overflow_add-result
 overflow_add-result c = subst⁻¹ (SFits w64) (sum c) (microvolts_fit c.args.code (fits c))
 
 pub returns : goal.returns
-returns c = to_z-of_z (add-result c) ∙ sum c
+returns c = to_z-of_z (overflow_add-result c) ∙ sum c

@@ -12,6 +12,7 @@ use Rattle.thresholds.specs.Thresholds.{codes_of}
 use Rattle.thresholds.proofs.TwosComplement.{widens, widened, times_fit}
 use Rattle.thresholds.proofs.thresholds.codes_of.Goals as goal
 
+
 fits : (c : goal.After-struct_told-1) → SFits w16 c.args.step.0
 fits c = record { sfits = c.struct_told-1.given.0.1 }
 
@@ -21,3 +22,8 @@ overflow_cast-result c = widens w32 tt (fits c)
 pub overflow_mul-result : goal.overflow_mul-result
 overflow_mul-result c = rw (widened w32 tt (fits c)) (times_fit _ c.args.step.0 (omega arith) (fits c))
 
+pub returns : goal.returns
+unfolding codes_of
+returns c =
+    ap {B = ResultCode} (λ (z : ℤ). record { 0 = z })
+    (to_z-of_z (overflow_mul-result c) ∙ ap (λ (z : ℤ). z *ℤ pos 16) (widened w32 tt (fits c)))

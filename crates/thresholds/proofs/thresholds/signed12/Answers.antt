@@ -15,3 +15,6 @@ overflow_sub-result c =
 pub returns-then-n-lt2048 : goal.returns-then-n-lt2048
 returns-then-n-lt2048 c = to_z_pos w16 (omega arith) ∙ sym (signed_low 12 c.if-n-lt2048.true)
 
+pub returns-else-n-lt2048 : goal.returns-else-n-lt2048
+returns-else-n-lt2048 c =
+    to_z-of_z (overflow_sub-result c) ∙ taken_away w16 {m = 4095} (omega arith) (omega arith) ∙ sym (signed_high 12 c.if-n-lt2048.false)
