@@ -22,7 +22,7 @@ const PASS_COUNT: u8 = 0x42;
 // Of eight bytes.
 fn of_eight(bytes: &[u8], ran_out: bool) -> Verdict
     requires { length bytes.now ≡ message_size }
-    ensures { result ≡ verdict_of bytes.now ran_out_lem }
+    ensures { result ≡ verdict_of bytes.now ran_out }
 {
     if ran_out {
         return Verdict::TimedOut;
@@ -49,7 +49,7 @@ fn of_eight(bytes: &[u8], ran_out: bool) -> Verdict
 
 // How did a heartbeat end, by the bytes that came and whether the time ran out?
 pub fn verdict_on(bytes: &[u8], ran_out: bool) -> Verdict
-    ensures { result ≡ verdict bytes.now ran_out_lem }
+    ensures { result ≡ verdict bytes.now ran_out }
 {
     if bytes.len() == MESSAGE_SIZE {
         return of_eight(bytes, ran_out);

@@ -88,6 +88,7 @@ some_number BothDamaged = omega arith
 
 pub first_refuses : {A : Type 0} (rows : List Row) (refused : Refusal → A) (accepted : A) (r : Refusal) → First rows r
     → decide rows refused accepted ≡ refused r
+first_refuses [] refused accepted r h = elim h [ ]
 first_refuses (row ∷ rows) refused accepted r (inl h) = holds_here row rows refused accepted h.0 ∙ ap refused h.1
 first_refuses (row ∷ rows) refused accepted r (inr h) = holds_not row rows refused accepted h.0 ∙ first_refuses rows refused accepted r h.1
 

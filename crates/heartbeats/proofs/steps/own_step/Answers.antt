@@ -30,4 +30,4 @@ returns c =
     let measured = c.measure-passed in
     let a = c.args in
     let whole = c.requires in
-    record { count_value = c.counted_down-left.ensures ∙ counted a.rec.now whole measured.ensures.0 measured.ensures.1 a.count; flags_value = ap (bit_or a.flags) c.byte_at-own.ensures ∙ joined a.rec.now whole measured.ensures.0 measured.ensures.1 a.flags; rec_after = left a.rec.now whole measured.ensures.0 measured.ensures.1 }
+    record { count_value = c.counted_down-left.ensures ∙ counted a.rec.now whole measured.ensures.value measured.ensures.rec_after a.count; flags_value = ap (bit_or a.flags) c.byte_at-own.ensures ∙ joined a.rec.now whole measured.ensures.value measured.ensures.rec_after a.flags; rec_after = left a.rec.now whole measured.ensures.value measured.ensures.rec_after }

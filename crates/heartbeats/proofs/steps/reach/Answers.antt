@@ -72,7 +72,7 @@ returns-then-is_last c =
     let a = first.args in
     let both = by_tests a.message.now a.rec.now (is-record _ first.if-rec-ne-RECORD_SIZE.false) (sym test.hears.ensures ∙ not-false _ test.if-not-hears.false-raw) (sym asked.is_timeout-is_last.ensures ∙ last.if-is_last.true) in
     let own = own.own_step-own.ensures in
-    record { value = both.0; rec_after = marks a.message.now a.rec.now read.byte_at-count.ensures read.byte_at-flags.ensures own.0 own.1.0 own.1.1 c.byte_at-old.ensures c.judged.ensures ∙ both.1 }
+    record { value = both.0; rec_after = marks a.message.now a.rec.now read.byte_at-count.ensures read.byte_at-flags.ensures own.count_value own.flags_value own.rec_after c.byte_at-old.ensures c.judged.ensures ∙ both.1 }
 
 pub returns : goal.returns
 returns c =
@@ -84,5 +84,5 @@ returns c =
     let a = first.args in
     let both = by_tests a.message.now a.rec.now (is-record _ first.if-rec-ne-RECORD_SIZE.false) (sym test.hears.ensures ∙ not-false _ test.if-not-hears.false-raw) (sym asked.is_timeout-is_last.ensures ∙ c.if-is_last.false) in
     let own = own.own_step-own.ensures in
-    let left = left-with a.message.now a.rec.now read.byte_at-count.ensures read.byte_at-flags.ensures own.0 own.1.0 in
-    record { value = ap₂ Sends left.0 left.1 ∙ both.0; rec_after = own.1.1 ∙ both.1 }
+    let left = left-with a.message.now a.rec.now read.byte_at-count.ensures read.byte_at-flags.ensures own.count_value own.flags_value in
+    record { value = ap₂ Sends left.0 left.1 ∙ both.0; rec_after = own.rec_after ∙ both.1 }

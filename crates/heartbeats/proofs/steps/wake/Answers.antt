@@ -42,4 +42,4 @@ returns c =
     let start = read in
     let r = start.args.rec.now in
     let both = by_tests r (is-record r start.if-rec-ne-RECORD_SIZE.false) (sym start.is_manager.ensures ∙ not-false _ read.if-not-is_manager.false-raw) in
-    record { value = ap₂ Sends (own.ensures.0 ∙ ap (counted_down r) read.byte_in-count.ensures) own.ensures.1.0 ∙ both.0; rec_after = own.ensures.1.1 ∙ both.1 }
+    record { value = ap₂ Sends (own.ensures.count_value ∙ ap (counted_down r) read.byte_in-count.ensures) own.ensures.flags_value ∙ both.0; rec_after = own.ensures.rec_after ∙ both.1 }

@@ -28,10 +28,10 @@ pub returns-then-all_sound : goal.returns-then-all_sound
 unfolding monitors
 returns-then-all_sound c =
     let t = c.args.table.now in
-    ap (λ (b : Bool). cond b (monitors t) 0) (sym (by_records t c.if-n-lt1.false c.if-n-gt-MOST_MONITORS.false c.if-table-n.false ∙ sym c.All-sound.ensures ∙ c.if-all_sound.true))
+    ap (λ (b : Bool). cond b (monitors t) 0) (sym (by_records t c.if-n-lt1.false c.if-n-gt-MOST_MONITORS.false c.if-table-n.false ∙ sym c.all_sound.ensures ∙ c.if-all_sound.true))
 
 pub returns-else-all_sound : goal.returns-else-all_sound
 unfolding monitors
 returns-else-all_sound c =
     let t = c.args.table.now in
-    ap (λ (b : Bool). cond b (monitors t) 0) (sym (by_records t c.if-n-lt1.false c.if-n-gt-MOST_MONITORS.false c.if-table-n.false ∙ sym c.All-sound.ensures ∙ c.if-all_sound.false))
+    ap (λ (b : Bool). cond b (monitors t) 0) (sym (by_records t c.if-n-lt1.false c.if-n-gt-MOST_MONITORS.false c.if-table-n.false ∙ sym c.all_sound.ensures ∙ c.if-all_sound.false))

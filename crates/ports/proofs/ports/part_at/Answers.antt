@@ -13,4 +13,4 @@ returns c =
     let at : ℕ = a.place * 8 in
     let eight : at + 8 - at ≡ 8 = omega arith in
     ap₂ (λ (start count : ℕ). record { block = a.reply.ref_ptr.0; start = start; bytes = take count (drop at a.reply.now) })
-    (add_comm at a.reply.ptr.1) eight
+    (add_comm at a.reply.ref_ptr.1) eight

@@ -44,7 +44,7 @@ pub returns-in-Refused : goal.returns-in-Refused
 returns-in-Refused c =
     let q = c.args in
     let told = handed q.a q.b q.n q.k q.expected c.port_of-port.ensures
-    (ap (λ (start : ℕ). record { block = q.a.ptr.0; start = start; bytes = [] }) (sym (add-zero q.a.ptr.1))
+    (ap (λ (start : ℕ). record { block = q.a.ref_ptr.0; start = start; bytes = [] }) (sym (add-zero q.a.ref_ptr.1))
     ∙ ap (by_port (part q.a 0 0) (in_a q.a q.b q.n q.k) (in_b q.a q.b q.n q.k)) (sym c.enum_told-1.given.1)) in
     record { result_value = told.0; result_value_2 = told.1 }
 

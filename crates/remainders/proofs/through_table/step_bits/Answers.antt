@@ -17,17 +17,17 @@ use Rattle.remainders.proofs.through_table.step_bits.Goals as goal
 
 
 up : (c : goal.Start) → c.args.r * 2 ^ c.args.k % 2 ^ 32 ≡ c.args.r * 2 ^ c.args.k
-up c = mod-eq_of_lt (up_fits c.args.w c.args.k 32 (omega (arith, c.requires.0.width)) c.requires.0.below)
+up c = mod-eq_of_lt (up_fits c.args.w c.args.k 32 (omega (arith, c.requires.fitting.width)) c.requires.fitting.below)
 
 top : (c : goal.Start) → 1 * 2 ^ c.args.w % 2 ^ 32 ≡ 2 ^ c.args.w
-top c = power 32 (omega (arith, c.requires.0.width))
+top c = power 32 (omega (arith, c.requires.fitting.width))
 
 index : (c : goal.Start) → bit_xor (c.args.r * 2 ^ c.args.k % 2 ^ 32 / 2 ^ c.args.w) c.args.x < 256
 unfolding ◌⊕◌
 index c =
     let a = c.args in
     subst⁻¹ (λ (n : ℕ). bit_xor (n / 2 ^ a.w) a.x < 256) (up c)
-    (lt_of_lt_of_le (index_below a.w a.k c.requires.0.below c.requires.1.1.1) (pow_mono c.requires.1.1.0))
+    (lt_of_lt_of_le (index_below a.w a.k c.requires.fitting.below c.requires.k_bound.1) (pow_mono c.requires.k_bound.0))
 
 pub nonzero_rem-low : goal.nonzero_rem-low
 nonzero_rem-low c = subst⁻¹ (λ (n : ℕ). 0 < n) (top c) (pow_pos c.args.w)
@@ -35,7 +35,7 @@ nonzero_rem-low c = subst⁻¹ (λ (n : ℕ). 0 < n) (top c) (pow_pos c.args.w)
 pub overflow_cast-result : goal.overflow_cast-result
 overflow_cast-result c =
     let a = c.args in
-    let narrow : a.w ≤ 16 = omega (arith, c.requires.0.width) in
+    let narrow : a.w ≤ 16 = omega (arith, c.requires.fitting.width) in
     record {
       fits =
           subst⁻¹ (λ (n : ℕ). a.r * 2 ^ a.k % 2 ^ 32 % n < 2 ^ 16) (top c)
@@ -57,5 +57,5 @@ returns c =
     let s = c in
     let a = s.args in
     ap₂ (λ (n m : ℕ). bit_xor (n % m) (get_or a.table.now (bit_xor (n / 2 ^ a.w) a.x) 0)) (up s) (top s)
-    ∙ ap (λ (t : List ℕ). table_step a.w t a.k a.r a.x) s.requires.1.0
-    ∙ table_step_lem a.w a.g a.k s.requires.1.1.0 s.requires.0.below s.requires.1.1.1
+    ∙ ap (λ (t : List ℕ). table_step a.w t a.k a.r a.x) s.requires.table_value
+    ∙ table_step_lem a.w a.g a.k s.requires.k_bound.0 s.requires.fitting.below s.requires.k_bound.1

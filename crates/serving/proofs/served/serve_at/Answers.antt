@@ -67,6 +67,6 @@ returns c =
     let e = c.own_of-handed.ensures in
     let served-one = c.serve_whole.ensures in
     let told = served a.k a.table.now fits a.command a.own.now
-    (took a.k a.table.now fits a.command a.own.now _ w e served-one.0)
-    (kept a.k a.table.now fits a.command a.own.now _ w e served-one.1) in
+    (took a.k a.table.now fits a.command a.own.now _ w e served-one.value)
+    (kept a.k a.table.now fits a.command a.own.now _ w e served-one.table_after) in
     record { value = told.0; table_after = told.1 }
