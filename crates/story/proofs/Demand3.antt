@@ -240,8 +240,8 @@ frames_by_rules table buffer (Beside operation ∷ events) room =
 bytes-by_rules : (table state : List ℕ) (events : List Event) → by_bytes table state events ≡ by_rules table events
 unfolding by_bytes by_rules
 bytes-by_rules table state [] = refl
-bytes-by_rules table state (Frame frame ∷ events) = along-rules events (clocked-step table frame) (bytes-by_rules _ idle events)
-bytes-by_rules table state (Beside operation ∷ events) = along-rules events (operation_step table operation) (bytes-by_rules _ state events)
+bytes-by_rules table state (Frame frame ∷ events) = along-rules events (clocked-step table frame) (bytes-by_rules (table_released (clock_of (state_after_all table frame idle)) table) idle events)
+bytes-by_rules table state (Beside operation ∷ events) = along-rules events (operation_step table operation) (bytes-by_rules (promised table operation).table state events)
 
 -- ---- a load, by its halves
 
