@@ -15,7 +15,7 @@ pub returns-in-Reads : goal.returns-in-Reads
 unfolding keeps
 returns-in-Reads c =
     let a = c.args in
-    let e = sym c.enum_told-1.given.1 in
+    let e = sym c.in-Reads.is in
     let told = acted a.command a.own.now a.rec.now c.if-rec-ne-RECORD_SIZE.false (ap (λ (k : Command). takes k a.own.now a.rec.now) e) (c.lock.ensures ∙ ap (λ (k : Command). keeps k a.own.now a.rec.now) e) in
     record { value = told.0; rec_after = told.1 }
 
@@ -23,7 +23,7 @@ pub returns-in-Writes : goal.returns-in-Writes
 unfolding keeps
 returns-in-Writes c =
     let a = c.args in
-    let e = sym c.command-1.given.1 in
+    let e = sym c.in-Writes.is in
     let told = acted a.command a.own.now a.rec.now c.if-rec-ne-RECORD_SIZE.false
     (c.act_write.ensures.value ∙ ap (λ (k : Command). takes k a.own.now a.rec.now) e)
     (c.act_write.ensures.rec_after ∙ ap (λ (k : Command). keeps k a.own.now a.rec.now) e) in
@@ -33,7 +33,7 @@ pub returns-in-Bares : goal.returns-in-Bares
 unfolding keeps
 returns-in-Bares c =
     let a = c.args in
-    let e = sym c.command-in-Bares-1.given.1 in
+    let e = sym c.in-Bares.is in
     let told = acted a.command a.own.now a.rec.now c.if-rec-ne-RECORD_SIZE.false (ap (λ (k : Command). takes k a.own.now a.rec.now) e)
     (c.act_bare.ensures ∙ ap (λ (k : Command). keeps k a.own.now a.rec.now) e) in
     record { value = told.0; rec_after = told.1 }
@@ -42,6 +42,6 @@ pub returns-in-Unlisted : goal.returns-in-Unlisted
 unfolding keeps
 returns-in-Unlisted c =
     let a = c.args in
-    let e = sym c.enum_told-in-Unlisted-1.given.1 in
+    let e = sym c.in-Unlisted.is in
     let told = acted a.command a.own.now a.rec.now c.if-rec-ne-RECORD_SIZE.false (ap (λ (k : Command). takes k a.own.now a.rec.now) e) (ap (λ (k : Command). keeps k a.own.now a.rec.now) e) in
     record { value = told.0; rec_after = told.1 }

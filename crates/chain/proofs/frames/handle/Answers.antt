@@ -23,19 +23,19 @@ known table frame buffer e ready = subst (λ (j : Judged). ReadyIf j table frame
 pub serve_frame-taken-requires : goal.serve_frame-taken-requires
 serve_frame-taken-requires c =
     let a = c.args in
-    let ready = known a.table.now a.frame.now a.buffer.now c.command-1.given.1 c.judge.ensures.ready_if in
+    let ready = known a.table.now a.frame.now a.buffer.now c.in-Good.is c.judge.ensures.ready_if in
     (ready.whole, ready.few)
 
 pub returns-in-Bad : goal.returns-in-Bad
 returns-in-Bad c =
     let a = c.args in
-    let e = sym c.judge.ensures.value ∙ c.refusal-1.given.1 in
+    let e = sym c.in-Bad.ensures.value in
     record { value = sym (the_answer a.table.now a.frame.now a.buffer.now e); table_after = sym (the_table a.table.now a.frame.now a.buffer.now e); buffer_after = sym (the_buffer a.table.now a.frame.now a.buffer.now e) }
 
 pub returns-in-Good : goal.returns-in-Good
 returns-in-Good c =
     let a = c.args in
-    let good = c.command-1.given.1 in
+    let good = c.in-Good.is in
     let judged = c.judge.ensures in
     let ready = known a.table.now a.frame.now a.buffer.now good judged.ready_if in
     let fits = fitting _ _ a.table.now _ (whole_records _ a.table.now ready.few ready.whole) ready.enough in

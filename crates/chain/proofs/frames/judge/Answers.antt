@@ -15,7 +15,7 @@ returns-then-room-reply_size c =
     let t = a.table.now in
     let f = a.frame.now in
     let counted = c.sound_count.ensures in
-    let e = sym c.judge_head.ensures ∙ c.command-1.given.1 in
+    let e = sym c.in-Good.ensures in
     let head = head-good f (length f) c.sound_count.result e in
     let size = within_most _ _ head.few c.reply_size.ensures in
     record { value = sym (stop_room t f a.room counted e (subst (λ (x : ℕ). a.room < x) size c.if-room-reply_size.true)); ready_if = tt }
@@ -25,7 +25,7 @@ returns-in-Bad c =
     let a = c.args in
     let t = a.table.now in
     let f = a.frame.now in
-    record { value = sym (stop_head t f a.room c.sound_count.ensures (sym c.judge_head.ensures ∙ c.refusal-1.given.1)); ready_if = tt }
+    record { value = sym (stop_head t f a.room c.sound_count.ensures (sym c.in-Bad.ensures)); ready_if = tt }
 
 pub returns-else-room-reply_size : goal.returns-else-room-reply_size
 returns-else-room-reply_size c =
@@ -33,7 +33,7 @@ returns-else-room-reply_size c =
     let t = a.table.now in
     let f = a.frame.now in
     let counted = c.sound_count.ensures in
-    let e = sym c.judge_head.ensures ∙ c.command-1.given.1 in
+    let e = sym c.in-Good.ensures in
     let head = head-good f (length f) c.sound_count.result e in
     let size = within_most _ _ head.few c.reply_size.ensures in
     let enough = subst (λ (x : ℕ). x ≤ a.room) size c.if-room-reply_size.false in

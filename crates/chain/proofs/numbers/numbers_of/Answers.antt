@@ -8,7 +8,7 @@ use Rattle.chain.proofs.numbers.numbers_of.Goals as goal
 
 pub returns-in-Refused : goal.returns-in-Refused
 returns-in-Refused c =
-    ap {B = Numbers} (λ (n : ℕ). record { number = n; taken = 0; reply = 0 }) c.number_of.ensures ∙ ap numbers_of (sym c.answer-1.given.1)
+    ap {B = Numbers} (λ (n : ℕ). record { number = n; taken = 0; reply = 0 }) c.number_of.ensures ∙ ap numbers_of (sym c.in-Refused.is)
 
 pub returns-in-Accepted : goal.returns-in-Accepted
-returns-in-Accepted c = ap numbers_of (sym c.answer-in-Accepted-1.given.1)
+returns-in-Accepted c = ap numbers_of (sym c.in-Accepted.is)

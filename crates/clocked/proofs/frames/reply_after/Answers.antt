@@ -5,4 +5,4 @@ use Rattle.clocked.specs.Frames.{reply_of}
 use Rattle.clocked.proofs.frames.reply_after.Goals as goal
 
 pub returns-in-Good : goal.returns-in-Good
-returns-in-Good c = c.reply_size.ensures ∙ ap reply_of (sym c.judged-1.given.1)
+returns-in-Good c = c.reply_size.ensures ∙ ap reply_of (sym c.in-Good.is)

@@ -13,7 +13,7 @@ use Rattle.clocking.proofs.bytes_in.move_on.Goals as goal
 pub shift_windows-requires : goal.shift_windows-requires
 shift_windows-requires c =
     let s = c.args.state.now in
-    let kind = sym c.kind_in.ensures ∙ c.width-1.given.1 in
+    let kind = sym c.in-Fills.ensures in
     (search rules, (wide_fills s kind).most)
 
 pub returns-in-Fills : goal.returns-in-Fills
@@ -21,7 +21,7 @@ unfolding moved_on
 returns-in-Fills c =
     let a = c.args in
     let s = a.state.now in
-    let kind = sym c.kind_in.ensures ∙ c.width-1.given.1 in
+    let kind = sym c.in-Fills.ensures in
     record { value = fills_leaves s kind; state_after = c.shift_windows.ensures.state_after ∙ ap (λ (k : Kind). moved_on k a.byte s) (sym kind) }
 
 pub returns-in-Drains : goal.returns-in-Drains
@@ -29,7 +29,7 @@ unfolding moved_on
 returns-in-Drains c =
     let a = c.args in
     let s = a.state.now in
-    let kind : kind_in s ≡ Drains = sym c.kind_in.ensures ∙ c.enum_told-1.given.1 in
+    let kind : kind_in s ≡ Drains = sym c.in-Drains.ensures in
     record { value = drains_leaves s kind c.shift_windows-in-Drains.ensures.value; state_after = c.shift_windows-in-Drains.ensures.state_after ∙ ap (λ (k : Kind). moved_on k a.byte s) (sym kind) }
 
 pub returns-in-Still : goal.returns-in-Still
@@ -37,5 +37,5 @@ unfolding moved_on
 returns-in-Still c =
     let a = c.args in
     let s = a.state.now in
-    let kind : kind_in s ≡ Still = sym c.kind_in.ensures ∙ c.enum_told-in-Still-1.given.1 in
+    let kind : kind_in s ≡ Still = sym c.in-Still.ensures in
     record { value = still_leaves s kind; state_after = ap (λ (k : Kind). moved_on k a.byte s) (sym kind) }

@@ -13,21 +13,21 @@ use Rattle.discharge.proofs.question.discharge.Goals as goal
 
 
 -- the record's place, as the code found it
-found : (c : goal.Else-out-lt-CELL_COUNT) → placed c.args.table.now c.args.position ≡ At c.k-1.given.0.0
-found c = sym c.place_of.ensures ∙ c.k-1.given.1
+found : (c : goal.Else-out-lt-CELL_COUNT) → placed c.args.table.now c.args.position ≡ At c.in-At.k
+found c = sym c.in-At.ensures
 
 pub returns-then-phase-gt-LAST_PHASE : goal.returns-then-phase-gt-LAST_PHASE
 unfolding discharged outputs_after
 returns-then-phase-gt-LAST_PHASE c =
     let a = c.args in
-    let e = sym c.place_of.ensures ∙ c.k-1.given.1 in
+    let e = sym c.in-At.ensures in
     record { value = sym (phase_wrong a.table.now a.position a.phase _ Refused _ e c.if-phase-gt-LAST_PHASE.true); out_after = sym (phase_wrong a.table.now a.position a.phase _ (λ n. a.out.now) _ e c.if-phase-gt-LAST_PHASE.true) }
 
 pub returns-then-out-lt-CELL_COUNT : goal.returns-then-out-lt-CELL_COUNT
 unfolding discharged outputs_after
 returns-then-out-lt-CELL_COUNT c =
     let a = c.args in
-    let e = sym c.place_of.ensures ∙ c.k-1.given.1 in
+    let e = sym c.in-At.ensures in
     record { value = sym (no_room a.table.now a.position a.phase _ Refused _ e c.if-phase-gt-LAST_PHASE.false c.if-out-lt-CELL_COUNT.true); out_after = sym (no_room a.table.now a.position a.phase _ (λ n. a.out.now) _ e c.if-phase-gt-LAST_PHASE.false c.if-out-lt-CELL_COUNT.true) }
 
 pub overflow_mul-at : goal.overflow_mul-at
@@ -43,7 +43,7 @@ pub returns-in-Nowhere : goal.returns-in-Nowhere
 unfolding discharged outputs_after
 returns-in-Nowhere c =
     let a = c.args in
-    let e = sym c.place_of.ensures ∙ c.refusal-1.given.1 in
+    let e = sym c.in-Nowhere.ensures in
     record { value = sym (no_place a.table.now a.position a.phase _ Refused _ e); out_after = sym (no_place a.table.now a.position a.phase _ (λ n. a.out.now) _ e) }
 
 pub returns-else-out-lt-CELL_COUNT : goal.returns-else-out-lt-CELL_COUNT

@@ -17,12 +17,12 @@ use Rattle.door.proofs.hosts.osk_two_ports.Goals as goal
 in-reply-a : (c : goal.In-A-2) → let q = c.args in Asked q.a.now q.b.now q.monitors q.position
 in-reply-a c =
     let q = c.args in
-    asked-a q.a.now q.b.now q.monitors q.position q.expected _ (sym c.port_of.ensures ∙ c.differs-1.given.1)
+    asked-a q.a.now q.b.now q.monitors q.position q.expected _ (sym c.in-A.ensures)
 
 in-reply-b : (c : goal.In-B-2) → let q = c.args in Asked q.a.now q.b.now q.monitors q.position
 in-reply-b c =
     let q = c.args in
-    asked-b q.a.now q.b.now q.monitors q.position q.expected _ (sym c.port_of.ensures ∙ c.differs-in-B-1.given.1)
+    asked-b q.a.now q.b.now q.monitors q.position q.expected _ (sym c.in-B.ensures)
 
 pub overflow_sub-position : goal.overflow_sub-position
 overflow_sub-position c = let asked = in-reply-a c.before.before in omega (arith, asked.first, asked.last)
@@ -45,7 +45,7 @@ overflow_cast-monitors c = let asked = in-reply-b c.before.before in omega (arit
 pub returns-in-Refused : goal.returns-in-Refused
 returns-in-Refused c =
     let q = c.args in
-    as_told (port_parts q.monitors q.position) c.refused.ensures (sym c.port_of.ensures ∙ c.refusal-1.given.1)
+    as_told (port_parts q.monitors q.position) c.refused.ensures (sym c.in-Refused.ensures)
 
 pub returns-in-A : goal.returns-in-A
 unfolding place_a

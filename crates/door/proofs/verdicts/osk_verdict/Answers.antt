@@ -6,20 +6,20 @@ use Rattle.packing.proofs.Packed.{as_told}
 use Rattle.door.proofs.verdicts.osk_verdict.Goals as goal
 
 pub returns-in-Refused : goal.returns-in-Refused
-returns-in-Refused c = as_told verdict_parts c.refused.ensures (sym c.verdict_on.ensures ∙ c.refusal-1.given.1)
+returns-in-Refused c = as_told verdict_parts c.refused.ensures (sym c.in-Refused.ensures)
 
 pub returns-in-Passed : goal.returns-in-Passed
 returns-in-Passed c =
-    as_told verdict_parts c.accepted.ensures (sym c.verdict_on.ensures ∙ c.enum_told-1.given.1)
+    as_told verdict_parts c.accepted.ensures (sym c.in-Passed.ensures)
 
 pub returns-in-Failed : goal.returns-in-Failed
 returns-in-Failed c =
-    as_told verdict_parts c.accepted-in-Failed.ensures (sym c.verdict_on.ensures ∙ c.count-1.given.1)
+    as_told verdict_parts c.accepted-in-Failed.ensures (sym c.in-Failed.ensures)
 
 pub returns-in-Damaged : goal.returns-in-Damaged
 returns-in-Damaged c =
-    as_told verdict_parts c.accepted-in-Damaged.ensures (sym c.verdict_on.ensures ∙ c.enum_told-in-Damaged-1.given.1)
+    as_told verdict_parts c.accepted-in-Damaged.ensures (sym c.in-Damaged.ensures)
 
 pub returns-in-TimedOut : goal.returns-in-TimedOut
 returns-in-TimedOut c =
-    as_told verdict_parts c.accepted-in-TimedOut.ensures (sym c.verdict_on.ensures ∙ c.enum_told-in-TimedOut-1.given.1)
+    as_told verdict_parts c.accepted-in-TimedOut.ensures (sym c.in-TimedOut.ensures)

@@ -35,10 +35,10 @@ module _ (out : List Float) {p q : Pack} (e : p ≡ q) where
   out-by = ap (λ (x : Pack). summary_out x out) e
 
 is-nothing : (c : goal.In-Nothing) → Nothing ≡ summary_of c.args.codes.now
-is-nothing c = sym c.enum_told-1.given.1 ∙ c.summary_of.ensures
+is-nothing c = sym c.in-Nothing.is ∙ c.summary_of.ensures
 
-is_whole : (c : goal.In-Whole-2) → Whole c.summary-1.given.0.0 ≡ summary_of c.args.codes.now
-is_whole c = sym c.summary-1.given.1 ∙ c.summary_of.ensures
+is_whole : (c : goal.In-Whole-2) → Whole c.in-Whole.summary ≡ summary_of c.args.codes.now
+is_whole c = sym c.in-Whole.is ∙ c.summary_of.ensures
 
 -- three stores are the three places and what lies past them
 three-stores : (out : List Float) (x y z : Float) → summary_size ≤ length out → set (set (set out 0 x) 1 y) 2 z ≡ x ∷ y ∷ z ∷ drop summary_size out
@@ -62,7 +62,7 @@ returns-then-out-lt-SUMMARY_SIZE-2 c =
 pub bounds-out-1 : goal.bounds-out-1
 bounds-out-1 c =
     let out = c.args.out.now in
-    let lowest = c.summary-1.given.0.0.lowest in
+    let lowest = c.in-Whole.summary.lowest in
     let there : 1 < length (set out 0 lowest) = omega (arith, length-set out 0 lowest, c.if-out-lt-SUMMARY_SIZE-2.false) in
     there
 
@@ -76,7 +76,7 @@ pub returns-in-Refused : goal.returns-in-Refused
 returns-in-Refused c =
     let call = c in
     let a = call.args in
-    let is = sym c.refusal-1.given.1 ∙ call.summary_of.ensures in
+    let is = sym c.in-Refused.is ∙ call.summary_of.ensures in
     record { value = c.refused.ensures ∙ parts a.out.now is; out_after = out-by a.out.now is }
 
 pub returns-else-out-lt-SUMMARY_SIZE : goal.returns-else-out-lt-SUMMARY_SIZE

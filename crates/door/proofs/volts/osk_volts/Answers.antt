@@ -24,8 +24,8 @@ pub overflow_cast-wide : goal.overflow_cast-wide
 overflow_cast-wide c = widens w32 tt (fits c)
 
 pub returns-in-Volts : goal.returns-in-Volts
-returns-in-Volts c = ap volts_or_nan (sym c.volts-1.given.1 ∙ same c.before.before.before)
+returns-in-Volts c = ap volts_or_nan (sym c.in-Volts.is ∙ same c.before.before.before)
 
 pub returns-in-Cleared : goal.returns-in-Cleared
 unfolding of_bits div
-returns-in-Cleared c = ap volts_or_nan (sym c.enum_told-1.given.1 ∙ same c.before.before)
+returns-in-Cleared c = ap volts_or_nan (sym c.in-Cleared.is ∙ same c.before.before)

@@ -27,13 +27,13 @@ buildable c =
     let asked = c in
     let q = asked.args in
     accepted_buildable asked.command_of-command.result q.n (length q.values.now) (length q.buffer.now)
-    (sym asked.judge-built.ensures ∙ c.enum_told-1.given.1)
+    (sym asked.judge-built.ensures ∙ c.in-Length.is)
 
 pub returns-in_default : goal.returns-in_default
 returns-in_default c =
     let asked = c in
     let q = asked.args in
-    record { value = answer asked; buffer_after = sym (built-refused q.code q.n q.values.now q.buffer.now _ (sym (answer asked) ∙ c.enum_told-in_default-1.given.1)) }
+    record { value = answer asked; buffer_after = sym (built-refused q.code q.n q.values.now q.buffer.now _ (sym (answer asked) ∙ c.in_default.is)) }
 
 pub put_head-requires : goal.put_head-requires
 put_head-requires c =

@@ -18,7 +18,7 @@ use Rattle.host.proofs.frames.put_body.Goals as goal
 pub put_filler-requires : goal.put_filler-requires
 put_filler-requires c =
     let start = c in
-    let told = c.enum_told-1.given.1 in
+    let told = c.in-Reads.is in
     (omega (arith, start.requires.0), omega (arith, start.requires.2, ap (λ (k : Command). frame_length k start.args.n) told))
 
 pub put_payloads-requires : goal.put_payloads-requires
@@ -39,7 +39,7 @@ unfolding body
 returns-in-Reads c =
     let q = c.args in
     c.put_filler.ensures
-    ∙ ap (λ (k : Command). placed head_size (body k q.n q.values.now) q.buffer.now) (sym c.enum_told-1.given.1)
+    ∙ ap (λ (k : Command). placed head_size (body k q.n q.values.now) q.buffer.now) (sym c.in-Reads.is)
 
 pub returns-in-Writes : goal.returns-in-Writes
 unfolding body
@@ -57,11 +57,11 @@ unfolding body
 returns-in-Bares c =
     let q = c.args in
     sym (placed-none head_size q.buffer.now)
-    ∙ ap (λ (k : Command). placed head_size (body k q.n q.values.now) q.buffer.now) (sym c.enum_told-in-Bares-1.given.1)
+    ∙ ap (λ (k : Command). placed head_size (body k q.n q.values.now) q.buffer.now) (sym c.in-Bares.is)
 
 pub returns-in-Unlisted : goal.returns-in-Unlisted
 unfolding body
 returns-in-Unlisted c =
     let q = c.args in
     sym (placed-none head_size q.buffer.now)
-    ∙ ap (λ (k : Command). placed head_size (body k q.n q.values.now) q.buffer.now) (sym c.enum_told-in-Unlisted-1.given.1)
+    ∙ ap (λ (k : Command). placed head_size (body k q.n q.values.now) q.buffer.now) (sym c.in-Unlisted.is)

@@ -18,4 +18,4 @@ overflow_mul-result c =
 pub returns-in-Writes : goal.returns-in-Writes
 returns-in-Writes c =
     let n = c.args.n in
-    ap (λ (size : ℕ). size * n) c.data_size-size.ensures.value ∙ ap (λ (k : Command). value_count k n) (sym c.command-1.given.1)
+    ap (λ (size : ℕ). size * n) c.data_size-size.ensures.value ∙ ap (λ (k : Command). value_count k n) (sym c.in-Writes.is)

@@ -17,7 +17,7 @@ matched : (table : List ℕ) (position : ℕ) {came told : Placed} → came ≡ 
 matched table position e t = ap (by_place Unloaded Done) (sym t ∙ e) ∙ sym (compared-placed table position)
 
 pub returns-in-Nowhere : goal.returns-in-Nowhere
-returns-in-Nowhere c = matched _ _ c.place_of.ensures c.refusal-1.given.1
+returns-in-Nowhere c = matched _ _ c.place_of.ensures c.in-Nowhere.is
 
 pub returns-in-At : goal.returns-in-At
-returns-in-At c = matched _ _ c.place_of.ensures c.enum_told-1.given.1
+returns-in-At c = matched _ _ c.place_of.ensures c.in-At.is

@@ -10,13 +10,13 @@ use Rattle.loads.proofs.judged.judge_store.Goals as goal
 counted : (c : goal.Else-codes-ne-CELL_COUNT) → let a = c.args in stored a.table.now a.position a.codes.now ≡ of_codes a.codes.now 1
 counted c =
     let a = c.args in
-    let placed = sym c.judge_compare.ensures ∙ c.enum_told-1.given.1 in
+    let placed = sym c.in-Done.ensures in
     goes_on a.codes.now a.table.now a.position placed ∙ pass_3 a.codes.now c.if-codes-ne-CELL_COUNT.false
 
 pub returns-then-codes-ne-CELL_COUNT : goal.returns-then-codes-ne-CELL_COUNT
 returns-then-codes-ne-CELL_COUNT c =
     let a = c.args in
-    let placed = sym c.judge_compare.ensures ∙ c.enum_told-1.given.1 in
+    let placed = sym c.in-Done.ensures in
     sym (goes_on a.codes.now a.table.now a.position placed ∙ stop_3 a.codes.now c.if-codes-ne-CELL_COUNT.true)
 
 pub returns-then-any_cleared : goal.returns-then-any_cleared
@@ -27,7 +27,7 @@ returns-then-any_cleared c =
 pub returns-in-Unloaded : goal.returns-in-Unloaded
 returns-in-Unloaded c =
     let a = c.args in
-    sym (refused-before a.codes.now a.table.now a.position (sym c.judge_compare.ensures ∙ c.refusal-1.given.1))
+    sym (refused-before a.codes.now a.table.now a.position (sym c.in-Unloaded.ensures))
 
 pub returns-else-any_cleared : goal.returns-else-any_cleared
 returns-else-any_cleared c =

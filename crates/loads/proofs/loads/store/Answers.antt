@@ -8,19 +8,19 @@ use Rattle.loads.proofs.Place.{stored-first, stored_ready}
 use Rattle.loads.proofs.loads.store.Goals as goal
 
 pub overflow_sub-position : goal.overflow_sub-position
-overflow_sub-position c = omega (arith, stored-first _ _ _ (sym c.judge_store.ensures ∙ c.enum_told-1.given.1))
+overflow_sub-position c = omega (arith, stored-first _ _ _ (sym c.in-Done.ensures))
 
 pub store_at-requires : goal.store_at-requires
-store_at-requires c = stored_ready _ _ _ (sym c.judge_store.ensures ∙ c.enum_told-1.given.1)
+store_at-requires c = stored_ready _ _ _ (sym c.in-Done.ensures)
 
 pub returns-in-Unloaded : goal.returns-in-Unloaded
 returns-in-Unloaded c =
     let a = c.args in
-    let e = sym c.judge_store.ensures ∙ c.refusal-1.given.1 in
+    let e = sym c.in-Unloaded.ensures in
     record { value = sym e; table_after = sym (table-stored a.table.now a.position a.codes.now e) }
 
 pub returns-in-Done : goal.returns-in-Done
 returns-in-Done c =
     let a = c.args in
-    let e = sym c.judge_store.ensures ∙ c.enum_told-1.given.1 in
+    let e = sym c.in-Done.ensures in
     record { value = sym e; table_after = search rules ∙ sym (table-stored a.table.now a.position a.codes.now e) }

@@ -18,35 +18,35 @@ unsnapped r = refl
 
 pub returns-in-Mute : goal.returns-in-Mute
 unfolding done on_bytes anew
-returns-in-Mute c = ap₂ done (sym c.enum_told-1.given.1) refl
+returns-in-Mute c = ap₂ done (sym c.in-Mute.is) refl
 
 pub returns-in-Unmute : goal.returns-in-Unmute
 unfolding done on_bytes anew
-returns-in-Unmute c = ap₂ done (sym c.enum_told-in-Unmute-1.given.1) refl
+returns-in-Unmute c = ap₂ done (sym c.in-Unmute.is) refl
 
 pub returns-in-Rstcc : goal.returns-in-Rstcc
 unfolding done on_bytes anew
-returns-in-Rstcc c = ap₂ done (sym c.enum_told-in-Rstcc-1.given.1) refl
+returns-in-Rstcc c = ap₂ done (sym c.in-Rstcc.is) refl
 
 pub returns-in-Ulrr : goal.returns-in-Ulrr
 unfolding done on_bytes anew
-returns-in-Ulrr c = ap₂ done (sym c.enum_told-in-Ulrr-1.given.1) refl
+returns-in-Ulrr c = ap₂ done (sym c.in-Ulrr.is) refl
 
 pub returns-in-Clrcell : goal.returns-in-Clrcell
-returns-in-Clrcell c = c.clrcell.ensures ∙ ap₂ done (sym c.enum_told-in-Clrcell-1.given.1) refl
+returns-in-Clrcell c = c.clrcell.ensures ∙ ap₂ done (sym c.in-Clrcell.is) refl
 
 pub returns-in-Snap : goal.returns-in-Snap
-returns-in-Snap c = c.snap.ensures ∙ ap₂ done (sym c.enum_told-in-Snap-1.given.1) refl
+returns-in-Snap c = c.snap.ensures ∙ ap₂ done (sym c.in-Snap.is) refl
 
 pub returns-in-Unsnap : goal.returns-in-Unsnap
 returns-in-Unsnap c =
     c.unsnap.ensures
     ∙ unsnapped _
-    ∙ ap₂ done (sym c.enum_told-in-Unsnap-1.given.1) refl
+    ∙ ap₂ done (sym c.in-Unsnap.is) refl
 
 pub returns-in-Cmen : goal.returns-in-Cmen
-returns-in-Cmen c = c.cmen.ensures ∙ ap₂ done (sym c.enum_told-in-Cmen-1.given.1) refl
+returns-in-Cmen c = c.cmen.ensures ∙ ap₂ done (sym c.in-Cmen.is) refl
 
 pub returns-in-Cmdis : goal.returns-in-Cmdis
 unfolding done on_bytes anew
-returns-in-Cmdis c = ap₂ done (sym c.enum_told-in-Cmdis-1.given.1) refl
+returns-in-Cmdis c = ap₂ done (sym c.in-Cmdis.is) refl

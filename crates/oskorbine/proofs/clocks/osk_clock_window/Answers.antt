@@ -12,14 +12,14 @@ pub overflow_cast-size : goal.overflow_cast-size
 overflow_cast-size c =
     let call = c in
     let a = call.args in
-    omega (arith, (fits_as_told looked_parts (sym call.look.ensures.value ∙ c.size-1.given.1) (look_fits a.state.now a.position (length a.out.now))).second_fits)
+    omega (arith, (fits_as_told looked_parts (sym call.look.ensures.value ∙ c.in-Holds.is) (look_fits a.state.now a.position (length a.out.now))).second_fits)
 
 pub returns-in-Refused : goal.returns-in-Refused
 returns-in-Refused c =
     let done = c.look.ensures in
-    record { value = as_told looked_parts c.refused.ensures (sym done.value ∙ c.refusal-1.given.1); out_after = done.out_after }
+    record { value = as_told looked_parts c.refused.ensures (sym done.value ∙ c.in-Refused.is); out_after = done.out_after }
 
 pub returns-in-Holds : goal.returns-in-Holds
 returns-in-Holds c =
     let done = c.look.ensures in
-    record { value = as_told looked_parts c.accepted.ensures (sym done.value ∙ c.size-1.given.1); out_after = done.out_after }
+    record { value = as_told looked_parts c.accepted.ensures (sym done.value ∙ c.in-Holds.is); out_after = done.out_after }

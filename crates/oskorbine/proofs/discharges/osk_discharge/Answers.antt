@@ -30,17 +30,17 @@ pub overflow_cast-outputs : goal.overflow_cast-outputs
 overflow_cast-outputs c =
     let call = c in
     let a = call.args in
-    let fit = fits_as_told discharged_parts (sym call.discharge.ensures.value ∙ c.outputs-1.given.1) (discharge_fits a.table.now a.position call.events_in.result a.phase (length a.out.now)) in
+    let fit = fits_as_told discharged_parts (sym call.discharge.ensures.value ∙ c.in-On.is) (discharge_fits a.table.now a.position call.events_in.result a.phase (length a.out.now)) in
     omega (arith, fit.first_fits)
 
 pub returns-in-Refused : goal.returns-in-Refused
 returns-in-Refused c =
     let call = c in
-    let told = as-asked _ _ _ _ call.events_in.ensures call.discharge.ensures.value call.discharge.ensures.out_after c.refusal-1.given.1 c.refused.ensures in
+    let told = as-asked _ _ _ _ call.events_in.ensures call.discharge.ensures.value call.discharge.ensures.out_after c.in-Refused.is c.refused.ensures in
     record { value = told.0; out_after = told.1 }
 
 pub returns-in-On : goal.returns-in-On
 returns-in-On c =
     let call = c in
-    let told = as-asked _ _ _ _ call.events_in.ensures call.discharge.ensures.value call.discharge.ensures.out_after c.outputs-1.given.1 c.accepted.ensures in
+    let told = as-asked _ _ _ _ call.events_in.ensures call.discharge.ensures.value call.discharge.ensures.out_after c.in-On.is c.accepted.ensures in
     record { value = told.0; out_after = told.1 }

@@ -40,7 +40,7 @@ returns-in-Silent c =
     let l = c.loop-i in
     let more = subst (λ (x : ℕ). l.i < x) c.hops-last.ensures c.loop-i-test.true in
     let came = c.reach_at.ensures in
-    let told = stopped _ _ _ _ _ _ l.invariant start.requires.0 more c.behind.ensures c.message-own.ensures came.value came.table_after c.enum_told-1.given.1 in
+    let told = stopped _ _ _ _ _ _ l.invariant start.requires.0 more c.behind.ensures c.message-own.ensures came.value came.table_after c.in-Silent.is in
     record { result_value = told.0; table_after = told.1 }
 
 pub overflow_add-i : goal.overflow_add-i
@@ -57,7 +57,7 @@ loop-i-preserved c =
     let l = c.loop-i in
     let more = subst (λ (x : ℕ). l.i < x) c.hops-last.ensures c.loop-i-test.true in
     let came = c.reach_at.ensures in
-    next_lap _ _ _ _ _ _ l.invariant start.requires.0 more c.behind.ensures c.message-own.ensures came.value came.table_after c.count-1.given.1
+    next_lap _ _ _ _ _ _ l.invariant start.requires.0 more c.behind.ensures c.message-own.ensures came.value came.table_after c.in-Sends.is
 
 pub shape_of-table : goal.shape_of-table
 shape_of-table c = c.loop-i.invariant.whole ∙ sym c.requires.2

@@ -5,12 +5,12 @@ use Rattle.passing.proofs.operations.hand_out.Goals as goal
 
 pub returns-in-Silent : goal.returns-in-Silent
 returns-in-Silent c =
-    let told = nothing_out c.args.out.now c.enum_told-1.given.1 in
+    let told = nothing_out c.args.out.now c.in-Silent.is in
     record { value = told.0; out_after = told.1 }
 
 pub returns-in-Sends : goal.returns-in-Sends
 returns-in-Sends c =
     let start = c in
     let a = start.args in
-    let told = message_out a.out.now _ _ start.requires c.beat-1.given.1 c.message-own.ensures c.put.ensures in
+    let told = message_out a.out.now _ _ start.requires c.in-Sends.is c.message-own.ensures c.put.ensures in
     record { value = told.0; out_after = told.1 }

@@ -13,14 +13,14 @@ pub returns-then-bytes-ne-MESSAGE_SIZE : goal.returns-then-bytes-ne-MESSAGE_SIZE
 unfolding relay_refusals place_refusals
 returns-then-bytes-ne-MESSAGE_SIZE c =
     let a = c.args in
-    let e = sym c.place_of.ensures ∙ c.k-1.given.1 in
+    let e = sym c.in-At.ensures in
     sym (then-later a.table.now a.position (message_row a.bytes ∷ out_row a.room ∷ []) e ∙ wrong_length a.room Nowhere _ a.bytes c.if-bytes-ne-MESSAGE_SIZE.true)
 
 pub returns-then-room-lt-MESSAGE_SIZE : goal.returns-then-room-lt-MESSAGE_SIZE
 unfolding relay_refusals place_refusals
 returns-then-room-lt-MESSAGE_SIZE c =
     let a = c.args in
-    let e = sym c.place_of.ensures ∙ c.k-1.given.1 in
+    let e = sym c.in-At.ensures in
     sym
     (then-later a.table.now a.position (message_row a.bytes ∷ out_row a.room ∷ []) e
     ∙ right-length a.room Nowhere _ a.bytes c.if-bytes-ne-MESSAGE_SIZE.false
@@ -30,14 +30,14 @@ pub returns-in-Nowhere : goal.returns-in-Nowhere
 unfolding relay_refusals place_refusals
 returns-in-Nowhere c =
     let a = c.args in
-    let e = sym c.place_of.ensures ∙ c.refusal-1.given.1 in
+    let e = sym c.in-Nowhere.ensures in
     sym (no_place a.table.now a.position (message_row a.bytes ∷ out_row a.room ∷ []) e)
 
 pub returns-else-room-lt-MESSAGE_SIZE : goal.returns-else-room-lt-MESSAGE_SIZE
 unfolding relay_refusals place_refusals
 returns-else-room-lt-MESSAGE_SIZE c =
     let a = c.args in
-    let e = sym c.place_of.ensures ∙ c.k-1.given.1 in
+    let e = sym c.in-At.ensures in
     sym
     (then-later a.table.now a.position (message_row a.bytes ∷ out_row a.room ∷ []) e
     ∙ right-length a.room Nowhere _ a.bytes c.if-bytes-ne-MESSAGE_SIZE.false

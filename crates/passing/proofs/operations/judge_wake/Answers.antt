@@ -13,19 +13,19 @@ pub returns-then-room-lt-MESSAGE_SIZE : goal.returns-then-room-lt-MESSAGE_SIZE
 unfolding wake_refusals place_refusals
 returns-then-room-lt-MESSAGE_SIZE c =
     let a = c.args in
-    let e = sym c.place_of.ensures ∙ c.k-1.given.1 in
+    let e = sym c.in-At.ensures in
     sym (then-later a.table.now a.position (out_row a.room ∷ []) e ∙ no_room a.room Nowhere _ c.if-room-lt-MESSAGE_SIZE.true)
 
 pub returns-in-Nowhere : goal.returns-in-Nowhere
 unfolding wake_refusals place_refusals
 returns-in-Nowhere c =
     let a = c.args in
-    let e = sym c.place_of.ensures ∙ c.refusal-1.given.1 in
+    let e = sym c.in-Nowhere.ensures in
     sym (no_place a.table.now a.position (out_row a.room ∷ []) e)
 
 pub returns-else-room-lt-MESSAGE_SIZE : goal.returns-else-room-lt-MESSAGE_SIZE
 unfolding wake_refusals place_refusals
 returns-else-room-lt-MESSAGE_SIZE c =
     let a = c.args in
-    let e = sym c.place_of.ensures ∙ c.k-1.given.1 in
+    let e = sym c.in-At.ensures in
     sym (then-later a.table.now a.position (out_row a.room ∷ []) e ∙ has_room a.room Nowhere _ c.if-room-lt-MESSAGE_SIZE.false)

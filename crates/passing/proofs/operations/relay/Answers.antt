@@ -15,8 +15,8 @@ abbrev start : (c : goal.In-At-2) → goal.Start
 start c = c.before.before.before.before.before.before.before
 
 -- the record's place, as the code found it
-found : (c : goal.In-At-2) → decide (relay_refusals (start c).args.table.now (start c).args.position (length (start c).args.message.now) (length (start c).args.out.now)) Nowhere (At ((start c).args.position - 1)) ≡ At c.k-1.given.0.0
-found c = sym c.judge_relay.ensures ∙ c.k-1.given.1
+found : (c : goal.In-At-2) → decide (relay_refusals (start c).args.table.now (start c).args.position (length (start c).args.message.now) (length (start c).args.out.now)) Nowhere (At ((start c).args.position - 1)) ≡ At c.in-At.k
+found c = sym c.in-At.ensures
 
 pub reach_at-beat-requires : goal.reach_at-beat-requires
 reach_at-beat-requires c = relay_lies _ _ _ _ (found c.before.before)
@@ -33,7 +33,7 @@ returns-then-hand_out c =
 
 pub returns-in-Nowhere : goal.returns-in-Nowhere
 returns-in-Nowhere c =
-    let told = relay_stays _ _ _ _ (sym c.judge_relay.ensures ∙ c.refusal-1.given.1) in
+    let told = relay_stays _ _ _ _ (sym c.in-Nowhere.ensures) in
     record { value = told.0; table_after = told.1.0; out_after = told.1.1 }
 
 pub returns-else-hand_out : goal.returns-else-hand_out

@@ -9,8 +9,8 @@ use Rattle.passing.proofs.operations.time_out.Goals as goal
 
 
 -- the record's place, as the code found it
-found : (c : goal.In-At-2) → placed c.args.table.now c.args.position ≡ At c.k-1.given.0.0
-found c = sym c.place_of.ensures ∙ c.k-1.given.1
+found : (c : goal.In-At-2) → placed c.args.table.now c.args.position ≡ At c.in-At.k
+found c = sym c.in-At.ensures
 
 pub run_out_at-requires : goal.run_out_at-requires
 run_out_at-requires c = (at-few _ _ (found c.before.before), at-fits _ _ (found c.before.before))
@@ -23,7 +23,7 @@ returns-then-run_out_at c =
 
 pub returns-in-Nowhere : goal.returns-in-Nowhere
 returns-in-Nowhere c =
-    let told = time_stays _ _ (sym c.place_of.ensures ∙ c.refusal-1.given.1) in
+    let told = time_stays _ _ (sym c.in-Nowhere.ensures) in
     record { value = told.0; table_after = told.1 }
 
 pub returns-else-run_out_at : goal.returns-else-run_out_at

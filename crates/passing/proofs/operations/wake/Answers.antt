@@ -16,8 +16,8 @@ abbrev start : (c : goal.In-At-2) → goal.Start
 start c = c.before.before.before.before.before.before
 
 -- the record's place, as the code found it
-found : (c : goal.In-At-2) → decide (wake_refusals (start c).args.table.now (start c).args.position (length (start c).args.out.now)) Nowhere (At ((start c).args.position - 1)) ≡ At c.k-1.given.0.0
-found c = sym c.judge_wake.ensures ∙ c.k-1.given.1
+found : (c : goal.In-At-2) → decide (wake_refusals (start c).args.table.now (start c).args.position (length (start c).args.out.now)) Nowhere (At ((start c).args.position - 1)) ≡ At c.in-At.k
+found c = sym c.in-At.ensures
 
 pub towards_a_at-to_a-requires : goal.towards_a_at-to_a-requires
 towards_a_at-to_a-requires c = wake_lies _ _ _ (found c.before.before)
@@ -32,7 +32,7 @@ pub returns-in-Nowhere : goal.returns-in-Nowhere
 unfolding woken_at table_after_wake out_after_wake
 returns-in-Nowhere c =
     let a = c.args in
-    let told = unsent_so a.table.now a.position a.out.now wake_sends wake_leaves (sym c.judge_wake.ensures ∙ c.refusal-1.given.1) in
+    let told = unsent_so a.table.now a.position a.out.now wake_sends wake_leaves (sym c.in-Nowhere.ensures) in
     record { value = told.0; table_after = told.1.0; out_after = told.1.1 }
 
 pub returns-in-At : goal.returns-in-At

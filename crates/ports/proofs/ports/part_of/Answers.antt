@@ -17,12 +17,12 @@ use Rattle.ports.proofs.ports.part_of.Goals as goal
 in-reply-a : (c : goal.In-A) → let q = c.args in Asked q.a.now q.b.now q.n q.k
 in-reply-a c =
     let q = c.args in
-    asked-a q.a.now q.b.now q.n q.k q.expected _ (sym c.port_of-port.ensures ∙ c.enum_told-in-A-1.given.1)
+    asked-a q.a.now q.b.now q.n q.k q.expected _ (sym c.in-A.ensures)
 
 in-reply-b : (c : goal.In-B) → let q = c.args in Asked q.a.now q.b.now q.n q.k
 in-reply-b c =
     let q = c.args in
-    asked-b q.a.now q.b.now q.n q.k q.expected _ (sym c.port_of-port.ensures ∙ c.enum_told-in-B-1.given.1)
+    asked-b q.a.now q.b.now q.n q.k q.expected _ (sym c.in-B.ensures)
 
 pub place_a-requires : goal.place_a-requires
 place_a-requires c = ((in-reply-a c).first, (in-reply-a c).last)
@@ -45,7 +45,7 @@ returns-in-Refused c =
     let q = c.args in
     let told = handed q.a q.b q.n q.k q.expected c.port_of-port.ensures
     (ap (λ (start : ℕ). record { block = q.a.ref_ptr.0; start = start; bytes = [] }) (sym (add-zero q.a.ref_ptr.1))
-    ∙ ap (by_port (part q.a 0 0) (in_a q.a q.b q.n q.k) (in_b q.a q.b q.n q.k)) (sym c.enum_told-1.given.1)) in
+    ∙ ap (by_port (part q.a 0 0) (in_a q.a q.b q.n q.k) (in_b q.a q.b q.n q.k)) (sym c.in-Refused.is)) in
     record { result_value = told.0; result_value_2 = told.1 }
 
 pub returns-in-A : goal.returns-in-A
