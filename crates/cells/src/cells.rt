@@ -31,6 +31,7 @@ fn word_of(code: i16) -> u16
 }
 
 // Byte i of the cells, low bytes first.
+#[tactic(auto, unfolding(crate::specs::Cells::code_byte))]
 fn code_byte(codes: &[i16], i: usize) -> u8
     requires { i < 2 * length codes.now }
     ensures { result ≡ code_byte codes.now i }

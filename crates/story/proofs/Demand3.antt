@@ -59,7 +59,7 @@ use Rattle.priorities.specs.Switches.{muted}
 use Rattle.discharge.specs.declared.question.Discharged.TheVariants.{On}
 use Rattle.discharge.specs.Question.{discharge_refusals, discharged, outputs_after}
 use Rattle.clocking.specs.Clock.{Clock, chained_by, clocked}
-use Rattle.releasing.specs.Release.{released}
+use Rattle.releasing.specs.Release.{released, table_released}
 use Rattle.clock_state.specs.State.{state_size, idle}
 use Rattle.clocking.specs.Bytes.{clock_of, state_after}
 use Rattle.clocking.proofs.View.{view}

@@ -12,7 +12,7 @@ returns-then-took c =
     let a = s.args in
     let begins = c.begin in
     let judged = c.accepts-took.ensures in
-    record { value = judged; rec_after = kept-good a.what a.own.now a.rec.now judged begins.ensures c.if-took.true (begins.auto.0 ∙ s.requires) c.write.ensures }
+    record { value = judged; rec_after = kept-good a.what a.own.now a.rec.now judged begins.ensures c.if-took.true (begins.auto.rec ∙ s.requires) c.write.ensures }
 
 pub returns-else-took : goal.returns-else-took
 returns-else-took c =

@@ -18,7 +18,7 @@ pub returns-then-taken : goal.returns-then-taken
 unfolding counted on_bytes anew
 returns-then-taken c =
     let locks = c.lock in
-    ap (set locks.new.0 counter.at) c.next_count.ensures
+    ap (set locks.new.rec counter.at) c.next_count.ensures
     ∙ ap counted locks.ensures
     ∙ ap (left c.args.rec.now) (sym c.if-taken.true)
 

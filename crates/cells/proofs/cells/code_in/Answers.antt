@@ -5,6 +5,7 @@ use Prim.Native.Nat.{ℕ, ◌+◌, ◌*◌}
 use native.Mathlib.Omega.{arith}
 use lib.IntN.{ℤ}
 use mir.Facts.{to_z-of_z}
+use mir.Syntax.{w32}
 use Rattle.records.specs.Record.{byte_in}
 use Rattle.records.proofs.Parts.{past_part}
 use Rattle.thresholds.specs.declared.thresholds.ResultCode.{ResultCode}
@@ -24,6 +25,6 @@ pub returns : goal.returns
 unfolding code_in
 returns c =
     ap {B = ResultCode} (λ (z : ℤ). record { 0 = z })
-    (to_z-of_z (record { sfits = c.signed16.type_inv })
+    (to_z-of_z {w = w32} (record { sfits = c.signed16.type_inv })
     ∙ c.signed16.ensures
     ∙ ap₂ (λ (m n : ℕ). signed 16 (m + n * 256)) c.byte_in-low.ensures c.byte_in-high.ensures)

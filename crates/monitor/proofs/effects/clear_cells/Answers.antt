@@ -2,13 +2,13 @@
 -- Assumes nothing.
 use mathlib.Core.Path.{◌≡◌, sym, ap, ◌∙◌}
 use mathlib.Core.Bool.{Bool, cond}
-use mathlib.Core.Logic.{⊎_elim}
 use Prim.Native.Nat.{ℕ, ◌-◌, ◌%◌}
 use borrow.Author.Tests.{eq-eqb, ne_eqb}
 use Rattle.records.specs.Record.{on_bytes}
 use Rattle.monitor.specs.Effects.{cleared_byte, done}
 use Rattle.records.proofs.Making.{making_start, making_more, making_end}
 use Rattle.monitor.proofs.effects.clear_cells.Goals as goal
+use Rattle.monitor.proofs.effects.clear_cells.Goals.{then-i-eq0, else-i-eq0}
 
 
 even : (i : ℕ) → i % 2 ≡ 0 → 0 ≡ cleared_byte i
@@ -26,7 +26,7 @@ pub loop-i-preserved : goal.loop-i-preserved
 loop-i-preserved c =
     let i = c.loop-i.i in
     making_more _ _ _ _ c.loop-i.invariant c.loop-i-test.true
-    (⊎_elim (λ w. w.1 ∙ even i w.0.taken) (λ w. w.1 ∙ uneven i w.0.left) c.if-i-eq0.branch)
+    (elim c.if-i-eq0.branch [ then-i-eq0 w ↦ w.value-is ∙ even i w.if-i-eq0.true | else-i-eq0 w ↦ w.value-is ∙ uneven i w.if-i-eq0.false ])
 
 pub shape_of-rec : goal.shape_of-rec
 shape_of-rec c = c.loop-i.invariant.size

@@ -15,7 +15,7 @@ pub step_bits-r-requires : goal.step_bits-r-requires
 step_bits-r-requires c =
     let pre = c.requires in
     let l = c.loop-i in
-    record { fitting = record { width = pre.0.width; polynomial = pre.0.polynomial; below = l.invariant.below }; table_value = pre.1; k_bound = (omega arith, (c.shared_slice_known-in-loop-i-1.given l.i).fits) }
+    record { fitting = record { width = pre.fitting.width; polynomial = pre.fitting.polynomial; below = l.invariant.below }; table_value = pre.table_value; k_bound = (omega arith, (c.shared_slice_known-in-loop-i-1.given l.i).fits) }
 
 pub loop-i-preserved : goal.loop-i-preserved
 loop-i-preserved c =

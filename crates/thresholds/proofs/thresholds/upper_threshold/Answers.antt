@@ -4,6 +4,7 @@ use mathlib.Core.Path.{ap, ap₂, ◌∙◌}
 use Prim.Native.Nat.{ℕ, ◌+◌, ◌*◌, ◌/◌}
 use lib.IntN.{ℤ}
 use mir.Facts.{to_z-of_z}
+use mir.Syntax.{w16}
 use Rattle.thresholds.specs.declared.thresholds.ThresholdStep.{ThresholdStep}
 use Rattle.thresholds.specs.Thresholds.{signed, upper}
 use Rattle.thresholds.proofs.thresholds.upper_threshold.Goals as goal
@@ -12,6 +13,6 @@ pub returns : goal.returns
 unfolding upper
 returns c =
     ap {B = ThresholdStep} (λ (z : ℤ). record { 0 = z })
-    (to_z-of_z (record { sfits = c.signed12.type_inv })
+    (to_z-of_z {w = w16} (record { sfits = c.signed12.type_inv })
     ∙ c.signed12.ensures
     ∙ ap₂ (λ (low high : ℕ). signed 12 (low / 16 + high * 16)) c.byte_in-low.ensures c.byte_in-high.ensures)
