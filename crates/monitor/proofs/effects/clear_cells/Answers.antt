@@ -25,8 +25,10 @@ loop-i-init c = making_start _ _ _ _
 pub loop-i-preserved : goal.loop-i-preserved
 loop-i-preserved c =
     let i = c.loop-i.i in
-    making_more _ _ _ _ c.loop-i.invariant c.loop-i-test.true
-    (elim c.if-i-eq0.branch [ then-i-eq0 w ↦ w.value-is ∙ even i w.if-i-eq0.true | else-i-eq0 w ↦ w.value-is ∙ uneven i w.if-i-eq0.false ])
+    elim c.if-i-eq0.branch [
+      then-i-eq0 w ↦ rw w.rec-is (making_more _ _ _ _ c.loop-i.invariant c.loop-i-test.true (even i w.if-i-eq0.true))
+    | else-i-eq0 w ↦ rw w.rec-is (making_more _ _ _ _ c.loop-i.invariant c.loop-i-test.true (uneven i w.if-i-eq0.false))
+    ]
 
 pub shape_of-rec : goal.shape_of-rec
 shape_of-rec c = c.loop-i.invariant.size

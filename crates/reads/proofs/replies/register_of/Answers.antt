@@ -8,7 +8,7 @@ use Rattle.reads.specs.Shown.{shown_part}
 use Rattle.reads.specs.Reply.{six_bytes, register}
 use Rattle.reads.proofs.Parts.{shows_copy, shows_live, shows_other}
 use Rattle.reads.proofs.replies.register_of.Goals as goal
-use Rattle.reads.proofs.replies.register_of.Goals.{then-of_cells, else-of_cells}
+use Rattle.reads.proofs.replies.register_of.Goals.{then-of_cells+else-is_snapped, else-of_cells}
 
 
 -- of the part that is shown
@@ -33,5 +33,5 @@ returns c =
     let a = c.args in
     c.part_bytes-2.ensures
     ∙ shown a.part a.rec.now
-    (elim c.if-of_cells.branch [ then-of_cells w ↦ shows_live a.part a.rec.now (sym w.is_snapped.ensures ∙ w.if-is_snapped.false)
+    (elim c.if-of_cells.branch [ then-of_cells+else-is_snapped w ↦ shows_live a.part a.rec.now (sym w.is_snapped.ensures ∙ w.if-is_snapped.false)
     | else-of_cells w ↦ shows_other a.part a.rec.now (sym c.of_cells.ensures ∙ w.if-of_cells.false) ])

@@ -24,7 +24,7 @@ step_bits-requires c =
         width = lit< tt;
         polynomial = lit< tt;
         below = subst⁻¹ (λ (n : ℕ). n < 2 ^ 10) c.over_bytes-r.ensures (remainder-below 10 (bits_of_bytes start.args.bytes.now) (lit< tt) (lit< tt));
-      }; table_value = (over_bytes-r-requires c.before).table_value; k_bound = start.requires }
+      }; table_value = (over_bytes-r-requires c.before.before).table_value; k_bound = start.requires }
 
 pub returns : goal.returns
 returns c =

@@ -49,13 +49,13 @@ pub offset_bounds-table-index : goal.offset_bounds-table-index
 offset_bounds-table-index c = omega (arith, index c)
 
 pub bounds-table-index : goal.bounds-table-index
-bounds-table-index c = index c.before
+bounds-table-index c = index c.before.before
 
 pub returns : goal.returns
 unfolding ◌⊕◌ table_step
 returns c =
     let s = c in
     let a = s.args in
-    ap₂ (λ (n m : ℕ). bit_xor (n % m) (get_or a.table.now (bit_xor (n / 2 ^ a.w) a.x) 0)) (up c.before.before) (top c.before.before)
+    ap₂ (λ (n m : ℕ). bit_xor (n % m) (get_or a.table.now (bit_xor (n / 2 ^ a.w) a.x) 0)) (up c.before.before.before) (top c.before.before.before)
     ∙ ap (λ (t : List ℕ). table_step a.w t a.k a.r a.x) s.requires.table_value
     ∙ table_step_lem a.w a.g a.k s.requires.k_bound.0 s.requires.fitting.below s.requires.k_bound.1
