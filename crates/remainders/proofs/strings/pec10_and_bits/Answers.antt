@@ -18,13 +18,14 @@ over_bytes-r-requires c =
     record { fitting = record { width = lit< tt; polynomial = lit< tt; below = lit< tt }; table_value = refl }
 
 pub step_bits-requires : goal.step_bits-requires
+unfolding table_of tabulate entry remainder step once bits_of odd ◌⊕◌ xor
 step_bits-requires c =
     let start = c in
     record { fitting = record {
         width = lit< tt;
         polynomial = lit< tt;
         below = subst⁻¹ (λ (n : ℕ). n < 2 ^ 10) c.over_bytes-r.ensures (remainder-below 10 (bits_of_bytes start.args.bytes.now) (lit< tt) (lit< tt));
-      }; table_value = (over_bytes-r-requires c.before.before).table_value; k_bound = start.requires }
+      }; table_value = refl; k_bound = start.requires }
 
 pub returns : goal.returns
 returns c =
