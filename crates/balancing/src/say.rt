@@ -2,7 +2,9 @@
 ghost use Rattle.std.specs.Prelude.{◌<◌};
 
 use crate::words::{BAR, BYTE, DUTIES, NUMBER, OUTPUTS, SIZE, TO, WORDS};
-use libc::STDOUT_FILENO;
+
+// The number of standard output among the process's open files.
+const STDOUT_FILENO: i32 = 1;
 
 // A byte of the words. In place of a # stands a number, and of a @ a byte in hexadecimal.
 fn one(byte: u8, number: u64, hex: u64) {

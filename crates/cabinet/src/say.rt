@@ -1,7 +1,9 @@
 // What is written to standard output. A write that fails shows as output that is missing.
 use crate::words::{BAR, BYTE, SIZE, WORDS};
-use libc::STDOUT_FILENO;
 use std::num::wrapping_add_u64;
+
+// The number of standard output among the process's open files.
+const STDOUT_FILENO: i32 = 1;
 
 // Exact: whole volts and six digits, so that no figure of the microvolts is lost. A 1 before the six keeps their zeros.
 fn volts(microvolts: u64) {

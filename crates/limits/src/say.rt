@@ -1,7 +1,9 @@
 // What is written to standard output. A write that fails shows as output that is missing.
 use crate::bench::{Bytes, ONE, ROOM, TWO, same};
 use crate::words::{AS_BEFORE, AT, MONITOR, SPACE, words};
-use libc::STDOUT_FILENO;
+
+// The number of standard output among the process's open files.
+const STDOUT_FILENO: i32 = 1;
 
 // A byte of the words. In place of a # stands a number, and of a @ one of 16 hexadecimal digits: then the next one's turn has come.
 fn one(byte: u8, number: u64) -> bool {

@@ -1,8 +1,10 @@
 // What is written to standard output. A write that fails shows as output that is missing.
 use crate::bench::{Message, SILENCE};
 use crate::words::{BAR, BYTE, KINDS, NOTHING, SIZE, WORDS};
-use libc::STDOUT_FILENO;
 use std::num::wrapping_sub_u64;
+
+// The number of standard output among the process's open files.
+const STDOUT_FILENO: i32 = 1;
 
 // A byte of the words, or the number that it stands for; one that is missing is 0.
 fn one(byte: u8, numbers: &[u64]) {

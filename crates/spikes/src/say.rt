@@ -1,7 +1,9 @@
 // What is written to standard output. A write that fails shows as output that is missing.
 use crate::words::{BAR, BYTE, SIZE, WORDS};
-use libc::STDOUT_FILENO;
 use std::num::wrapping_sub_u64;
+
+// The number of standard output among the process's open files.
+const STDOUT_FILENO: i32 = 1;
 
 // The number that a byte of the words stands for; one that is missing is 0.
 fn number_of(byte: u8, numbers: &[u64]) -> u64 {

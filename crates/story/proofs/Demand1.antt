@@ -15,7 +15,7 @@ use borrow.Author.Tests.{le-ltb}
 use Rattle.refusals.specs.declared.Refusal.{Refusal}
 use Rattle.refusals.specs.Numbers.{number_of}
 use Rattle.refusals.specs.Order.{Row, Passed}
-use Rattle.laying.proofs as bytes
+use Rattle.laying.proofs as laying
 use Rattle.refusals.proofs as refusals
 use Rattle.packing.proofs as packing
 use Rattle.pec.proofs as pec
@@ -95,7 +95,7 @@ Promised {L} {A} statement asked = ((M : Type 1) → statement M) × ((κ : L) (
 
 pub record Promises : Type 2 where
   -- bytes
-  put : Promised bytes.put.Statement.statement bytes.put.Reads.Asked
+  put : Promised laying.put.Statement.statement laying.put.Reads.Asked
   -- refusals
   number-of : Promised refusals.number_of.Statement.statement refusals.number_of.Reads.Asked
   -- an answer for C
@@ -290,7 +290,7 @@ pub record Demand1 : Type 2 where
 proved : Promises
 proved =
     record {
-      put = (λ M. bytes.put.Met.met, λ κ a. tt);
+      put = (λ M. laying.put.Met.met, λ κ a. tt);
       number-of = (λ M. refusals.number_of.Met.met, λ κ a. tt);
       pack = (λ M. packing.pack.Met.met, λ κ a. tt);
       pack_refused = (λ M. packing.refused.Met.met, λ κ a. tt);

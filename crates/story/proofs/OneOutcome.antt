@@ -11,7 +11,7 @@ use lib.Dec.{eqb, leb}
 use lib.ListN.{length, drop, get_or}
 use Rattle.laws.specs.Rows.{rows, joined, along}
 use Rattle.laying.specs.Placed.{placed, fits}
-use Rattle.laying.proofs as bytes
+use Rattle.laying.proofs as laying
 use Rattle.refusals.specs.Numbers.{number_of}
 use Rattle.refusals.proofs as refusals
 use Rattle.packing.specs.Packed.{packed, refused, accepted}
@@ -120,7 +120,7 @@ settles says = (says, λ κ a z z' e e' p q. one_outcome (says κ a z e p) (says
 
 pub record OneOutcome : Type 0 where
   -- bytes
-  put : Settles bytes.put.Reads.Post (λ κ z e. leaves z (e.0.now ∷ []))
+  put : Settles laying.put.Reads.Post (λ κ z e. leaves z (e.0.now ∷ []))
       (λ κ a. leaves tt (cond (fits a.1.0 a.1.1.0.now a.0.now) (placed a.1.0 a.1.1.0.now a.0.now) a.0.now ∷ []))
   -- refusals
   number-of : Settles refusals.number_of.Reads.Post (λ κ z e. leaves z []) (λ κ a. leaves (number_of a.0) [])

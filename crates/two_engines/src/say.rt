@@ -1,7 +1,9 @@
 // What is written to standard output. A write that fails shows as output that is missing.
 use crate::book::Book;
 use crate::world::World;
-use libc::STDOUT_FILENO;
+
+// The number of standard output among the process's open files.
+const STDOUT_FILENO: i32 = 1;
 
 // A byte of the words. In their place # has a number and @ one in hexadecimal; then the next one's turn has come.
 fn one(byte: u8, numbers: &[usize], place: usize) -> usize {

@@ -8,7 +8,8 @@ mod payloads;
 mod say;
 mod strings;
 
-use libc::STDIN_FILENO;
+// The number of standard input among the process's open files.
+const STDIN_FILENO: i32 = 0;
 
 // One more where `right`. No count here comes near the largest number: the test only spares each caller a bound.
 pub(crate) fn count(n: u64, right: bool) -> u64 {

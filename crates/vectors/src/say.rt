@@ -1,5 +1,7 @@
 // What is written to standard output. A write that fails shows as output that is missing.
-use libc::STDOUT_FILENO;
+
+// The number of standard output among the process's open files.
+const STDOUT_FILENO: i32 = 1;
 
 pub(crate) fn text(words: &[u8]) {
     io::write_all(STDOUT_FILENO, words);

@@ -4,7 +4,6 @@ use mathlib.Core.Path.{subst⁻¹}
 use lib.Signed.{lt_z, non_neg}
 use Rattle.cabinet.proofs.numbers.at_least_0.Goals as goal
 
-
 not-below : (z : ℤ) → lt_z z (pos 0) ≡ false → SFits w64 z → T (non_neg z) × Fits w64 (nat_abs z)
 not-below (pos n) h f = (tt, omega arith)
 not-below (negsuc n) h f = absurd (subst T h tt)

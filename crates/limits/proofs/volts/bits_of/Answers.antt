@@ -6,7 +6,6 @@ use lib.Dec.{T}
 use lib.Ieee.{Float, nan, inf, fin, is_nan, eq}
 use Rattle.limits.proofs.volts.bits_of.Goals as goal
 
-
 no_nan : (x : Float) → eq x x ≡ true → T (not (is_nan x))
 unfolding eq is_nan
 no_nan nan e = absurd (false≢true e)
