@@ -44,6 +44,7 @@ fn value_count(command: Command, n: usize) -> usize
 }
 
 // The refusals of a request, in their order, or the length of its frame: by the command and how many value bytes there are.
+#[tactic(auto, unfolding(crate::specs::Frames::judged, refusals::specs::Order::decide))]
 fn judge(command: Command, n: usize, given: usize, room: usize) -> Built
     ensures { result ≡ judged command n given room }
 {

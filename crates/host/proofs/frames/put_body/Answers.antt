@@ -27,9 +27,9 @@ put_payloads-requires c =
     let known = sized in
     let start = known in
     let size = sized.data_size-size.ensures.value in
-    let told = known.command-1.given.1 in (
+    let told = known.in-Writes.is in (
       start.requires.0,
-      subst⁻¹ (λ (m : ℕ). (m ≡ 6) ⊎ (m ≡ 2)) size (six_or_two known.command-1.given.0.0),
+      subst⁻¹ (λ (m : ℕ). (m ≡ 6) ⊎ (m ≡ 2)) size (six_or_two known.in-Writes.what),
       start.requires.1 ∙ ap (λ (k : Command). value_count k start.args.n) told ∙ ap (λ (m : ℕ). m * start.args.n) (sym size),
       omega (arith, start.requires.2, ap (λ (m : ℕ). head_size + (m + seal_size) * start.args.n) size ∙ sym (ap (λ (k : Command). frame_length k start.args.n) told)),
     )
@@ -50,7 +50,7 @@ returns-in-Writes c =
     let q = known.args in
     put.put_payloads.ensures
     ∙ ap (λ (m : ℕ). placed head_size (write_data (map sealed (rows m q.n q.values.now))) q.buffer.now) sized.data_size-size.ensures.value
-    ∙ ap (λ (k : Command). placed head_size (body k q.n q.values.now) q.buffer.now) (sym known.command-1.given.1)
+    ∙ ap (λ (k : Command). placed head_size (body k q.n q.values.now) q.buffer.now) (sym known.in-Writes.is)
 
 pub returns-in-Bares : goal.returns-in-Bares
 unfolding body

@@ -15,7 +15,6 @@ use Rattle.host.specs.Frames.{head_size, sealed}
 use Rattle.host.proofs.Payloads.{payload_within}
 use Rattle.host.proofs.frames.put_payload.Goals as goal
 
-
 at-most-six : {size : ℕ} → (size ≡ 6) ⊎ (size ≡ 2) → size ≤ 6
 at-most-six (inl e) = omega arith
 at-most-six (inr e) = omega arith
@@ -43,47 +42,38 @@ module _ {i n size : ℕ} (below : i < n) (most : n ≤ most_monitors) (few : si
   row_within : {m : ℕ} → m ≡ size * n → (n - (i + 1)) * size + size ≤ m
   row_within {m} e = row_fits size {n = n} (omega arith) (omega arith)
 
--- of the arguments
-few : (s : goal.Start) → s.args.size ≤ 6
-few s = at-most-six s.requires.2
-
-own_row : (s : goal.Start) → let q = s.args in length (row_at q.size (q.n - (q.i + 1)) q.values.now) ≡ q.size
-own_row s = let q = s.args in length_row-at q.size q.n q.values.now (q.n - (q.i + 1)) (omega (arith, s.requires.0)) (omega (arith, s.requires.3))
-
 pub overflow_mul-from : goal.overflow_mul-from
 overflow_mul-from c =
-    let s = c in
-    omega (arith, from-small s.requires.0 s.requires.1 (few s))
+    omega (arith, from-small c.requires.0 c.requires.1 (at-most-six c.requires.2))
 
 pub overflow_add-to : goal.overflow_add-to
 overflow_add-to c =
-    let s = c in
-    omega (arith, from-small s.requires.0 s.requires.1 (few s), few s)
+    let few = at-most-six c.requires.2 in
+    omega (arith, from-small c.requires.0 c.requires.1 few, few)
 
 pub overflow_add-at : goal.overflow_add-at
-overflow_add-at c = omega (arith, few c.before.before)
+overflow_add-at c = omega (arith, at-most-six c.requires.2)
 
 pub overflow_mul-at : goal.overflow_mul-at
 overflow_mul-at c =
-    let s = c in
-    omega (arith, at_small s.requires.0 s.requires.1 (few s))
+    omega (arith, at_small c.requires.0 c.requires.1 (at-most-six c.requires.2))
 
 pub overflow_add-at-2 : goal.overflow_add-at-2
 overflow_add-at-2 c =
-    let s = c in
-    omega (arith, at_small s.requires.0 s.requires.1 (few s))
+    omega (arith, at_small c.requires.0 c.requires.1 (at-most-six c.requires.2))
 
 pub slice_bounds-put_sealed-end : goal.slice_bounds-put_sealed-end
 slice_bounds-put_sealed-end c =
-    let s = c in
-    omega (arith, row_within s.requires.0 s.requires.1 (few s) s.requires.3)
+    omega (arith, row_within c.requires.0 c.requires.1 (at-most-six c.requires.2) c.requires.3)
 
 pub put_sealed-requires : goal.put_sealed-requires
 put_sealed-requires c =
-    let s = c in
-    let q = s.args in
-    let long = ap length (lent_row q.size (q.n - (q.i + 1)) q.values.now) ∙ own_row s in
-    (subst⁻¹ (λ (m : ℕ). (m ≡ 6) ⊎ (m ≡ 2)) long s.requires.2, omega (arith, long, payload_within q.size s.requires.0 s.requires.4))
+    let q = c.args in
+    let m = q.n - (q.i + 1) in
+    let own_row : length (row_at q.size m q.values.now) ≡ q.size =
+        length_row-at q.size q.n q.values.now m (omega (arith, c.requires.0)) (omega (arith, c.requires.3)) in
+    let long = ap length (lent_row q.size m q.values.now) ∙ own_row in
+    (subst⁻¹ (λ (m : ℕ). (m ≡ 6) ⊎ (m ≡ 2)) long c.requires.2, omega (arith, long, payload_within q.size c.requires.0 c.requires.4))
 
 pub returns : goal.returns
 returns c =

@@ -40,7 +40,7 @@ loop-i-preserved c =
     let own = row_at size (n - (i + 1)) values in
     let long : length (farthest size n values i) ≡ i * (size + seal_size) = length_farthest size n values start.requires.2 i l.loop-i.invariant.0 in (
       omega arith,
-      c.put_payload.auto.0 ∙ l.loop-i.invariant.1,
+      c.put_payload.auto.buffer ∙ l.loop-i.invariant.1,
       c.put_payload.ensures
           ∙ ap (placed (head_size + i * (size + seal_size)) (sealed own)) l.loop-i.invariant.2
           ∙ placed_more head_size (head_size + i * (size + seal_size)) (farthest size n values i) buffer (ap (λ (m : ℕ). head_size + m) long) (omega (arith, payload_within size below start.requires.3)) (sealed own)
