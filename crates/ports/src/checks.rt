@@ -15,6 +15,7 @@ pub enum Checked {
 }
 
 // Is one payload right, or does only its counter differ, or is it damaged? The check decides first: a wrong one tells nothing of the counter.
+#[tactic(auto, unfolding(crate::specs::Check::checked, crate::specs::Check::check_refusals, crate::specs::Verdicts::counter_row, crate::specs::Verdicts::is_damaged, crate::specs::Verdicts::counter_differs, refusals::specs::Order::decide))]
 pub fn check(payload: &[u8], expected: u8) -> Checked
     ensures { result ≡ checked payload.now expected }
 {

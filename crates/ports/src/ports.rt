@@ -70,6 +70,7 @@ fn is_right(check: bool, eight: &[u8], expected: u8) -> bool
 }
 
 // Which of two parts: A's if right, else B's if right, else A's if only its counter differs, else B's likewise; none if both are damaged.
+#[tactic(auto, unfolding(crate::specs::Ports::chosen, crate::specs::Verdicts::is_damaged, crate::specs::Verdicts::is_right, crate::specs::Verdicts::counter_differs))]
 fn choose(in_a: &[u8], in_b: &[u8], expected: u8) -> Port
     ensures { result ≡ cond (is_damaged in_a.now && is_damaged in_b.now) (Refused BothDamaged) (chosen in_a.now in_b.now expected) }
 {
@@ -91,6 +92,7 @@ fn choose(in_a: &[u8], in_b: &[u8], expected: u8) -> Port
 }
 
 // Which reply has monitor k's bytes, and does their counter differ from the one expected?
+#[tactic(auto, unfolding(crate::specs::Ports::port_of, crate::specs::Ports::port_refusals, crate::specs::Ports::place_a, crate::specs::Ports::place_b, crate::specs::Ports::part_a, crate::specs::Ports::part_b, crate::specs::Verdicts::counter_row, laws::specs::Rows::row_at, refusals::specs::Order::decide))]
 pub fn port_of(a: &[u8], b: &[u8], n: usize, k: usize, expected: u8) -> Port
     ensures { result ≡ port_of a.now b.now n k expected }
 {

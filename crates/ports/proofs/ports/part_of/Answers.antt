@@ -8,37 +8,33 @@ use lib.ListN.{length}
 use Rattle.records.specs.Commands.{payload_size}
 use Rattle.ports.specs.Ports.{by_port}
 use Rattle.ports.specs.Parts.{part}
-use Rattle.ports.proofs.TwoPorts.{Asked, asked-a, asked-b, within_a, within_b}
+use Rattle.ports.proofs.TwoPorts.{asked-a, asked-b, within_a, within_b}
 use Rattle.ports.proofs.Handed.{in_a, in_b, handed}
 use Rattle.ports.proofs.ports.part_of.Goals as goal
 
-
--- where port A answers, and where port B does
-in-reply-a : (c : goal.In-A) → let q = c.args in Asked q.a.now q.b.now q.n q.k
-in-reply-a c =
-    let q = c.args in
-    asked-a q.a.now q.b.now q.n q.k q.expected _ (sym c.in-A.ensures)
-
-in-reply-b : (c : goal.In-B) → let q = c.args in Asked q.a.now q.b.now q.n q.k
-in-reply-b c =
-    let q = c.args in
-    asked-b q.a.now q.b.now q.n q.k q.expected _ (sym c.in-B.ensures)
-
 pub place_a-requires : goal.place_a-requires
-place_a-requires c = ((in-reply-a c).first, (in-reply-a c).last)
+place_a-requires c =
+    let q = c.args in
+    let asked = asked-a q.a.now q.b.now q.n q.k q.expected _ (sym c.in-A.ensures) in
+    (asked.first, asked.last)
 
 pub part_at-requires : goal.part_at-requires
 part_at-requires c =
     let q = c.args in
-    subst⁻¹ (λ (at : ℕ). at * payload_size + payload_size ≤ length q.a.now) c.place_a.ensures (within_a q.a.now q.b.now q.n q.k (in-reply-a c.before))
+    subst⁻¹ (λ (at : ℕ). at * payload_size + payload_size ≤ length q.a.now) c.place_a.ensures
+    (within_a q.a.now q.b.now q.n q.k (asked-a q.a.now q.b.now q.n q.k q.expected _ (sym c.in-A.ensures)))
 
 pub place_b-requires : goal.place_b-requires
-place_b-requires c = ((in-reply-b c).first, (in-reply-b c).last)
+place_b-requires c =
+    let q = c.args in
+    let asked = asked-b q.a.now q.b.now q.n q.k q.expected _ (sym c.in-B.ensures) in
+    (asked.first, asked.last)
 
 pub part_at-requires-in-B : goal.part_at-requires-in-B
 part_at-requires-in-B c =
     let q = c.args in
-    subst⁻¹ (λ (at : ℕ). at * payload_size + payload_size ≤ length q.b.now) c.place_b.ensures (within_b q.a.now q.b.now q.n q.k (in-reply-b c.before))
+    subst⁻¹ (λ (at : ℕ). at * payload_size + payload_size ≤ length q.b.now) c.place_b.ensures
+    (within_b q.a.now q.b.now q.n q.k (asked-b q.a.now q.b.now q.n q.k q.expected _ (sym c.in-B.ensures)))
 
 pub returns-in-Refused : goal.returns-in-Refused
 returns-in-Refused c =
@@ -50,16 +46,14 @@ returns-in-Refused c =
 
 pub returns-in-A : goal.returns-in-A
 returns-in-A c =
-    let s = c in
-    let q = s.args in
-    let told = handed q.a q.b q.n q.k q.expected (sym s.enum_told-in-A-1.given.1 ∙ s.port_of-port.ensures)
+    let q = c.args in
+    let told = handed q.a q.b q.n q.k q.expected c.in-A.ensures
     (c.part_at.ensures ∙ ap (λ (at : ℕ). part q.a (at * payload_size) payload_size) c.place_a.ensures) in
     record { result_value = told.0; result_value_2 = told.1 }
 
 pub returns-in-B : goal.returns-in-B
 returns-in-B c =
-    let s = c in
-    let q = s.args in
-    let told = handed q.a q.b q.n q.k q.expected (sym s.enum_told-in-B-1.given.1 ∙ s.port_of-port.ensures)
+    let q = c.args in
+    let told = handed q.a q.b q.n q.k q.expected c.in-B.ensures
     (c.part_at-in-B.ensures ∙ ap (λ (at : ℕ). part q.b (at * payload_size) payload_size) c.place_b.ensures) in
     record { result_value = told.0; result_value_2 = told.1 }
