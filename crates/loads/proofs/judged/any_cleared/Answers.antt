@@ -1,8 +1,8 @@
 -- `loads::judged::any_cleared` meets its contract: no code so far is that of a cleared cell. The measure is what is left of them.
 -- Assumes nothing.
 use mathlib.Core.Path.{refl, sym, ap}
-use mathlib.Core.Bool.{true, not}
-use Prim.Native.Nat.{◌-◌, ◌<◌}
+use mathlib.Core.Bool.{not}
+use Prim.Native.Nat.{◌<◌}
 use native.Mathlib.Omega.{arith}
 use lib.IntN.{pos}
 use lib.ListN.{length, get_or}

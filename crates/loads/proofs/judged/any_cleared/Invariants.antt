@@ -4,7 +4,7 @@ use mathlib.Core.Path.{◌≡◌}
 use mathlib.Core.Bool.{true}
 use Prim.Native.Nat.{◌-◌, ◌≤◌}
 use lib.ListN.{length}
-use Rattle.cells.proofs.Codes.{cleared, none_cleared, one_cleared}
+use Rattle.cells.proofs.Codes.{none_cleared}
 use Rattle.loads.proofs.judged.any_cleared.Given as goal
 
 abbrev pub invariant-loop-i : goal.invariant-loop-i

@@ -1,17 +1,8 @@
 -- `loads::judged::judge_store` meets its contract: a compare's refusals come first, and after them each test is the condition of a refusal.
 -- Assumes nothing.
-use mathlib.Core.Path.{◌≡◌, sym, ◌∙◌}
-use Rattle.loads.specs.Load.{stored}
-use Rattle.loads.proofs.Judging.{of_codes, refused-before, goes_on, stop_3, pass_3, stop_4, pass_4}
+use mathlib.Core.Path.{sym, ◌∙◌}
+use Rattle.loads.proofs.Judging.{refused-before, goes_on, stop_3, pass_3, stop_4, pass_4}
 use Rattle.loads.proofs.judged.judge_store.Goals as goal
-
-
--- sixteen codes, in a place
-counted : (c : goal.Else-codes-ne-CELL_COUNT) → let a = c.args in stored a.table.now a.position a.codes.now ≡ of_codes a.codes.now 1
-counted c =
-    let a = c.args in
-    let placed = sym c.in-Done.ensures in
-    goes_on a.codes.now a.table.now a.position placed ∙ pass_3 a.codes.now c.if-codes-ne-CELL_COUNT.false
 
 pub returns-then-codes-ne-CELL_COUNT : goal.returns-then-codes-ne-CELL_COUNT
 returns-then-codes-ne-CELL_COUNT c =
@@ -22,7 +13,8 @@ returns-then-codes-ne-CELL_COUNT c =
 pub returns-then-any_cleared : goal.returns-then-any_cleared
 returns-then-any_cleared c =
     let a = c.args in
-    sym (counted c.before.before ∙ stop_4 a.codes.now (sym c.any_cleared.ensures ∙ c.if-any_cleared.true))
+    let placed = sym c.in-Done.ensures in
+    sym (goes_on a.codes.now a.table.now a.position placed ∙ pass_3 a.codes.now c.if-codes-ne-CELL_COUNT.false ∙ stop_4 a.codes.now (sym c.any_cleared.ensures ∙ c.if-any_cleared.true))
 
 pub returns-in-Unloaded : goal.returns-in-Unloaded
 returns-in-Unloaded c =
@@ -32,4 +24,5 @@ returns-in-Unloaded c =
 pub returns-else-any_cleared : goal.returns-else-any_cleared
 returns-else-any_cleared c =
     let a = c.args in
-    sym (counted c.before.before ∙ pass_4 a.codes.now (sym c.any_cleared.ensures ∙ c.if-any_cleared.false))
+    let placed = sym c.in-Done.ensures in
+    sym (goes_on a.codes.now a.table.now a.position placed ∙ pass_3 a.codes.now c.if-codes-ne-CELL_COUNT.false ∙ pass_4 a.codes.now (sym c.any_cleared.ensures ∙ c.if-any_cleared.false))

@@ -2,8 +2,6 @@
 -- Assumes nothing.
 use mathlib.Core.Path.{sym, ◌∙◌}
 use native.Mathlib.Omega.{arith}
-use Rattle.loads.specs.declared.loads.Loaded.TheVariants.{Done}
-use Rattle.loads.specs.Load.{compared}
 use Rattle.loads.proofs.Refused.{table-compared}
 use Rattle.judging.proofs.Place.{few, fits}
 use Rattle.loads.proofs.Place.{done_place}
