@@ -24,6 +24,7 @@ pub(crate) fn is_cleared(code: ResultCode) -> bool
 }
 
 // The whole microvolts of a code: an i64 holds those of every i32.
+#[tactic(auto, unfolding(crate::specs::Readings::microvolts))]
 pub fn microvolts_of(code: ResultCode) -> i64
     ensures { result ≡ microvolts code }
 {
@@ -39,6 +40,7 @@ pub(crate) fn volts_of(microvolts: i64) -> f64
 }
 
 // A code as a reading.
+#[tactic(auto, using(crate::proofs::Codes::microvolts_exact), unfolding(crate::specs::Readings::reading_of))]
 pub fn reading_of(code: ResultCode) -> Reading
     ensures { result ≡ reading_of code }
 {
