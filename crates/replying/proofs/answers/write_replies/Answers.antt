@@ -38,7 +38,7 @@ loop-k-preserved c =
     let whole = l.invariant.1.size in
     let room : l.k * 8 + length c.reply_of-eight.result ≤ length l.buffer = omega (arith, c.requires.2) in (
       omega arith,
-      subst⁻¹ (Filling 8 a.buffer.now c.put.new.0 (l.k + 1)) (replies_more a.part a.table.now l.k)
+      subst⁻¹ (Filling 8 a.buffer.now c.put.new.buffer (l.k + 1)) (replies_more a.part a.table.now l.k)
           (filling_more 8 a.buffer.now l.invariant.1 new (omega (arith, c.requires.2)) (length-reply a.part (row_at record_size l.k a.table.now))
           (c.put.ensures ∙ laid (l.k * 8) c.reply_of-eight.result l.buffer room ∙ ap₂ (λ (x : List ℕ) (m : ℕ). take (l.k * 8) l.buffer ++ x ++ drop (l.k * 8 + m) l.buffer) eight size)),
     )
