@@ -8,6 +8,7 @@ use native.Mathlib.Numerals.{add-one}
 use native.Mathlib.Omega.{arith}
 use lib.Bits.{bit_or}
 use lib.IntN.{ℤ}
+use mir.Syntax.{w64}
 use mir.Facts.{to_z-of_z}
 use Rattle.records.specs.Record.{cell_count, cells, last_cells}
 use Rattle.thresholds.specs.declared.thresholds.ResultCode.{ResultCode}
@@ -37,7 +38,7 @@ loop-c-preserved c =
       omega arith,
       ap₂ bit_or l.loop-c.invariant.1
           (c.kinds_of-all.ensures
-          ∙ ap (of r i c.codes_of-low.result.0 c.codes_of-high.result.0) (to_z-of_z (record { sfits = c.delta-step.type_inv }))
+          ∙ ap (of r i c.codes_of-low.result.0 c.codes_of-high.result.0) (to_z-of_z {w = w64} (record { sfits = c.delta-step.type_inv }))
           ∙ ap₂ (λ (x y : ResultCode). of r i x.0 y.0 c.delta-step.result) low high
           ∙ ap (λ (z : ℤ). of r i (codes_of (cuv r)).0 (codes_of (cov r)).0 z) step)
           ∙ sym (ap (kinds_in r) (add-one i)),

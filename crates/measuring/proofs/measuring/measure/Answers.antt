@@ -1,7 +1,7 @@
 -- `measuring::measuring::measure` meets its contract: what was found is joined to CMF0 once the cells are copied, which leaves CMF0.
 -- Assumes nothing.
 use mathlib.Core.Path.{◌≡◌, refl, sym, ap, ap₂, ◌∙◌}
-use mathlib.Core.Bool.{cond, ◌&&◌}
+use mathlib.Core.Bool.{Bool, cond, ◌&&◌}
 use mathlib.Core.List.{List}
 use Prim.Native.Nat.{ℕ}
 use lib.Bits.{bit_or}
@@ -14,20 +14,16 @@ use Rattle.measuring.specs.Measuring.{found, measured, passes}
 use Rattle.measuring.proofs.Measured.{flags-copied, flags-measured}
 use Rattle.measuring.proofs.measuring.measure.Goals as goal
 
-module _ (r : List ℕ) (whole : length r ≡ record_size) {after : List ℕ} {more : ℕ} (a : after ≡ cond (is_record r) (cells_to last_cells r) r) (m : more ≡ found r) where
-  copied : after ≡ cells_to last_cells r
-  copied = a ∙ copied-where r (is-record r whole)
+-- by whether it is a record
+module _ (r : List ℕ) {is : Bool} (e : is_record r ≡ is) where
+  answer-where : is && passes r ≡ is_record r && passes r
+  answer-where = ap (λ (b : Bool). b && passes r) (sym e)
 
-  none : eqb (bit_or (get_or after cmf0.at 0) more) 0 ≡ passes r
-  unfolding passes byte_of
-  none =
-      ap₂ (λ (l : List ℕ) (f : ℕ). eqb (bit_or (get_or l cmf0.at 0) f) 0) copied m
-      ∙ ap (λ (old : ℕ). eqb (bit_or old (found r)) 0) (flags-copied r)
-      ∙ sym (ap (λ (flags : ℕ). eqb flags 0) (flags-measured r whole))
+  left-where : cond is (measured r) r ≡ cond (is_record r) (measured r) r
+  left-where = ap (λ (b : Bool). cond b (measured r) r) (sym e)
 
-  made : (eqb (bit_or (get_or after cmf0.at 0) more) 0 ≡ is_record r && passes r) × (set after cmf0.at (bit_or (get_or after cmf0.at 0) more) ≡ cond (is_record r) (measured r) r)
-  unfolding joined
-  made = (none ∙ answer-where r (is-record r whole), ap₂ joined copied m ∙ as_one r ∙ left-where r (is-record r whole))
+  copied-where : cond (is_record r) (cells_to last_cells r) r ≡ cond is (cells_to last_cells r) r
+  copied-where = ap (λ (b : Bool). cond b (cells_to last_cells r) r) e
 
 -- one byte made anew
 joined : List ℕ → ℕ → List ℕ
