@@ -12,13 +12,7 @@ use ports::{Checked, Port};
 use records::PAYLOAD_SIZE;
 
 // Builds the frame for a command, a number of monitors and values: its length.
-#[unsafe(no_mangle)]
-pub extern "C" fn osk_host_frame(
-    command: u16,
-    monitors: usize,
-    values: &[u8],
-    out: &mut [u8],
-) -> u32
+pub fn osk_host_frame(command: u16, monitors: usize, values: &[u8], out: &mut [u8]) -> u32
     ensures value { result ≡ packed (built_parts (built command monitors values.now (length out.old))) }
     ensures out_after { out.new ≡ buffer_after command monitors values.now out.old }
 {
@@ -30,8 +24,7 @@ pub extern "C" fn osk_host_frame(
 
 // Is one payload right against the counter that the host expects? 1 where it is, 2 where it is damaged, 3 where its counter differs, and the
 // one received.
-#[unsafe(no_mangle)]
-pub extern "C" fn osk_check(payload: &[u8], expected: u8) -> u32
+pub fn osk_check(payload: &[u8], expected: u8) -> u32
     ensures { result ≡ packed (checked_parts (checked payload.now expected)) }
 {
     match ports::check(payload, expected) {
@@ -52,14 +45,7 @@ fn told(port: u8, differs: bool) -> u8
 
 // Which port's reply has a monitor's eight bytes, 1 for A and 2 for B, 3 and 4 where their counter differs, and at which byte of that reply
 // they lie.
-#[unsafe(no_mangle)]
-pub extern "C" fn osk_two_ports(
-    a: &[u8],
-    b: &[u8],
-    monitors: usize,
-    position: usize,
-    expected: u8,
-) -> u32
+pub fn osk_two_ports(a: &[u8], b: &[u8], monitors: usize, position: usize, expected: u8) -> u32
     ensures { result ≡ packed (port_parts monitors position (port_of a.now b.now monitors position expected)) }
 {
     match ports::port_of(a, b, monitors, position, expected) {

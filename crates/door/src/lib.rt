@@ -1,6 +1,6 @@
-// The host alone for C, for a controller that holds no chain: its frames, the check of what comes back, and readings. Each remainder is
-// worked out from its polynomial: no crate below has the table of 256. A slice is a pointer and a length; an answer is a u32 that holds
-// the refusal number and two values (`packing`).
+// The host alone, for a controller that holds no chain: its frames, the check of what comes back, and readings, as C has them (`door_c`).
+// Each remainder is worked out from its polynomial: no crate below has the table of 256. What goes in is numbers and slices; an answer is
+// a u32 that holds the refusal number and two values (`packing`).
 #![tactic(auto)]
 
 mod hosts;

@@ -8,8 +8,7 @@ use messages::{Verdict, verdict_on};
 use packing::{accepted, refused};
 
 // 1 where it passed, 2 where it failed, with 256 times the count and the flags, 3 where it is damaged, 4 where the time ran out: 0 is no.
-#[unsafe(no_mangle)]
-pub extern "C" fn osk_verdict(message: &[u8], time_ran_out: u8) -> u32
+pub fn osk_verdict(message: &[u8], time_ran_out: u8) -> u32
     ensures { result ≡ packed (verdict_parts (verdict message.now (not (eqb time_ran_out 0)))) }
 {
     match verdict_on(message, time_ran_out != 0) {

@@ -13,8 +13,7 @@ use thresholds::ResultCode;
 const SUMMARY_SIZE: usize = 3;
 
 // The whole microvolts of a code: an i32 holds those of every i16.
-#[unsafe(no_mangle)]
-pub extern "C" fn osk_microvolts(code: i16) -> i32
+pub fn osk_microvolts(code: i16) -> i32
     ensures { result ≡ microvolts (record { 0 = code }) }
 {
     let wide = code as i32;
@@ -22,8 +21,7 @@ pub extern "C" fn osk_microvolts(code: i16) -> i32
 }
 
 // A code in volts, and NaN where the cell was cleared.
-#[unsafe(no_mangle)]
-pub extern "C" fn osk_volts(code: i16) -> f64
+pub fn osk_volts(code: i16) -> f64
     ensures { result ≡ volts_or_nan (reading_of (record { 0 = code })) }
 {
     let wide = code as i32;
@@ -35,8 +33,7 @@ pub extern "C" fn osk_volts(code: i16) -> f64
 
 // The summary of 1 to 512 codes, at the start of a buffer: 1 where there is one and 0 where all cells are cleared, and the number of
 // cells not cleared. The buffer stays where there is none, and where that is refused.
-#[unsafe(no_mangle)]
-pub extern "C" fn osk_summary(codes: &[i16], out: &mut [f64]) -> u32
+pub fn osk_summary(codes: &[i16], out: &mut [f64]) -> u32
     ensures value { result ≡ packed (summary_parts (summary_of codes.now) (length out.old)) }
     ensures out_after { out.new ≡ summary_out (summary_of codes.now) out.old }
 {

@@ -55,8 +55,7 @@ fn timed_answer(timed: TimedOut) -> u32
 }
 
 // The manager at a position wakes.
-#[unsafe(no_mangle)]
-pub extern "C" fn osk_wake(table: &mut [u8], position: usize, out: &mut [u8]) -> u32
+pub fn osk_wake(table: &mut [u8], position: usize, out: &mut [u8]) -> u32
     ensures value { result ≡ packed (sent_parts (woken_at table.old position (length out.old))) }
     ensures table_after { table.new ≡ table_after_wake table.old position (length out.old) }
     ensures out_after { out.new ≡ out_after_wake table.old position out.old }
@@ -65,13 +64,7 @@ pub extern "C" fn osk_wake(table: &mut [u8], position: usize, out: &mut [u8]) ->
 }
 
 // A message reaches the monitor at a position.
-#[unsafe(no_mangle)]
-pub extern "C" fn osk_relay(
-    table: &mut [u8],
-    position: usize,
-    message: &[u8],
-    out: &mut [u8],
-) -> u32
+pub fn osk_relay(table: &mut [u8], position: usize, message: &[u8], out: &mut [u8]) -> u32
     ensures value { result ≡ packed (relayed_parts (relayed_at table.old position message.now (length out.old))) }
     ensures table_after { table.new ≡ table_after_relay table.old position message.now (length out.old) }
     ensures out_after { out.new ≡ out_after_relay table.old position message.now out.old }
@@ -80,8 +73,7 @@ pub extern "C" fn osk_relay(
 }
 
 // A whole heartbeat.
-#[unsafe(no_mangle)]
-pub extern "C" fn osk_heartbeat(table: &mut [u8], position: usize, out: &mut [u8]) -> u32
+pub fn osk_heartbeat(table: &mut [u8], position: usize, out: &mut [u8]) -> u32
     ensures value { result ≡ packed (sent_parts (beaten table.old position (length out.old))) }
     ensures table_after { table.new ≡ table_after_beat table.old position (length out.old) }
     ensures out_after { out.new ≡ out_after_beat table.old position out.old }
@@ -90,8 +82,7 @@ pub extern "C" fn osk_heartbeat(table: &mut [u8], position: usize, out: &mut [u8
 }
 
 // The time runs out at the monitor in a position.
-#[unsafe(no_mangle)]
-pub extern "C" fn osk_time_out(table: &mut [u8], position: usize) -> u32
+pub fn osk_time_out(table: &mut [u8], position: usize) -> u32
     ensures value { result ≡ packed (timed_parts (timed_out table.old position)) }
     ensures table_after { table.new ≡ table_after_time_out table.old position }
 {

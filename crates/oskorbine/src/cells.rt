@@ -14,8 +14,7 @@ ghost use Rattle.oskorbine.specs.Answers.{load_parts};
 use crate::answers::load_answer;
 
 // Stores sixteen codes.
-#[unsafe(no_mangle)]
-pub extern "C" fn osk_store(table: &mut [u8], position: usize, codes: &[i16]) -> u32
+pub fn osk_store(table: &mut [u8], position: usize, codes: &[i16]) -> u32
     ensures value { result ≡ packed (load_parts (stored table.old position codes.now)) }
     ensures table_after { table.new ≡ table_after_store table.old position codes.now }
 {
@@ -23,8 +22,7 @@ pub extern "C" fn osk_store(table: &mut [u8], position: usize, codes: &[i16]) ->
 }
 
 // Compares the stored cells with the thresholds.
-#[unsafe(no_mangle)]
-pub extern "C" fn osk_compare(table: &mut [u8], position: usize) -> u32
+pub fn osk_compare(table: &mut [u8], position: usize) -> u32
     ensures value { result ≡ packed (load_parts (compared table.old position)) }
     ensures table_after { table.new ≡ table_after_compare table.old position }
 {
@@ -32,8 +30,7 @@ pub extern "C" fn osk_compare(table: &mut [u8], position: usize) -> u32
 }
 
 // Loads sixteen codes.
-#[unsafe(no_mangle)]
-pub extern "C" fn osk_load(table: &mut [u8], position: usize, codes: &[i16]) -> u32
+pub fn osk_load(table: &mut [u8], position: usize, codes: &[i16]) -> u32
     ensures value { result ≡ packed (load_parts (loaded table.old position codes.now)) }
     ensures table_after { table.new ≡ table_after_load table.old position codes.now }
 {

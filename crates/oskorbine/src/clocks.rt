@@ -14,16 +14,14 @@ use packing::{accepted, refused};
 use releasing::Looked;
 
 // Before a frame, whatever the bytes were: a frame that had begun is given up.
-#[unsafe(no_mangle)]
-pub extern "C" fn osk_clock_start(state: &mut [u8; STATE_SIZE])
+pub fn osk_clock_start(state: &mut [u8; STATE_SIZE])
     ensures { state.new ≡ idle }
 {
     clock_state::start(state);
 }
 
 // Clocks one byte in: the byte that comes back.
-#[unsafe(no_mangle)]
-pub extern "C" fn osk_clock_byte(state: &mut [u8; STATE_SIZE], table: &[u8], byte: u8) -> u32
+pub fn osk_clock_byte(state: &mut [u8; STATE_SIZE], table: &[u8], byte: u8) -> u32
     ensures value { result ≡ packed (accepted (answered (clock_of state.old)) 0) }
     ensures state_after { clock_of state.new ≡ clocked table.now byte (clock_of state.old) }
     ensures state_after_2 { state.new ≡ state_after table.now byte state.old }
@@ -32,8 +30,7 @@ pub extern "C" fn osk_clock_byte(state: &mut [u8; STATE_SIZE], table: &[u8], byt
 }
 
 // The window of the monitor at a position, oldest byte first: how many bytes it holds.
-#[unsafe(no_mangle)]
-pub extern "C" fn osk_clock_window(state: &[u8; STATE_SIZE], position: usize, out: &mut [u8]) -> u32
+pub fn osk_clock_window(state: &[u8; STATE_SIZE], position: usize, out: &mut [u8]) -> u32
     ensures value { result ≡ packed (looked_parts (looked (clock_of state.now) position (length out.old))) }
     ensures out_after { out.new ≡ out_after (clock_of state.now) position out.old }
 {
@@ -44,8 +41,7 @@ pub extern "C" fn osk_clock_window(state: &[u8; STATE_SIZE], position: usize, ou
 }
 
 // Ends a frame, with the values that a whole frame has; the next one starts empty.
-#[unsafe(no_mangle)]
-pub extern "C" fn osk_clock_release(state: &mut [u8; STATE_SIZE], table: &mut [u8]) -> u32
+pub fn osk_clock_release(state: &mut [u8; STATE_SIZE], table: &mut [u8]) -> u32
     ensures value { result ≡ packed (frame_parts (released (clock_of state.old) table.old)) }
     ensures state_after { state.new ≡ idle }
     ensures table_after { table.new ≡ table_released (clock_of state.old) table.old }

@@ -22,14 +22,7 @@ fn events_in(bits: u8) -> Events
 }
 
 // The sixteen outputs, a byte each: how many of them are on.
-#[unsafe(no_mangle)]
-pub extern "C" fn osk_discharge(
-    table: &[u8],
-    position: usize,
-    events: u8,
-    phase: u8,
-    out: &mut [u8],
-) -> u32
+pub fn osk_discharge(table: &[u8], position: usize, events: u8, phase: u8, out: &mut [u8]) -> u32
     ensures value { result ≡ packed (discharged_parts (discharged table.now position (events_in events) phase (length out.old))) }
     ensures out_after { out.new ≡ outputs_after table.now position (events_in events) phase out.old }
 {

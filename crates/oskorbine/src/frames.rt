@@ -7,8 +7,7 @@ ghost use Rattle.oskorbine.specs.Answers.{frame_parts};
 use crate::answers::frame_answer;
 
 // Handles a frame: how many monitors took it, and the length of the reply.
-#[unsafe(no_mangle)]
-pub extern "C" fn osk_frame(table: &mut [u8], frame: &[u8], reply: &mut [u8]) -> u32
+pub fn osk_frame(table: &mut [u8], frame: &[u8], reply: &mut [u8]) -> u32
     ensures value { result ≡ packed (frame_parts (answer table.old frame.now (length reply.old))) }
     ensures table_after { table.new ≡ table_after table.old frame.now (length reply.old) }
     ensures reply_after { reply.new ≡ reply_after table.old frame.now reply.old }

@@ -1,5 +1,5 @@
-// The chain for C, by both engines: numbers and slices only, and nothing decided here. A slice is a pointer and a length; an answer is a
-// u32 that holds the refusal number and two values (`packing`). The host's functions are those of `door`: the library has both crates.
+// The chain by both engines, as C has it (`oskorbine_c`): numbers and slices only, and nothing decided here. An answer is a u32 that holds
+// the refusal number and two values (`packing`). The host's functions are those of `door`.
 #![tactic(auto)]
 
 mod answers;
