@@ -1,23 +1,22 @@
 -- What a store writes is what a comparison reads: cell c holds the code given for it, and a load's flags are those of the codes given. By
 -- the two bytes of a code, which put together are its 16 bits.
 -- Assumes nothing.
-use mathlib.Core.Path.{◌≡◌, refl, sym, ap, ap₂, ◌∙◌}
-use mathlib.Core.Bool.{Bool, true, false, cond}
+use mathlib.Core.Path.{◌≡◌, ap, ap₂, ◌∙◌}
+use mathlib.Core.Bool.{Bool, false, cond}
 use mathlib.Core.List.{List}
 use Prim.Native.Nat.{ℕ, suc, ◌+◌, ◌-◌, ◌*◌, ◌/◌, ◌%◌, ◌<◌}
 use native.Mathlib.Omega.{arith}
 use lib.Bits.{bit_or}
-use lib.Dec.{eqb, ltb}
+use lib.Dec.{eqb}
 use lib.IntN.{ℤ, pos, negsuc}
 use lib.ListN.{length, get_or}
 use borrow.Author.Tests.{le-ltb, lt-ltb}
 use mir.Syntax.{w16}
 use mir.Val.{SFits}
-use Rattle.records.specs.Record.{cells, flags, configuration_b, cell_count, record_size, bytes_of, byte_in}
+use Rattle.records.specs.Record.{cells, flags, configuration_b, cell_count, record_size, byte_in}
 use Rattle.records.proofs.Parts.{byte_of-part}
-use Rattle.thresholds.specs.declared.thresholds.ResultCode.{ResultCode}
 use Rattle.thresholds.specs.Thresholds.{signed, lower, upper, vuv, vov, codes_of}
-use Rattle.cells.specs.Cells.{word, code_byte, store, code_in, code_at, is_cleared, flags_for, flags_of, flags_in, compare, load}
+use Rattle.cells.specs.Cells.{word, code_byte, store, code_in, code_at, is_cleared, flags_for, flags_of, flags_in, load}
 use Rattle.cells.proofs.Loaded.{length-store, store_inside, part-before-store, part-after-store}
 use Rattle.cells.proofs.OwnFlags.{own-flags}
 

@@ -4,13 +4,13 @@
 use mathlib.Core.Path.{◌≡◌, refl, sym, ap, ap₂, ◌∙◌}
 use mathlib.Core.Bool.{Bool, true, cond}
 use mathlib.Core.List.{List}
-use Prim.Native.Nat.{ℕ, zero, suc, ◌+◌, ◌-◌, ◌*◌, ◌/◌, ◌%◌, ◌^◌, ◌≤◌, ◌<◌}
+use Prim.Native.Nat.{ℕ, zero, suc, ◌+◌, ◌*◌, ◌/◌, ◌%◌, ◌^◌, ◌≤◌, ◌<◌}
 use native.Mathlib.Omega.{arith}
 use lib.Bits.{bit_or, or_self, or_zero_r, or_shr, or_mod}
 use lib.ListN.{length, get_or}
 use Rattle.laws.proofs.Or.{or_again}
 use Rattle.laws.proofs.Places.{by_place}
-use Rattle.records.specs.Record.{flags, cell_count, record_size, bytes_of}
+use Rattle.records.specs.Record.{flags, cell_count, record_size}
 use Rattle.records.proofs.Parts.{byte_of-part}
 use Rattle.thresholds.specs.Thresholds.{vuv, vov, codes_of}
 use Rattle.cells.specs.Cells.{code_at, is_cleared, flags_for, flags_of, flag_byte, compare, flags_in}

@@ -1,8 +1,8 @@
 -- The bits of a number: how many they are, that they are those of its remainder by the power of 2, that they go
 -- through exclusive or, and that a number below a smaller power begins with zeros.
 -- Assumes nothing.
-use mathlib.Core.Path.{◌≡◌, refl, sym, ap, ap₂, ◌∙◌, subst}
-use mathlib.Core.Bool.{Bool, true, false, xor}
+use mathlib.Core.Path.{◌≡◌, refl, sym, ap, ap₂, ◌∙◌}
+use mathlib.Core.Bool.{Bool, false}
 use mathlib.Core.List.{List, [], ◌∷◌, ◌++◌, append_assoc}
 use Prim.Native.Nat.{ℕ, zero, suc, ◌+◌, ◌*◌, ◌/◌, ◌%◌, ◌^◌, ◌<◌}
 use native.Mathlib.Nat.{zero-div, pow-suc, mul_assoc, mul_comm, mul-add-div_right, mul-add-mod_self_right, div-eq_of_lt, lt_of_lt_of_le, zero-add, suc-add}

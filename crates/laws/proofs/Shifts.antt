@@ -1,7 +1,7 @@
 -- What the machine's shifts give where nothing is lost.
 -- Assumes nothing.
 use mathlib.Core.Path.{◌≡◌, ap, ◌∙◌, subst⁻¹}
-use Prim.Native.Nat.{ℕ, ◌+◌, ◌*◌, ◌/◌, ◌%◌, ◌^◌, ◌≤◌, ◌<◌}
+use Prim.Native.Nat.{ℕ, ◌+◌, ◌*◌, ◌%◌, ◌^◌, ◌≤◌, ◌<◌}
 use native.Mathlib.Nat.{one-mul, mod-eq_of_lt, lt_of_lt_of_le, div-lt_iff_lt-mul}
 use lib.Pow.{pow_pos, pow-add, pow-lt, pow_mono, shl_lt, high}
 

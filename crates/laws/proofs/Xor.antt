@@ -1,12 +1,12 @@
 -- Exclusive or of numbers: a commutative group in which each number is its own opposite, which goes through
 -- shifts, remainders by a power of 2 and the last bit. By the kit's laws of `bit_xor`, and associativity by binary digits.
 -- Assumes nothing.
-use mathlib.Core.Path.{◌≡◌, refl, sym, ap, ap₂, ◌∙◌, subst}
-use mathlib.Core.Bool.{Bool, true, false, xor}
+use mathlib.Core.Path.{◌≡◌, refl, sym, ap, ap₂, ◌∙◌}
+use mathlib.Core.Bool.{xor}
 use Prim.Native.Nat.{ℕ, zero, suc, ◌+◌, ◌*◌, ◌/◌, ◌%◌, ◌^◌, ◌<◌}
-use native.Mathlib.Nat.{mod-lt, zero-div, zero-mod, add-zero, div-add-mod', zero-mul, zero-add}
+use native.Mathlib.Nat.{mod-lt, add-zero}
 use native.Mathlib.Omega.{arith}
-use lib.Arith.{bin_ind, lt-one, digits_div, digits_mod}
+use lib.Arith.{bin_ind, digits_mod}
 use lib.Bits.{bit_xor, differ, xor_step, xor_zero_l, xor_zero_r, xor_self, xor_block, xor_shr, xor_mod}
 use lib.Bits
 use lib.Dec.{eqb}

@@ -4,7 +4,6 @@
 -- Assumes nothing.
 use mathlib.Core.Path.{◌≡◌, refl, sym, ap, ap₂, ◌∙◌}
 use mathlib.Core.Bool.{Bool, true, false, xor}
-use mathlib.Core.List.{List, [], ◌∷◌, ◌++◌}
 use Prim.Native.Nat.{ℕ, zero, suc, ◌+◌, ◌*◌, ◌/◌, ◌%◌, ◌^◌, ◌<◌}
 use native.Mathlib.Nat.{mod-lt, mod-eq_of_lt, zero-mod, zero-div, mul-one, mul_assoc, mul_comm, pow-suc, div-add-mod', add-mul, mul-add-div_right, mul-add-mod_self_right, mul_right_comm, mul-mod_left, mul-div_cancel, div-lt_iff_lt-mul, mul-lt-mul_of_pos_right}
 use lib.ListN.{replicate}

@@ -1,7 +1,7 @@
 -- What a function that changes a record or leaves it alone has to show of its answer: the answer is the test, and the record is
 -- the changed one where the test passes.
 -- Assumes nothing.
-use mathlib.Core.Path.{◌≡◌, refl, sym, ap, ◌∙◌}
+use mathlib.Core.Path.{◌≡◌, sym, ap, ◌∙◌}
 use mathlib.Core.Bool.{Bool, true, false, cond}
 use mathlib.Core.List.{List}
 use Prim.Native.Nat.{ℕ}

@@ -1,7 +1,7 @@
 -- A write that stores six bytes as they are sent: by its rules every bit is stored, none kept and none made 1, so a byte becomes as sent.
 -- Assumes nothing.
 use mathlib.Core.Path.{◌≡◌, refl, sym, ap, ap₂, ◌∙◌}
-use mathlib.Core.Bool.{Bool, true, false≢true}
+use mathlib.Core.Bool.{true, false≢true}
 use mathlib.Core.List.{List, [], ◌∷◌}
 use Prim.Native.Nat.{ℕ, zero, suc, ◌-◌, ◌%◌, ◌<◌}
 use native.Mathlib.Omega.{arith}

@@ -2,7 +2,6 @@
 -- Assumes nothing.
 use mathlib.Core.Path.{refl, ap, ap₂}
 use mathlib.Core.Bool.{Bool, ◌&&◌}
-use Prim.Native.Nat.{◌-◌}
 use native.Mathlib.Omega.{arith}
 use lib.Dec.{eqb}
 use lib.ListN.{length}
@@ -10,7 +9,7 @@ use borrow.Author.Tests.{eq-eqb, ne_eqb}
 use Rattle.records.specs.Record.{cell_count, on_bytes}
 use Rattle.records.proofs.Answers.{is-record, no_record, left_alone, was_changed}
 use Rattle.records.proofs.Making.{making_start, making_more, making_end}
-use Rattle.cells.specs.Cells.{code_byte, store}
+use Rattle.cells.specs.Cells.{store}
 use Rattle.cells.proofs.cells.store.Goals as goal
 
 pub returns-then-rec-ne-RECORD_SIZE : goal.returns-then-rec-ne-RECORD_SIZE

@@ -14,7 +14,6 @@ use Rattle.cells.proofs.CodeBits.{word_below, word_of_negative, word_of_positive
 use Rattle.thresholds.proofs.TwosComplement.{widens, widened}
 use Rattle.cells.proofs.cells.word_of.Goals as goal
 
-
 -- the sum that a negative code takes
 sum : (c : goal.Then-code-lt0) → to_z w32 (of_z w32 (to_z w16 (of_z w16 c.args.code))) +ℤ pos 65536 ≡ pos (word c.args.code)
 sum c =

@@ -5,7 +5,6 @@ use Prim.Native.Nat.{ℕ, ◌*◌, ◌^◌, ◌<◌}
 use native.Mathlib.Omega.{arith}
 use lib.Dec.{lit<}
 use Rattle.laws.specs.Bits.{bits_of}
-use Rattle.pec.specs.Remainder.{remainder}
 use Rattle.pec.specs.Words.{two_bytes, command_check}
 use Rattle.pec.proofs.Remainder.{remainder-below}
 use Rattle.pec.proofs.Messages.{code-message}

@@ -16,7 +16,6 @@ use Rattle.pec.specs.Words.{word_at, polynomial15, pec15, command_right}
 use Rattle.pec.proofs.Messages.{bytes_of-take, word_below, last-two, command-message}
 use Rattle.check_words.proofs.words.command_right.Goals as goal
 
-
 module _ (four : List ℕ) (h : (i : ℕ) → get_or four i 0 < 256) (e : length four ≡ 4) where
   command : number_of four / 65536 ≡ number_of (take 2 four)
   command = omega (arith, last-two four 2 e, word_below four h 2)

@@ -9,7 +9,6 @@ use Rattle.laws.proofs.Shifts.{join_below}
 use Rattle.pec.proofs.Messages.{first-four, rest-size, two_parts}
 use Rattle.check_words.proofs.words.number_by_parts.Goals as goal
 
-
 -- what the two parts stay below
 first : (c : goal.After-number_of-2) → c.number_of.result < 2 ^ 32
 first c =
@@ -57,5 +56,8 @@ pub returns : goal.returns
 returns c =
     let s = c in
     let a = first c in
-    record { value = ap (λ (x : ℕ). x + c.number_of-2.result) (moved s.args.rest s.requires.1 a)
-          ∙ two_parts s.args.bytes.now s.args.rest s.requires.0 c.number_of.ensures.value c.number_of-2.ensures.value; upper_bound = below s.args.rest s.requires.1 a (second c) }
+    record {
+      value = ap (λ (x : ℕ). x + c.number_of-2.result) (moved s.args.rest s.requires.1 a)
+          ∙ two_parts s.args.bytes.now s.args.rest s.requires.0 c.number_of.ensures.value c.number_of-2.ensures.value;
+      upper_bound = below s.args.rest s.requires.1 a (second c);
+    }

@@ -17,7 +17,6 @@ use Rattle.pec.proofs.Right.{sealed-left}
 use Rattle.check_words.proofs.Zero.{none_right}
 use Rattle.check_words.proofs.words.number_in.Goals as goal
 
-
 -- the check, where there are eight bytes
 abbrev checked : List ℕ → Bool
 checked eight = eqb (word_at eight 6 % 1024) (data_pec (take 6 eight) (word_at eight 6 / 1024))
@@ -41,6 +40,9 @@ returns c =
     let whole = c.if-eight-ne8.false in
     let there = eq-eqb (length eight) 8 whole in
     let number = c.number_by_parts.ensures.value in
-    record { value = number ∙ sym (ap (λ (b : Bool). cond b (number_of eight) 0) there); result_value = ap (λ (n : ℕ). eqb (remainder 10 polynomial10 16 (bits_of 64 n)) 0) number
+    record {
+      value = number ∙ sym (ap (λ (b : Bool). cond b (number_of eight) 0) there);
+      result_value = ap (λ (n : ℕ). eqb (remainder 10 polynomial10 16 (bits_of 64 n)) 0) number
           ∙ check eight (λ i. (s.shared_slice_known-1.given i).fits) whole
-          ∙ sym (ap (λ (b : Bool). b && checked eight) there) }
+          ∙ sym (ap (λ (b : Bool). b && checked eight) there);
+    }

@@ -10,7 +10,6 @@ use Rattle.pec.specs.Words.{two_bytes, data_pec, seal}
 use borrow.Author.Rules.{rules}
 use Rattle.check_words.proofs.words.sealed.Goals as goal
 
-
 -- six bytes of one list and two of another
 abbrev eight : List ℕ → List ℕ → List ℕ
 eight six two = get_or six 0 0 ∷ get_or six 1 0 ∷ get_or six 2 0 ∷ get_or six 3 0 ∷ get_or six 4 0 ∷ get_or six 5 0 ∷ get_or two 0 0 ∷ get_or two 1 0 ∷ []

@@ -11,7 +11,6 @@ use Rattle.pec.proofs.Lead.{lead, lead-seal}
 use borrow.Author.Rules.{rules}
 use Rattle.check_words.proofs.words.sealed_two.Goals as goal
 
-
 -- the last four of eight bytes
 abbrev last : List ℕ → List ℕ
 last eight = get_or eight 4 0 ∷ get_or eight 5 0 ∷ get_or eight 6 0 ∷ get_or eight 7 0 ∷ []

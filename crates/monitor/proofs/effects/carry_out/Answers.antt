@@ -10,7 +10,6 @@ use Rattle.records.proofs.Answers.{is-record, no_record}
 use Rattle.monitor.specs.Effects.{done}
 use Rattle.monitor.proofs.effects.carry_out.Goals as goal
 
-
 -- by whether it is a record
 done-where : (what : Bare) (r : List ℕ) {is : Bool} → is_record r ≡ is → cond is (done what r) r ≡ cond (is_record r) (done what r) r
 done-where what r e = ap (λ (is : Bool). cond is (done what r) r) (sym e)

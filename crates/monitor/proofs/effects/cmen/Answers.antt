@@ -10,7 +10,6 @@ use Rattle.records.specs.declared.commands.Bare.TheVariants.{Cmen}
 use Rattle.monitor.specs.Effects.{cells_to, enabled, done}
 use Rattle.monitor.proofs.effects.cmen.Goals as goal
 
-
 -- by whether the monitor is in LPCM
 done-where : (r : List ℕ) {on : Bool} → in_lpcm r ≡ on → cond on r (enabled r) ≡ done Cmen r
 unfolding done

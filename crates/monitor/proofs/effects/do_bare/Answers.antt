@@ -10,7 +10,6 @@ use Rattle.records.specs.Record.{status_bits, anew, on_bytes}
 use Rattle.monitor.specs.Effects.{done}
 use Rattle.monitor.proofs.effects.do_bare.Goals as goal
 
-
 -- UNSNAP's one byte
 unsnapped : (r : List ℕ) → set r status_bits.at (bit_and (get_or r status_bits.at 0) 0xDF) ≡ done Unsnap r
 unfolding done on_bytes anew

@@ -10,7 +10,6 @@ use Rattle.records.proofs.Answers.{is-record, no_record}
 use Rattle.monitor.specs.Effects.{cells_to}
 use Rattle.monitor.proofs.effects.remember.Goals as goal
 
-
 -- by whether it is a record
 remembered-where : (r : List ℕ) {is : Bool} → is_record r ≡ is → cond is (cells_to last_cells r) r ≡ cond (is_record r) (cells_to last_cells r) r
 remembered-where r e = ap (λ (is : Bool). cond is (cells_to last_cells r) r) (sym e)

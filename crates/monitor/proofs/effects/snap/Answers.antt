@@ -11,7 +11,6 @@ use Rattle.records.specs.declared.commands.Bare.TheVariants.{Snap}
 use Rattle.monitor.specs.Effects.{cells_to, copied, done}
 use Rattle.monitor.proofs.effects.snap.Goals as goal
 
-
 -- by whether a snapshot is on
 done-where : (r : List ℕ) {on : Bool} → snapped r ≡ on → cond on r (copied r) ≡ done Snap r
 unfolding done

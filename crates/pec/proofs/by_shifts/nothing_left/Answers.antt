@@ -12,7 +12,6 @@ use Rattle.pec.specs.Words.{polynomial10, number_right}
 use Rattle.pec.proofs.ManyBits.{from_start}
 use Rattle.pec.proofs.by_shifts.nothing_left.Goals as goal
 
-
 of-zeros : remainder 10 polynomial10 16 (bits_of 64 0) ≡ 0x04c
 unfolding remainder step once bits_of odd ◌⊕◌ xor
 of-zeros = refl

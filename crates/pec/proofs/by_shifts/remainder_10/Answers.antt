@@ -14,7 +14,6 @@ use Rattle.pec.specs.Words.{polynomial10}
 use Rattle.pec.proofs.ByShifts.{Linear, then_linear, same, sum, down, up, low, times_linear, powers, formula, rule, by_shifts}
 use Rattle.pec.proofs.by_shifts.remainder_10.Goals as goal
 
-
 -- a number times (1 + x)(1 + x^2) + x^7
 lower : ℕ → ℕ
 lower q = (q ⊕ q * 2 ^ 1) ⊕ (q ⊕ q * 2 ^ 1) * 2 ^ 2 ⊕ q * 2 ^ 7

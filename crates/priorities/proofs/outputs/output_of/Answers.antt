@@ -1,12 +1,10 @@
 -- `priorities::outputs::output_of` meets its contract: each test is the event of a row, from the top.
 -- Assumes nothing.
-use mathlib.Core.Path.{◌≡◌, sym, ap, ◌∙◌}
+use mathlib.Core.Path.{sym, ap, ◌∙◌}
 use Prim.Native.Nat.{ℕ}
 use lib.Dec.{ltb}
-use Rattle.priorities.specs.Table27.{output_of}
-use Rattle.priorities.proofs.Rows.{output, below, by_7, past_7, by_6, past_6, by_5, past_5, by_4, past_4, by_3, past_3, by_2, by_1}
+use Rattle.priorities.proofs.Rows.{output, by_7, past_7, by_6, past_6, by_5, past_5, by_4, past_4, by_3, past_3, by_2, by_1}
 use Rattle.priorities.proofs.outputs.output_of.Goals as goal
-
 
 pub returns-then-events : goal.returns-then-events
 returns-then-events c = sym (by_7 _ _ _ _ c.if-events.true)

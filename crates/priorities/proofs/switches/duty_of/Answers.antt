@@ -9,7 +9,6 @@ use Rattle.laws.specs.Bits.{odd}
 use Rattle.priorities.specs.Switches.{duty_byte, duty}
 use Rattle.priorities.proofs.switches.duty_of.Goals as goal
 
-
 -- the half that the cell's number says, of the byte that was read
 half : (r : List ℕ) (c : ℕ) {byte : ℕ} → byte ≡ duty_byte r c → (b : Bool) → odd c ≡ b → cond b (byte % 16) (byte / 16 % 16) ≡ duty r c
 unfolding duty

@@ -12,7 +12,6 @@ use Rattle.thresholds.specs.Thresholds.{codes_of}
 use Rattle.thresholds.proofs.TwosComplement.{widens, widened, times_fit}
 use Rattle.thresholds.proofs.thresholds.codes_of.Goals as goal
 
-
 fits : (c : goal.After-struct_told-1) → SFits w16 c.args.step.0
 fits c = record { sfits = c.struct_told-1.given.0.1 }
 

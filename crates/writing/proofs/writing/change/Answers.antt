@@ -1,8 +1,6 @@
 -- `writing::writing::change` meets its contract: a loop that makes so many bytes anew.
 -- Assumes nothing.
-use Prim.Native.Nat.{◌-◌}
 use native.Mathlib.Omega.{arith}
-use Rattle.writes.specs.Writes.{changed}
 use Rattle.records.proofs.Making.{making_start, making_more, making_end}
 use Rattle.writing.proofs.writing.change.Goals as goal
 

@@ -1,7 +1,6 @@
 -- `writing::writing::store` meets its contract: a loop that makes six bytes anew.
 -- Assumes nothing.
 use mathlib.Core.Path.{sym}
-use Prim.Native.Nat.{◌-◌}
 use native.Mathlib.Nat.{mod-eq_of_lt}
 use Rattle.records.proofs.Making.{making_start, making_more, making_end}
 use Rattle.writing.proofs.writing.store.Goals as goal

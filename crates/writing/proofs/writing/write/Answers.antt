@@ -15,7 +15,6 @@ use Rattle.records.specs.Commands.{data_size}
 use Rattle.writes.specs.Writes.{rules_of, changed, by_rules, opens, written}
 use Rattle.writes.proofs.Storing.{stored-whole, whole_is_six}
 use Rattle.writes.proofs.Written.{rules_fit, enough_for_record, fewer_for_record, for_no_record}
-use borrow.Author.Rules.{rules}
 use Rattle.writing.proofs.writing.write.Goals as goal
 
 -- the rules that the code read fit a record
