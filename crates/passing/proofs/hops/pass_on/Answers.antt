@@ -1,7 +1,7 @@
 -- `passing::hops::pass_on` meets its contract: what is left of the way, from what is at hand, comes to what the whole way comes to.
 -- Assumes nothing.
 use mathlib.Core.Path.{sym, ◌∙◌, subst}
-use Prim.Native.Nat.{ℕ, ◌-◌, ◌≤◌, ◌<◌}
+use Prim.Native.Nat.{ℕ, ◌≤◌, ◌<◌}
 use native.Mathlib.Omega.{arith}
 use Rattle.passing.proofs.Laps.{first_lap, few-hops, last_lap, reachable, still_whole, stopped, next_lap}
 use Rattle.passing.proofs.hops.pass_on.Goals as goal
@@ -15,7 +15,7 @@ pub behind-requires : goal.behind-requires
 behind-requires c =
     let start = c in
     let a = start.args in
-    let few = few-hops a.to-a a.n a.k a.count a.flags a.table.now start.requires.0 in
+    let few = few-hops a.to_a a.n a.k a.count a.flags a.table.now start.requires.0 in
     let last = c.hops-last.ensures in
     (omega arith, omega arith)
 
@@ -47,7 +47,7 @@ pub overflow_add-i : goal.overflow_add-i
 overflow_add-i c =
     let start = c in
     let a = start.args in
-    let few = few-hops a.to-a a.n a.k a.count a.flags a.table.now start.requires.0 in
+    let few = few-hops a.to_a a.n a.k a.count a.flags a.table.now start.requires.0 in
     let last = c.hops-last.ensures in
     omega arith
 

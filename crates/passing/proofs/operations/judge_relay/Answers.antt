@@ -2,7 +2,6 @@
 -- Assumes nothing.
 use mathlib.Core.Path.{sym, ◌∙◌}
 use mathlib.Core.List.{[], ◌∷◌}
-use Prim.Native.Nat.{◌-◌}
 use Rattle.judging.specs.declared.places.Placed.TheVariants.{Nowhere}
 use Rattle.judging.specs.Places.{place_refusals}
 use Rattle.passing.specs.Operations.{message_row, out_row, relay_refusals}
