@@ -33,6 +33,7 @@ pub fn osk_volts(code: i16) -> f64
 
 // The summary of 1 to 512 codes, at the start of a buffer: 1 where there is one and 0 where all cells are cleared, and the number of
 // cells not cleared. The buffer stays where there is none, and where that is refused.
+#[tactic(auto, unfolding(refusals::specs::Order::decide))]
 pub fn osk_summary(codes: &[i16], out: &mut [f64]) -> u32
     ensures value { result ≡ packed (summary_parts (summary_of codes.now) (length out.old)) }
     ensures out_after { out.new ≡ summary_out (summary_of codes.now) out.old }

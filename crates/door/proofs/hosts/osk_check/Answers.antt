@@ -1,6 +1,6 @@
 -- `door::hosts::osk_check` meets its contract, answer by answer.
 -- Assumes nothing.
-use mathlib.Core.Path.{sym, ◌∙◌}
+use mathlib.Core.Path.{sym}
 use Rattle.packing.proofs.Packed.{as_told}
 use Rattle.door.specs.Answers.{checked_parts}
 use Rattle.door.proofs.hosts.osk_check.Goals as goal

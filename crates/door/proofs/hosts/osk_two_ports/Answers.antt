@@ -6,41 +6,47 @@ use Prim.Native.Nat.{ℕ, ◌-◌, ◌*◌}
 use native.Mathlib.Omega.{arith}
 use Rattle.records.specs.Commands.{payload_size}
 use Rattle.ports.specs.Ports.{place_a, place_b}
-use Rattle.ports.proofs.TwoPorts.{Asked, asked-a, asked-b}
+use Rattle.ports.proofs.TwoPorts.{asked-a, asked-b}
 use Rattle.packing.specs.Packed.{packed, accepted}
 use Rattle.packing.proofs.Packed.{as_told}
 use Rattle.door.specs.Answers.{port_parts}
 use Rattle.door.proofs.hosts.osk_two_ports.Goals as goal
 
-
--- where port A answers, and where port B does
-in-reply-a : (c : goal.In-A-2) → let q = c.args in Asked q.a.now q.b.now q.monitors q.position
-in-reply-a c =
-    let q = c.args in
-    asked-a q.a.now q.b.now q.monitors q.position q.expected _ (sym c.in-A.ensures)
-
-in-reply-b : (c : goal.In-B-2) → let q = c.args in Asked q.a.now q.b.now q.monitors q.position
-in-reply-b c =
-    let q = c.args in
-    asked-b q.a.now q.b.now q.monitors q.position q.expected _ (sym c.in-B.ensures)
-
 pub overflow_sub-position : goal.overflow_sub-position
-overflow_sub-position c = let asked = in-reply-a c.before.before in omega (arith, asked.first, asked.last)
+overflow_sub-position c =
+    let q = c.args in
+    let asked = asked-a q.a.now q.b.now q.monitors q.position q.expected _ (sym c.in-A.ensures) in
+    omega arith
 
 pub overflow_mul-position : goal.overflow_mul-position
-overflow_mul-position c = let asked = in-reply-a c.before.before in omega (arith, asked.most, asked.last)
+overflow_mul-position c =
+    let q = c.args in
+    let asked = asked-a q.a.now q.b.now q.monitors q.position q.expected _ (sym c.in-A.ensures) in
+    omega arith
 
 pub overflow_cast-position : goal.overflow_cast-position
-overflow_cast-position c = let asked = in-reply-a c.before.before in omega (arith, asked.most, asked.last)
+overflow_cast-position c =
+    let q = c.args in
+    let asked = asked-a q.a.now q.b.now q.monitors q.position q.expected _ (sym c.in-A.ensures) in
+    omega arith
 
 pub overflow_sub-monitors : goal.overflow_sub-monitors
-overflow_sub-monitors c = let asked = in-reply-b c.before.before in omega (arith, asked.first, asked.last)
+overflow_sub-monitors c =
+    let q = c.args in
+    let asked = asked-b q.a.now q.b.now q.monitors q.position q.expected _ (sym c.in-B.ensures) in
+    omega arith
 
 pub overflow_mul-monitors : goal.overflow_mul-monitors
-overflow_mul-monitors c = let asked = in-reply-b c.before.before in omega (arith, asked.most, asked.last)
+overflow_mul-monitors c =
+    let q = c.args in
+    let asked = asked-b q.a.now q.b.now q.monitors q.position q.expected _ (sym c.in-B.ensures) in
+    omega arith
 
 pub overflow_cast-monitors : goal.overflow_cast-monitors
-overflow_cast-monitors c = let asked = in-reply-b c.before.before in omega (arith, asked.most, asked.last)
+overflow_cast-monitors c =
+    let q = c.args in
+    let asked = asked-b q.a.now q.b.now q.monitors q.position q.expected _ (sym c.in-B.ensures) in
+    omega arith
 
 pub returns-in-Refused : goal.returns-in-Refused
 returns-in-Refused c =
@@ -50,15 +56,13 @@ returns-in-Refused c =
 pub returns-in-A : goal.returns-in-A
 unfolding place_a
 returns-in-A c =
-    let s = c in
-    let q = s.args in
+    let q = c.args in
     as_told (port_parts q.monitors q.position) (c.accepted.ensures ∙ ap (λ (first : ℕ). packed (accepted first ((q.position - 1) * payload_size))) c.told.ensures)
-    (sym s.port_of.ensures ∙ s.differs-1.given.1)
+    (sym c.in-A.ensures)
 
 pub returns-in-B : goal.returns-in-B
 unfolding place_b
 returns-in-B c =
-    let s = c in
-    let q = s.args in
+    let q = c.args in
     as_told (port_parts q.monitors q.position) (c.accepted-in-B.ensures ∙ ap (λ (first : ℕ). packed (accepted first ((q.monitors - q.position) * payload_size))) c.told-in-B.ensures)
-    (sym s.port_of.ensures ∙ s.differs-in-B-1.given.1)
+    (sym c.in-B.ensures)

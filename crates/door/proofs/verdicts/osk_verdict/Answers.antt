@@ -1,6 +1,6 @@
 -- `door::verdicts::osk_verdict` meets its contract, verdict by verdict.
 -- Assumes nothing.
-use mathlib.Core.Path.{sym, ◌∙◌}
+use mathlib.Core.Path.{sym}
 use Rattle.door.specs.Answers.{verdict_parts}
 use Rattle.packing.proofs.Packed.{as_told}
 use Rattle.door.proofs.verdicts.osk_verdict.Goals as goal

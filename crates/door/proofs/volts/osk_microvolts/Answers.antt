@@ -4,34 +4,26 @@
 use mathlib.Core.Path.{◌≡◌, ap, ◌∙◌, subst⁻¹}
 use native.Mathlib.Omega.{arith}
 use lib.IntN.{ℤ}
-use mir.Syntax.{w16, w32, w64}
+use mir.Syntax.{w32, w64}
 use mir.Val.{SFits, to_z, of_z}
 use mir.Facts.{to_z-of_z}
-use Rattle.thresholds.proofs.TwosComplement.{widens, widened}
+use Rattle.thresholds.proofs.TwosComplement.{widened}
 use Rattle.readings.specs.Readings.{microvolts}
 use Rattle.readings.proofs.Magnitudes.{fits-by-size}
 use Rattle.readings.proofs.Sizes.{code-size}
 use Rattle.door.proofs.volts.osk_microvolts.Goals as goal
 
-
--- a code is one of 16 bits, which 32 hold
-fits : (c : goal.Start) → SFits w16 c.args.code
-fits c = record { sfits = omega arith }
-
 -- the microvolts, as the machine hands them on
 same : (c : goal.After-microvolts_of) → to_z w64 (of_z w64 c.microvolts_of.result) ≡ microvolts (record { 0 = c.args.code })
 same c =
-    to_z-of_z (record { sfits = omega arith })
+    to_z-of_z {w = w64} (record { sfits = omega arith })
     ∙ c.microvolts_of.ensures
-    ∙ ap (λ (z : ℤ). microvolts (record { 0 = z })) (widened w32 tt (fits c.before))
-
-pub overflow_cast-wide : goal.overflow_cast-wide
-overflow_cast-wide c = widens w32 tt (fits c)
+    ∙ ap (λ (z : ℤ). microvolts (record { 0 = z })) (widened w32 tt c.ranges.code)
 
 pub overflow_cast-result : goal.overflow_cast-result
 overflow_cast-result c =
     let code = c.args.code in
-    subst⁻¹ (SFits w32) (same c) (fits-by-size w32 (microvolts (record { 0 = code })) (omega (arith, code-size code (fits c.before))))
+    subst⁻¹ (SFits w32) (same c) (fits-by-size w32 (microvolts (record { 0 = code })) (omega (arith, code-size code c.ranges.code)))
 
 pub returns : goal.returns
 returns c = to_z-of_z (overflow_cast-result c) ∙ same c
