@@ -3,7 +3,6 @@
 use mathlib.Core.Path.{◌≡◌, sym, ap, ◌∙◌}
 use mathlib.Core.Bool.{Bool, cond}
 use mathlib.Core.List.{[]}
-use mathlib.Core.Logic.{⊎_elim}
 use Prim.Native.Nat.{ℕ, suc, ◌+◌, ◌-◌, ◌*◌, ◌≤◌, ◌<◌}
 use native.Mathlib.Nat.{add-zero}
 use native.Mathlib.Omega.{arith}
@@ -15,6 +14,7 @@ use Rattle.wire.specs.Order.{write_payloads}
 use Rattle.wire.proofs.Order.{length-write_payloads, write_at}
 use Rattle.serving.proofs.EachActs.{acted-none, acted_more, acted-taken, acted-table}
 use Rattle.serving.proofs.served.serve_whole.Goals as goal
+use Rattle.serving.proofs.served.serve_whole.Goals.{then-act_at, else-act_at}
 
 pub loop-k-init : goal.loop-k-init
 loop-k-init c =
@@ -36,7 +36,12 @@ loop-k-preserved c =
     let more = c.loop-k-test.true in
     let within : l.k < length owns = omega (arith, length-write_payloads (width_of a.command) a.n a.payloads.now) in
     let fits : l.k * record_size + record_size ≤ length a.table.now = omega (arith, s.requires.0) in
-    let one : c.if-act_at.taken ≡ l.taken + cond c.act_at.result 1 0 = ⊎_elim (λ w. w.1 ∙ ap (λ (b : Bool). l.taken + cond b 1 0) (sym w.0.taken)) (λ w. w.1 ∙ sym (add-zero l.taken) ∙ ap (λ (b : Bool). l.taken + cond b 1 0) (sym w.0.left)) c.if-act_at.branch in (
+    let one : c.if-act_at.taken ≡ l.taken + cond c.act_at.result 1 0 =
+      elim c.if-act_at.branch [
+        then-act_at w ↦ w.taken-is ∙ ap (λ (b : Bool). l.taken + cond b 1 0) (sym w.if-act_at.true)
+      | else-act_at w ↦ w.taken-is ∙ sym (add-zero l.taken) ∙ ap (λ (b : Bool). l.taken + cond b 1 0) (sym w.if-act_at.false)
+      ]
+    in (
       omega arith,
       acted_more a.command a.table.now owns l.k within _ l.invariant.1 fits
           (c.payload_in-own.ensures
