@@ -3,7 +3,6 @@
 use mathlib.Core.Path.{◌≡◌, sym, ap, ◌∙◌}
 use mathlib.Core.Bool.{Bool, cond}
 use mathlib.Core.List.{List}
-use mathlib.Core.Logic.{⊎_elim}
 use Prim.Native.Nat.{ℕ, ◌+◌, ◌-◌, ◌*◌, ◌≤◌, ◌<◌}
 use native.Mathlib.Nat.{add-zero}
 use native.Mathlib.Omega.{arith}
@@ -16,6 +15,7 @@ use Rattle.clocking.specs.Bytes.{clock_of}
 use Rattle.clocking.proofs.Register.{length-windows}
 use Rattle.releasing.proofs.releases.act_all.Invariants.{windowsOf}
 use Rattle.releasing.proofs.releases.act_all.Goals as goal
+use Rattle.releasing.proofs.releases.act_all.Goals.{then-serve_at, else-serve_at}
 
 -- one for each monitor
 as_many : (s : List ℕ) {n : ℕ} → n ≡ chained_in s → length (windowsOf s) ≡ n
@@ -42,7 +42,12 @@ loop-k-preserved c =
     let l = c.loop-k in
     let within : l.k < length (windowsOf a.state.now) = omega (arith, as_many a.state.now p.1) in
     let fits : l.k * record_size + record_size ≤ length a.table.now = omega (arith, p.0) in
-    let one : c.if-serve_at.taken ≡ l.taken + cond c.serve_at.result 1 0 = ⊎_elim (λ w. w.1 ∙ ap (λ (b : Bool). l.taken + cond b 1 0) (sym w.0.taken)) (λ w. w.1 ∙ sym (add-zero l.taken) ∙ ap (λ (b : Bool). l.taken + cond b 1 0) (sym w.0.left)) c.if-serve_at.branch in (
+    let one : c.if-serve_at.taken ≡ l.taken + cond c.serve_at.result 1 0 =
+      elim c.if-serve_at.branch [
+        then-serve_at w ↦ w.taken-is ∙ ap (λ (b : Bool). l.taken + cond b 1 0) (sym w.if-serve_at.true)
+      | else-serve_at w ↦ w.taken-is ∙ sym (add-zero l.taken) ∙ ap (λ (b : Bool). l.taken + cond b 1 0) (sym w.if-serve_at.false)
+      ]
+    in (
       omega arith,
       acted_more a.command a.table.now (windowsOf a.state.now) l.k within _ l.invariant.1 fits
           c.window_in-window.ensures
