@@ -15,5 +15,5 @@ returns c =
     let s = a.state.now in
     let sized : length s ≡ state_size = search rules in
     let took = c.take_in-back.ensures in
-    let bytes : c.count.new.0 ≡ state_after a.table.now a.byte s = c.count.ensures ∙ ap counted took.state_after in
+    let bytes : c.count.new.state ≡ state_after a.table.now a.byte s = c.count.ensures ∙ ap counted took.state_after in
     record { value = took.value; state_after = ap clock_of bytes ∙ view a.table.now a.byte s sized; state_after_2 = bytes }

@@ -29,13 +29,13 @@ slice_bounds-reply_all-end c =
     let start = c in
     omega (arith, length-stored start.args.table.now start.args.state.now c.kind_of.result c.sound_count-count.result start.requires)
 
-pub shape_of-state : goal.shape_of-state
-shape_of-state c =
-    let start = c in
-    ap length (returns c) ∙ length-noted start.args.table.now start.args.state.now start.requires ∙ sym start.requires
-
 pub returns : goal.returns
 unfolding chained_by head_in
 returns c =
     let start = c in
     noted-by start.args.table.now start.args.state.now _ _ start.requires c.known_command-command.ensures c.kind_of.ensures c.sound_count-count.ensures c.reply_all.ensures.buffer_after
+
+pub shape_of-state : goal.shape_of-state
+shape_of-state c =
+    let start = c in
+    ap length (returns c) ∙ length-noted start.args.table.now start.args.state.now start.requires ∙ sym start.requires
