@@ -17,7 +17,7 @@ returns-then-buffer-size c =
     let a = c.args in
     let its = c.reply_after-size.ensures ∙ ap reply_of c.judge.ensures in
     let s = settled_room (clock_of a.state.now) a.table.now a.back.now a.buffer.now its c.if-buffer-size.true in
-    record { value = s.the-answer; table_after = s.the-table; buffer_after = s.the-buffer }
+    record { value = s.the_answer; table_after = s.the_table; buffer_after = s.the_buffer }
 
 pub slice_bounds-put-end : goal.slice_bounds-put-end
 slice_bounds-put-end c =
@@ -41,4 +41,4 @@ returns c =
     ∙ ap (λ (k : ℕ). take size.result a.back.now ++ drop k a.buffer.now) part in
     let released = c.release.ensures in
     let s = settled-none (clock_of a.state.now) a.table.now a.back.now a.buffer.now its room released.value released.table_after left in
-    record { value = s.the-answer; table_after = s.the-table; buffer_after = s.the-buffer }
+    record { value = s.the_answer; table_after = s.the_table; buffer_after = s.the_buffer }
