@@ -1,7 +1,6 @@
 -- `clocking::bytes_in::known_command` meets its contract, test by test. A table that is not sound counts 0, and no other does.
 -- Assumes nothing.
 use mathlib.Core.Path.{sym, ◌∙◌}
-use borrow.Author.Tests.{not-true, not-false}
 use Rattle.judging.proofs.Judging.{none, not_none}
 use Rattle.clocking.specs.Clock.{chained_by}
 use Rattle.clocking.proofs.Known.{known_unsound, known_wrong, known-right}
@@ -19,7 +18,7 @@ unfolding chained_by
 returns-then-not-command_right c =
     let s = c in
     let t = s.args.table.now in
-    sym (known_wrong t s.args.head.now (not_none t s.requires.1 c.if-count-eq0.false) (sym c.command_right.ensures ∙ not-true _ c.if-not-command_right.true-raw))
+    sym (known_wrong t s.args.head.now (not_none t s.requires.1 c.if-count-eq0.false) (sym c.command_right.ensures ∙ c.if-not-command_right.true))
 
 pub returns : goal.returns
 unfolding chained_by
@@ -27,4 +26,4 @@ returns c =
     let s = c in
     let t = s.args.table.now in
     c.command_in-command.ensures
-    ∙ sym (known-right t s.args.head.now (not_none t s.requires.1 c.if-count-eq0.false) (sym c.command_right.ensures ∙ not-false _ c.if-not-command_right.false-raw))
+    ∙ sym (known-right t s.args.head.now (not_none t s.requires.1 c.if-count-eq0.false) (sym c.command_right.ensures ∙ c.if-not-command_right.false))

@@ -1,10 +1,8 @@
 -- `judging::tables::all_sound` meets its contract: every record so far is sound. The measure is what is left of them.
 -- Assumes nothing.
 use mathlib.Core.Path.{◌≡◌, refl, sym, ap, ◌∙◌}
-use mathlib.Core.Bool.{true}
-use Prim.Native.Nat.{ℕ, ◌-◌}
+use Prim.Native.Nat.{ℕ}
 use native.Mathlib.Omega.{arith}
-use borrow.Author.Tests.{not-true, not-false}
 use Rattle.laws.specs.Counts.{all}
 use Rattle.laws.specs.Rows.{rows}
 use Rattle.records.specs.Record.{record_size, record_sound}
@@ -17,11 +15,11 @@ loop-k-init c = (omega arith, refl)
 
 pub returns-then-not-record_sound : goal.returns-then-not-record_sound
 returns-then-not-record_sound c =
-    sym (one_fails c.args.table.now c.loop-k.k (omega arith) c.loop-k-test.true c.record_sound.ensures (not-true _ c.if-not-record_sound.true-raw))
+    sym (one_fails c.args.table.now c.loop-k.k (omega arith) c.loop-k-test.true c.record_sound.ensures c.if-not-record_sound.true)
 
 pub loop-k-preserved : goal.loop-k-preserved
 loop-k-preserved c =
-    (omega arith, one_more_lem c.args.table.now c.loop-k.k (omega arith) c.record_sound.ensures (not-false _ c.if-not-record_sound.false-raw) c.loop-k.invariant.1)
+    (omega arith, one_more_lem c.args.table.now c.loop-k.k (omega arith) c.record_sound.ensures c.if-not-record_sound.false c.loop-k.invariant.1)
 
 pub returns : goal.returns
 returns c =

@@ -1,7 +1,7 @@
 -- `measuring::measuring::is_pending` meets its contract: two bytes, each by its mask.
 -- Assumes nothing.
 use mathlib.Core.Path.{sym, ap, ap₂, ◌∙◌}
-use mathlib.Core.Bool.{Bool, true, false, not, ◌||◌}
+use mathlib.Core.Bool.{Bool, not, ◌||◌}
 use Prim.Native.Nat.{ℕ}
 use lib.Bits.{bit_and}
 use lib.Dec.{eqb}

@@ -3,7 +3,7 @@
 use mathlib.Core.Path.{◌≡◌}
 use Prim.Native.Nat.{◌-◌, ◌≤◌}
 use Rattle.records.specs.Record.{cell_count}
-use Rattle.measuring.specs.Measuring.{kinds, kinds_in}
+use Rattle.measuring.specs.Measuring.{kinds_in}
 use Rattle.measuring.proofs.measuring.kinds_in.Given as goal
 
 abbrev pub invariant-loop-c : goal.invariant-loop-c
