@@ -40,7 +40,7 @@ pub(crate) fn volts_of(microvolts: i64) -> f64
 }
 
 // A code as a reading.
-#[tactic(auto, using(crate::proofs::Codes::microvolts_exact), unfolding(crate::specs::Readings::reading_of))]
+#[tactic(auto, unfolding(crate::specs::Readings::reading_of))]
 pub fn reading_of(code: ResultCode) -> Reading
     ensures { result ≡ reading_of code }
 {
