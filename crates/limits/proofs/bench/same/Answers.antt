@@ -13,8 +13,7 @@ loop-i-init c = ((λ k l h. absurd (omega arith)), search rules)
 -- two bytes differ, so the two do not agree
 pub returns-then-a-i : goal.returns-then-a-i
 returns-then-a-i c =
-    let at-loop = c.before.before in
-    record { k_value = (λ e k h l. cc); by_index = (λ all. absurd (c.if-a-i.true (all at-loop.loop.i at-loop.loop.invariant.1 (search rules)))) }
+    record { k_value = (λ e k h l. cc); by_index = (λ all. absurd (c.if-a-i.true (all c.loop-i.i c.loop-i.invariant.1 (search rules)))) }
 
 pub loop-i-preserved : goal.loop-i-preserved
 loop-i-preserved c = (below_more _ _ c.loop-i.invariant.0 (λ h. c.if-a-i.false), search rules)
