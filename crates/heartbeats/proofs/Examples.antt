@@ -1,7 +1,7 @@
 -- Worked examples of a turn, by computation: the sheet's chain of six monitors, whose manager starts at 48 (hex).
 -- Assumes nothing.
 use mathlib.Core.Path.{◌≡◌, refl}
-use mathlib.Core.Bool.{true, false, xor}
+use mathlib.Core.Bool.{xor}
 use mathlib.Core.List.{List, [], ◌∷◌, ◌++◌}
 use Prim.Native.Nat.{ℕ}
 use lib.ListN.{length, replicate}

@@ -2,7 +2,7 @@
 -- measurement stays, and the monitor stays in LPCM or out of it. And what leaves a monitor as it is: a message to a manager, to one not in LPCM, or one
 -- that is not right.
 -- Assumes nothing.
-use mathlib.Core.Path.{◌≡◌, refl, sym, ap, ap₂, ◌∙◌}
+use mathlib.Core.Path.{◌≡◌, refl, sym, ap, ◌∙◌}
 use mathlib.Core.Bool.{Bool, true, false, cond, not, ◌&&◌, ◌||◌}
 use mathlib.Core.List.{List}
 use mathlib.Core.Logic.{inl, inr}
@@ -21,9 +21,8 @@ use Rattle.records.proofs.Parts.{byte_of-part, outside_anew, sound_elsewhere}
 use Rattle.measuring.specs.Measuring.{measured}
 use Rattle.measuring.proofs.Measured.{length-measured, sound-measured, measured_spares}
 use Rattle.messages.specs.Messages.{count_in, flags_in, message_right, is_pass}
-use Rattle.heartbeats.specs.declared.steps.Beat.{Beat}
 use Rattle.heartbeats.specs.declared.steps.Beat.TheVariants.{Silent, Sends}
-use Rattle.heartbeats.specs.Steps.{manages, is_manager, is_timeout, counted_down, joined_to, woken, wakes, hears, judged, reached, answers, late}
+use Rattle.heartbeats.specs.Steps.{manages, is_manager, is_timeout, counted_down, joined_to, woken, hears, judged, reached, answers, late}
 
 -- what holds of both holds of either
 either : {A : Type 0} (f : List ℕ → A) (b : Bool) (x y : List ℕ) {z : A} → f x ≡ z → f y ≡ z → f (cond b x y) ≡ z

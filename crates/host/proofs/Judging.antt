@@ -1,7 +1,7 @@
 -- Judging a request for a frame: down the list of its refusals to the first that holds, and back up it to what is known of a
 -- request that is accepted. What comes of building goes by the judgement.
 -- Assumes nothing.
-use mathlib.Core.Path.{◌≡◌, refl, sym, ap, ◌∙◌}
+use mathlib.Core.Path.{◌≡◌, refl, sym}
 use mathlib.Core.Bool.{Bool, true, false, ◌&&◌}
 use mathlib.Core.List.{List, ◌++◌}
 use Prim.Native.Nat.{ℕ, ◌≤◌}

@@ -1,10 +1,9 @@
 -- Document 01: the frames that our host writes. Values are nearest monitor first; on the wire the farthest comes first.
 -- Assumes nothing.
-use Rattle.std.specs.Prelude.{not, ◌&&◌, List, [], ◌∷◌, ◌++◌, map, ℕ, ◌+◌, ◌*◌, eqb, leb, ltb, length, drop, replicate}
+use Rattle.std.specs.Prelude.{not, ◌&&◌, List, [], ◌∷◌, ◌++◌, map, ℕ, ◌*◌, eqb, leb, ltb, length, drop, replicate}
 use Rattle.laws.specs.Rows.{rows}
 use Rattle.pec.specs.Words.{two_bytes, command_check, seal}
 use Rattle.wire.specs.Order.{write_data}
-use Rattle.refusals.specs.declared.Refusal.{Refusal}
 use Rattle.refusals.specs.declared.Refusal.TheVariants.{CodeNotListed, NoRoom, PositionWrong, CountWrong}
 use Rattle.refusals.specs.Order.{Row, ◌gives◌, decide}
 use Rattle.records.specs.declared.commands.Command.{Command}

@@ -12,7 +12,7 @@ use borrow.Author.Tests.{eq-eqb, ne_eqb}
 use Rattle.laws.specs.Counts.{all}
 use Rattle.refusals.specs.declared.Refusal.{Refusal}
 use Rattle.refusals.specs.declared.Refusal.TheVariants.{TableNotSound, CountWrong, CodeCleared}
-use Rattle.refusals.specs.Order.{Row, decide}
+use Rattle.refusals.specs.Order.{decide}
 use Rattle.refusals.proofs.Deciding.{holds_here, holds_not, none_left, decide_append, passes, has_passed}
 use Rattle.records.specs.Record.{cell_count}
 use Rattle.judging.specs.Table.{sound}

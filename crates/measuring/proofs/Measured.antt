@@ -9,13 +9,13 @@ use Prim.Native.Nat.{ℕ}
 use native.Mathlib.Omega.{arith}
 use lib.Bits.{bit_or, or_zero_r, or_comm}
 use lib.Dec.{eqb, lit≤, lit<}
-use lib.ListN.{length, get_or, set}
-use borrow.Author.Tests.{eq-eqb, ne_eqb, eqb-true, eqb-false}
+use lib.ListN.{length, get_or}
+use borrow.Author.Tests.{ne_eqb, eqb-true, eqb-false}
 use Rattle.laws.specs.Bits.{bit_at}
 use Rattle.laws.proofs.BitAt.{or_bits}
 use Rattle.laws.proofs.Or.{or_again}
 use Rattle.records.specs.declared.record.Part.{Part}
-use Rattle.records.specs.Record.{cells, cmf0, last_cells, counter, unlocked, record_size, bytes_of, byte_of, Outside, anew, on_bytes, is_record, record_sound}
+use Rattle.records.specs.Record.{cells, cmf0, last_cells, record_size, bytes_of, byte_of, Outside, on_bytes, is_record, record_sound}
 use Rattle.records.proofs.Anew.{length-anew, anew_inside}
 use Rattle.records.proofs.Parts.{length_part, made_of, outside_anew, outside_byte, sound_elsewhere}
 use Rattle.monitor.specs.Effects.{cells_to}

@@ -23,9 +23,9 @@ ghost use Rattle.passing.specs.Operations.{
 };
 
 use crate::hops::{beat_from, reach_at, run_out_at, towards_a_at, wake_at};
-use laying::put;
 use heartbeats::Beat;
 use judging::{Placed, place_of};
+use laying::put;
 use messages::{MESSAGE_SIZE, message};
 use records::RECORD_SIZE;
 use refusals::Refusal;

@@ -9,7 +9,6 @@ use lib.Bits.{bit_and, bit_or, or_zero_l}
 use Rattle.records.specs.Record.{cmf0, cmf1, in_lpcm, byte_of, on_bytes}
 use Rattle.measuring.specs.Measuring.{measured, passes}
 use Rattle.messages.specs.Messages.{count_in, flags_in, message_right, is_pass}
-use Rattle.heartbeats.specs.declared.steps.Beat.{Beat}
 use Rattle.heartbeats.specs.declared.steps.Beat.TheVariants.{Silent, Sends}
 use Rattle.heartbeats.specs.Steps.{manages, is_manager, is_timeout, ndev, counted_down, joined_to, woken, wakes, hears, judged, reached, answers, late}
 

@@ -26,9 +26,9 @@ use Rattle.records.specs.Record.{cells, counter, unlocked, cmf0, cmf1, lpcm_flag
 use Rattle.records.proofs.Anew.{length-anew, anew_inside}
 use Rattle.records.proofs.Modes.{lpcm_elsewhere}
 use Rattle.records.proofs.Parts.{length_part, made_of, outside_anew, outside_byte}
-use Rattle.writes.specs.Writes.{rules_of, changed, by_rules, opens}
+use Rattle.writes.specs.Writes.{rules_of, changed, by_rules}
 use Rattle.writes.proofs.Written.{opens_always}
-use Rattle.monitor.specs.Effects.{locked, counted, cells_to, copied, enabled, done, accepts, keeps}
+use Rattle.monitor.specs.Effects.{locked, counted, cells_to, copied, enabled, done, keeps}
 use Rattle.monitor.proofs.Keeping.{accepts_awake, right-good, keeps_opened}
 use Rattle.monitor.proofs.Spares.{counted_spares}
 use Rattle.story.specs.Lpcm.{enabled_by, enabled_after}

@@ -6,7 +6,7 @@ use mathlib.Core.Path.{◌≡◌, refl, sym, ap, ap₂, ◌∙◌, subst}
 use mathlib.Core.Bool.{Bool, true, false, cond, not, ◌&&◌}
 use mathlib.Core.List.{List, [], ◌∷◌, ◌++◌}
 use mathlib.Core.Logic.{inl, inr}
-use Prim.Native.Nat.{ℕ, ◌-◌, ◌/◌, ◌%◌, ◌≤◌, ◌<◌}
+use Prim.Native.Nat.{ℕ, ◌-◌, ◌/◌, ◌%◌, ◌≤◌}
 use native.Mathlib.Omega.{arith}
 use lib.Bits.{bit_and, bit_or}
 use lib.Dec.{leb, lit<, lit≤}
@@ -37,7 +37,7 @@ use Rattle.priorities.specs.declared.outputs.Events.{Events}
 use Rattle.priorities.specs.Switches.{muted, dcc, duty_byte, duty}
 use Rattle.priorities.specs.Table27.{output_of}
 use Rattle.priorities.specs.Outputs.{shown, the_cells, outputs, count_on}
-use Rattle.priorities.proofs.Rows.{output, past_7, by_6}
+use Rattle.priorities.proofs.Rows.{past_7, by_6}
 use Rattle.priorities.proofs.Deciding.{by_switches}
 use Rattle.priorities.proofs.Shown.{mute_none}
 use Rattle.discharge.specs.declared.question.Discharged.TheVariants.{Refused as Unasked, On}

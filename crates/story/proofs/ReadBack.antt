@@ -23,7 +23,7 @@ use Rattle.records.specs.declared.record.Part.{Part}
 use Rattle.records.specs.Record.{record_size, in_lpcm, byte_of, unlocked, on_bytes}
 use Rattle.records.specs.Commands.{commands, command_of, rdcfgb, rdpwma, rdpwmb, rdcmcfg, rdcmcellt, rdcmgpiot, data_size, register_size, payload_size}
 use Rattle.records.proofs.Widths.{data_most}
-use Rattle.writes.specs.Writes.{rules_of, changed, by_rules, opens, written}
+use Rattle.writes.specs.Writes.{rules_of, changed, by_rules, opens}
 use Rattle.writes.proofs.Storing.{six, as_sent}
 use Rattle.writes.proofs.Written.{opens_always}
 use Rattle.monitor.specs.Effects.{locked, counted, accepts, keeps}

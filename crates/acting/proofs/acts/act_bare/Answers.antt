@@ -12,7 +12,6 @@ use Rattle.monitor.specs.Effects.{done}
 use borrow.Author.Rules.{rules}
 use Rattle.acting.proofs.acts.act_bare.Goals as goal
 
-
 of-record : (what : Bare) (r : List ℕ) → length r ≡ record_size → cond (is_record r) (done what r) r ≡ done what r
 of-record what r h = ap (λ (is : Bool). cond is (done what r) r) (is-record r h)
 

@@ -9,7 +9,6 @@ use Rattle.records.specs.Record.{counter, anew, on_bytes}
 use Rattle.monitor.specs.Effects.{locked, counted}
 use Rattle.acting.proofs.acts.begin.Goals as goal
 
-
 -- what is left, by whether it is taken
 abbrev left : List ℕ → Bool → List ℕ
 left r taken = cond taken (counted (locked r)) (locked r)

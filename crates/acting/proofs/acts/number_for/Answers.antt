@@ -10,7 +10,6 @@ use Rattle.records.specs.Commands.{data_size}
 use Rattle.records.proofs.Widths.{six_or_two}
 use Rattle.acting.proofs.acts.number_for.Goals as goal
 
-
 -- six data bytes, by the size that the code read; or else two
 of-six : (what : Write) (own : List ℕ) {n : ℕ} → n ≡ data_size what → n ≡ 6 → payload_right own ≡ sealed_right (data_size what) own
 unfolding payload_right

@@ -14,7 +14,6 @@ use Rattle.replying.proofs.RepliesInto.{fitting}
 use Rattle.chain.proofs.Outcome.{the_answer, the_table, the_buffer}
 use Rattle.chain.proofs.frames.handle.Goals as goal
 
-
 -- what is known of a frame that is judged good
 known : (table frame buffer : List ℕ) {command : Command} {n : ℕ} {j : Judged} → j ≡ Good command n → ReadyIf j table frame (length buffer)
     → Ready command n table frame (length buffer)

@@ -38,10 +38,13 @@ returns-else-room-reply_size c =
     let size = within_most _ _ head.few c.reply_size.ensures in
     let enough = subst (λ (x : ℕ). x ≤ a.room) size c.if-room-reply_size.false in
     let not_none : c.sound_count.result ≡ 0 → ⊥ = λ z. omega (arith, head.some, head.same, z) in
-    record { value = sym (pass_room t f a.room counted e enough); ready_if = record {
+    record {
+      value = sym (pass_room t f a.room counted e enough);
+      ready_if = record {
         whole = counts_whole t counted not_none ∙ ap (λ (x : ℕ). x * record_size) (sym head.same);
         some = head.some;
         few = head.few;
         long = head.long;
         enough = enough;
-      } }
+      };
+    }

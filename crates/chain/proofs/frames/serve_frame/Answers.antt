@@ -20,6 +20,9 @@ returns c =
     let after = c.payloads_of.ensures in
     let pre = c.requires in
     let so = whole_records a.n a.table.now pre.1 pre.0 in
-    record { value = served.value ∙ sym (where_so _ _ _ so) ∙ ap (λ (ps : List ℕ). takers a.command (rows record_size a.n a.table.now) (write_payloads (width_of a.command) a.n ps)) after; table_after = served.table_after
+    record {
+      value = served.value ∙ sym (where_so _ _ _ so) ∙ ap (λ (ps : List ℕ). takers a.command (rows record_size a.n a.table.now) (write_payloads (width_of a.command) a.n ps)) after;
+      table_after = served.table_after
           ∙ sym (where_so _ _ _ so)
-          ∙ ap (λ (ps : List ℕ). joined (along (λ r own. keeps a.command own r) (rows record_size a.n a.table.now) (write_payloads (width_of a.command) a.n ps))) after }
+          ∙ ap (λ (ps : List ℕ). joined (along (λ r own. keeps a.command own r) (rows record_size a.n a.table.now) (write_payloads (width_of a.command) a.n ps))) after;
+    }

@@ -43,6 +43,9 @@ returns c =
     let l = c.loop-i in
     let all : suc (length r - 1) ≡ length r = omega arith in
     let turns : l.i - 1 ≡ length r - 1 = omega arith in
-    record { value = the_first r 0 a.byte (omega arith); register_after = ap (λ (x : List ℕ). set x (length r - 1) a.byte) l.invariant.3
+    record {
+      value = the_first r 0 a.byte (omega arith);
+      register_after = ap (λ (x : List ℕ). set x (length r - 1) a.byte) l.invariant.3
           ∙ ap (λ (k : ℕ). set (turned k r) (length r - 1) a.byte) turns
-          ∙ turned-all (length r - 1) r a.byte all }
+          ∙ turned-all (length r - 1) r a.byte all;
+    }

@@ -12,7 +12,6 @@ use Rattle.measuring.specs.Measuring.{measured, passes}
 use Rattle.heartbeats.specs.Steps.{counted_down, joined_to}
 use Rattle.heartbeats.proofs.steps.own_step.Goals as goal
 
-
 module _ (r : List ℕ) (whole : length r ≡ record_size) {passed : Bool} {after : List ℕ} (p : passed ≡ is_record r && passes r) (a : after ≡ cond (is_record r) (measured r) r) where
   left : after ≡ measured r
   left = a ∙ ap (λ (is : Bool). cond is (measured r) r) (is-record r whole)

@@ -16,7 +16,6 @@ use Rattle.heartbeats.specs.declared.steps.Beat.TheVariants.{Silent, Sends}
 use Rattle.heartbeats.specs.Steps.{is_timeout, counted_down, joined_to, hears, judged, reached, answers}
 use Rattle.heartbeats.proofs.steps.reach.Goals as goal
 
-
 module _ (m r : List ℕ) where
   abbrev sent : Beat
   sent = Sends (counted_down r (count_in m)) (joined_to r (flags_in m))

@@ -1,6 +1,6 @@
 -- `heartbeats::steps::run_out` meets its contract, by its tests: one byte made anew.
 -- Assumes nothing.
-use mathlib.Core.Path.{◌≡◌, refl, sym, ap, ap₂, ◌∙◌}
+use mathlib.Core.Path.{◌≡◌, refl, sym, ap₂, ◌∙◌}
 use mathlib.Core.Bool.{Bool, cond, ◌&&◌}
 use mathlib.Core.List.{List}
 use Prim.Native.Nat.{ℕ}
@@ -11,7 +11,6 @@ use Rattle.records.specs.Record.{cmf1, is_record, anew, on_bytes}
 use Rattle.records.proofs.Answers.{is-record, no_record}
 use Rattle.heartbeats.specs.Steps.{is_timeout, late}
 use Rattle.heartbeats.proofs.steps.run_out.Goals as goal
-
 
 module _ (r : List ℕ) where
   abbrev flagged : List ℕ

@@ -13,7 +13,6 @@ use Rattle.heartbeats.specs.declared.steps.Beat.TheVariants.{Silent, Sends}
 use Rattle.heartbeats.specs.Steps.{is_manager, ndev, counted_down, joined_to, woken, wakes}
 use Rattle.heartbeats.proofs.steps.wake.Goals as goal
 
-
 module _ (r : List ℕ) where
   abbrev sent : Beat
   sent = Sends (counted_down r (ndev r)) (joined_to r 0)

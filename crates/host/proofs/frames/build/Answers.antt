@@ -48,7 +48,10 @@ pub returns : goal.returns
 returns c =
     let q = c.args in
     let answered = answer q.code q.n q.values.now (length q.buffer.now) c.command_of-command.ensures c.judge-built.ensures in
-    record { value = answered; buffer_after = c.put_body.ensures
+    record {
+      value = answered;
+      buffer_after = c.put_body.ensures
           ∙ ap (placed head_size (body c.command_of-command.result q.n q.values.now)) c.put_head.ensures
           ∙ ap (λ (k : Command). placed head_size (body k q.n q.values.now) (placed 0 (head q.code) q.buffer.now)) c.command_of-command.ensures
-          ∙ placed-accepted q.code q.n q.values.now q.buffer.now (sym answered ∙ c.in-Length.is) }
+          ∙ placed-accepted q.code q.n q.values.now q.buffer.now (sym answered ∙ c.in-Length.is);
+    }

@@ -10,7 +10,6 @@ use Rattle.laying.proofs.Placed.{tried, laid}
 use Rattle.host.specs.Frames.{head_size}
 use Rattle.host.proofs.frames.put_filler.Goals as goal
 
-
 abbrev filler : ℕ → List ℕ
 filler size = replicate size 0xFF
 

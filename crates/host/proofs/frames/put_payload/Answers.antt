@@ -71,7 +71,7 @@ put_sealed-requires c =
     let q = c.args in
     let m = q.n - (q.i + 1) in
     let own_row : length (row_at q.size m q.values.now) ≡ q.size =
-        length_row-at q.size q.n q.values.now m (omega (arith, c.requires.0)) (omega (arith, c.requires.3)) in
+    length_row-at q.size q.n q.values.now m (omega (arith, c.requires.0)) (omega (arith, c.requires.3)) in
     let long = ap length (lent_row q.size m q.values.now) ∙ own_row in
     (subst⁻¹ (λ (m : ℕ). (m ≡ 6) ⊎ (m ≡ 2)) long c.requires.2, omega (arith, long, payload_within q.size c.requires.0 c.requires.4))
 

@@ -14,7 +14,6 @@ use Rattle.host.specs.Frames.{sealed}
 use Rattle.host.proofs.Payloads.{length-sealed}
 use Rattle.host.proofs.frames.put_sealed.Goals as goal
 
-
 not-six : {m : ℕ} → (m ≡ 6) ⊎ (m ≡ 2) → (m ≡ 6 → ⊥) → m ≡ 2
 not-six (inl e) h = absurd (h e)
 not-six (inr e) h = e

@@ -83,5 +83,5 @@ returns c =
     let length = within_most a.n _ c.if-n-gt-MOST_MONITORS.false c.frame_length.ensures ∙ ap (λ (k : Command). frame_length k a.n) its in
     ap (λ (k : Command). Good k a.n) its
     ∙ sym (after-listed a.frame.now a.bytes a.n c.if-n-lt1.false c.if-n-gt-MOST_MONITORS.false c.if-bytes-lt4.false right
-      (ap is_listed (sym its) ∙ sym c.is_listed.ensures ∙ c.if-not-is_listed.false)
-      ∙ pass_length a.frame.now a.bytes a.n (c.if-bytes-frame_length.false ∙ length))
+    (ap is_listed (sym its) ∙ sym c.is_listed.ensures ∙ c.if-not-is_listed.false)
+    ∙ pass_length a.frame.now a.bytes a.n (c.if-bytes-frame_length.false ∙ length))

@@ -11,7 +11,6 @@ use Rattle.judging.proofs.Place.{by_place}
 use Rattle.loads.proofs.Judging.{compared-placed}
 use Rattle.loads.proofs.judged.judge_compare.Goals as goal
 
-
 -- what came of the place, as the code matched it
 matched : (table : List ℕ) (position : ℕ) {came told : Placed} → came ≡ placed table position → came ≡ told → by_place Unloaded Done told ≡ compared table position
 matched table position e t = ap (by_place Unloaded Done) (sym t ∙ e) ∙ sym (compared-placed table position)

@@ -8,7 +8,6 @@ use Rattle.records.specs.Record.{cell_count}
 use Rattle.measuring.specs.Measuring.{kinds_in, pending, found}
 use Rattle.measuring.proofs.measuring.found.Goals as goal
 
-
 found-where : (r : List ℕ) {is : Bool} → pending r ≡ is → cond is 0xFF (kinds_in r cell_count) ≡ found r
 unfolding found
 found-where r e = ap (λ (is : Bool). cond is 0xFF (kinds_in r cell_count)) (sym e)

@@ -9,7 +9,6 @@ use borrow.Author.Tests.{eq-eqb, ne_eqb}
 use Rattle.measuring.specs.Measuring.{pending}
 use Rattle.measuring.proofs.measuring.is_pending.Goals as goal
 
-
 either : ℕ → ℕ → Bool
 either x y = not (eqb (bit_and x 0xF0) 0) || not (eqb (bit_and y 0xD3) 0)
 

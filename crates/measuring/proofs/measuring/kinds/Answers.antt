@@ -16,7 +16,6 @@ use Rattle.measuring.specs.Measuring.{kinds}
 use Rattle.measuring.proofs.FourBits.{difference_fits, four-kinds}
 use Rattle.measuring.proofs.measuring.kinds.Goals as goal
 
-
 -- a code of 32 bits, in 64
 abbrev wide : ℤ → ℤ
 wide z = to_z w64 (of_z w64 (to_z w32 (of_z w32 z)))

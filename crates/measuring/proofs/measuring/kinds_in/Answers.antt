@@ -17,7 +17,6 @@ use Rattle.cells.specs.Cells.{code_in}
 use Rattle.measuring.specs.Measuring.{cuv, cov, masked, kinds, kinds_of, kinds_in}
 use Rattle.measuring.proofs.measuring.kinds_in.Goals as goal
 
-
 -- the kinds of a cell, by three limits
 abbrev of : List ℕ → ℕ → ℤ → ℤ → ℤ → ℕ
 of r cell low high step = cond (masked r cell) 0 (kinds (code_in cells r cell).0 (code_in last_cells r cell).0 low high step)

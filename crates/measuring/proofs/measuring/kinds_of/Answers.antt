@@ -12,7 +12,6 @@ use Rattle.cells.specs.Cells.{code_in}
 use Rattle.measuring.specs.Measuring.{masked, kinds}
 use Rattle.measuring.proofs.measuring.kinds_of.Goals as goal
 
-
 -- by whether it is left out
 module _ (r : List ℕ) (cell : ℕ) (low high step : ℤ) where
   abbrev unmasked : ℕ

@@ -7,7 +7,6 @@ use native.Mathlib.Omega.{arith}
 use Rattle.passing.specs.Hops.{behind}
 use Rattle.passing.proofs.hops.behind.Goals as goal
 
-
 module _ {toA : Bool} (k i : ℕ) where
   down : toA ≡ true → behind toA k i ≡ k - suc i
   unfolding behind

@@ -10,7 +10,6 @@ use Rattle.reads.proofs.Parts.{shows_copy, shows_live, shows_other}
 use Rattle.reads.proofs.replies.register_of.Goals as goal
 use Rattle.reads.proofs.replies.register_of.Goals.{then-of_cells+else-is_snapped, else-of_cells}
 
-
 -- of the part that is shown
 shown : (part : Part) (r : List ℕ) {q : Part} → shown_part part r ≡ q → six_bytes q r ≡ register part r
 unfolding register
@@ -33,5 +32,7 @@ returns c =
     let a = c.args in
     c.part_bytes-2.ensures
     ∙ shown a.part a.rec.now
-    (elim c.if-of_cells.branch [ then-of_cells+else-is_snapped w ↦ shows_live a.part a.rec.now (sym w.is_snapped.ensures ∙ w.if-is_snapped.false)
-    | else-of_cells w ↦ shows_other a.part a.rec.now (sym c.of_cells.ensures ∙ w.if-of_cells.false) ])
+    (elim c.if-of_cells.branch [
+      | then-of_cells+else-is_snapped w ↦ shows_live a.part a.rec.now (sym w.is_snapped.ensures ∙ w.if-is_snapped.false)
+      | else-of_cells w ↦ shows_other a.part a.rec.now (sym c.of_cells.ensures ∙ w.if-of_cells.false)
+    ])

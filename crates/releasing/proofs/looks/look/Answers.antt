@@ -55,8 +55,11 @@ returns c =
     let high : a.position ≤ v.chained = subst (λ (n : ℕ). a.position ≤ n) chained c.if-n-position.false in
     let window = c.window_in-window.ensures in
     let enough : length (window_of v a.position) ≤ length out = subst (λ (w : List ℕ). length w ≤ length out) window c.if-out-window.false in
-    record { value = ap (λ (w : List ℕ). Holds (length w)) window ∙ sym (passed v a.position (length out) Refused _ low high enough); out_after = c.put.ensures
+    record {
+      value = ap (λ (w : List ℕ). Holds (length w)) window ∙ sym (passed v a.position (length out) Refused _ low high enough);
+      out_after = c.put.ensures
           ∙ ap (λ (w : List ℕ). tried 0 w out) window
           ∙ laid 0 (window_of v a.position) out (omega arith)
           ∙ placed_first (window_of v a.position) out
-          ∙ sym (passed v a.position (length out) (λ r. out) _ low high enough) }
+          ∙ sym (passed v a.position (length out) (λ r. out) _ low high enough);
+    }

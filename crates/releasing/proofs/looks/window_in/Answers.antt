@@ -15,7 +15,6 @@ use Rattle.clocking.proofs.Register.{register-fits, come, next_place, fills_at, 
 use borrow.Author.Rules.{rules}
 use Rattle.releasing.proofs.looks.window_in.Goals as goal
 
-
 -- a write's windows up to the one at k fit a state, and have the bytes of one
 record Place (w n k : ℕ) : Type 0 where
   most : w ≤ payload_size

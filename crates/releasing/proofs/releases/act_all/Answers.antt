@@ -43,10 +43,10 @@ loop-k-preserved c =
     let within : l.k < length (windowsOf a.state.now) = omega (arith, as_many a.state.now p.1) in
     let fits : l.k * record_size + record_size ≤ length a.table.now = omega (arith, p.0) in
     let one : c.if-serve_at.taken ≡ l.taken + cond c.serve_at.result 1 0 =
-      elim c.if-serve_at.branch [
-        then-serve_at w ↦ w.taken-is ∙ ap (λ (b : Bool). l.taken + cond b 1 0) (sym w.if-serve_at.true)
+    elim c.if-serve_at.branch [
+      | then-serve_at w ↦ w.taken-is ∙ ap (λ (b : Bool). l.taken + cond b 1 0) (sym w.if-serve_at.true)
       | else-serve_at w ↦ w.taken-is ∙ sym (add-zero l.taken) ∙ ap (λ (b : Bool). l.taken + cond b 1 0) (sym w.if-serve_at.false)
-      ]
+    ]
     in (
       omega arith,
       acted_more a.command a.table.now (windowsOf a.state.now) l.k within _ l.invariant.1 fits

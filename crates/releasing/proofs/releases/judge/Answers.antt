@@ -13,7 +13,6 @@ use Rattle.releasing.proofs.ReleaseJudging.{stop_another, to_head}
 use borrow.Author.Rules.{rules}
 use Rattle.releasing.proofs.releases.judge.Goals as goal
 
-
 -- the head of a state has four bytes
 four : (s : List ℕ) → length s ≡ state_size → length (clock_of s).head ≡ 4
 unfolding clock_of head_in

@@ -1,6 +1,5 @@
 -- `remainders::bit_by_bit::over_bytes` meets its contract: a loop along the bytes. The measure is what is left of them.
 -- Assumes nothing.
-use Prim.Native.Nat.{◌-◌}
 use Rattle.remainders.proofs.Along.{along-start, along_more, along_end}
 use Rattle.remainders.proofs.bit_by_bit.over_bytes.Goals as goal
 

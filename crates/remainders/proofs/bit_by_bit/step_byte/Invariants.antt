@@ -2,7 +2,7 @@
 -- so far to the result. The measure is k.
 -- Assumes nothing.
 use mathlib.Core.Path.{◌≡◌}
-use Prim.Native.Nat.{◌-◌, ◌^◌, ◌≤◌, ◌<◌}
+use Prim.Native.Nat.{◌^◌, ◌≤◌, ◌<◌}
 use Rattle.laws.specs.Bits.{bits_of}
 use Rattle.pec.specs.Remainder.{remainder}
 use Rattle.remainders.proofs.bit_by_bit.step_byte.Given as goal

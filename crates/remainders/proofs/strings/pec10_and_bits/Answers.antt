@@ -21,11 +21,15 @@ pub step_bits-requires : goal.step_bits-requires
 unfolding table_of tabulate entry remainder step once bits_of odd ◌⊕◌ xor
 step_bits-requires c =
     let start = c in
-    record { fitting = record {
+    record {
+      fitting = record {
         width = lit< tt;
         polynomial = lit< tt;
         below = subst⁻¹ (λ (n : ℕ). n < 2 ^ 10) c.over_bytes-r.ensures (remainder-below 10 (bits_of_bytes start.args.bytes.now) (lit< tt) (lit< tt));
-      }; table_value = refl; k_bound = start.requires }
+      };
+      table_value = refl;
+      k_bound = start.requires;
+    }
 
 pub returns : goal.returns
 returns c =

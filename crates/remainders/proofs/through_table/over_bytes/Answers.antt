@@ -1,6 +1,5 @@
 -- `remainders::through_table::over_bytes` meets its contract: a loop along the bytes. The measure is what is left of them.
 -- Assumes nothing.
-use Prim.Native.Nat.{◌-◌}
 use native.Mathlib.Omega.{arith}
 use Rattle.remainders.proofs.Along.{along-start, along_more, along_end}
 use Rattle.remainders.proofs.through_table.over_bytes.Goals as goal

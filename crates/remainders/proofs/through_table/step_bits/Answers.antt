@@ -15,7 +15,6 @@ use Rattle.remainders.specs.ByTable.{table_step}
 use Rattle.remainders.proofs.ByTable.{index_below, table_step_lem}
 use Rattle.remainders.proofs.through_table.step_bits.Goals as goal
 
-
 up : (c : goal.Start) → c.args.r * 2 ^ c.args.k % 2 ^ 32 ≡ c.args.r * 2 ^ c.args.k
 up c = mod-eq_of_lt (up_fits c.args.w c.args.k 32 (omega (arith, c.requires.fitting.width)) c.requires.fitting.below)
 

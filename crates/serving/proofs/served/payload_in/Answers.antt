@@ -7,7 +7,6 @@ use Rattle.records.specs.Commands.{most_monitors, payload_size}
 use Rattle.serving.proofs.Payloads.{whole_part, short_part, no_part, ends_within, few_in_all}
 use Rattle.serving.proofs.served.payload_in.Goals as goal
 
-
 -- from a place to so many further on
 so-many : (at width : ℕ) → at + width - at ≡ width
 so-many at width = omega arith

@@ -20,7 +20,6 @@ use Rattle.serving.proofs.OneTurn.{own_of, one_taken, one_kept}
 use Rattle.serving.specs.Served.{takers}
 use Rattle.serving.proofs.served.serve_at.Goals as goal
 
-
 module _ (k : ℕ) (table : List ℕ) (fits : k * record_size + record_size ≤ length table) where
   whole : length (lent k table) ≡ record_size
   whole = ap length (part-lent record_size k table) ∙ lent_length k table fits

@@ -37,10 +37,10 @@ loop-k-preserved c =
     let within : l.k < length owns = omega (arith, length-write_payloads (width_of a.command) a.n a.payloads.now) in
     let fits : l.k * record_size + record_size ≤ length a.table.now = omega (arith, s.requires.0) in
     let one : c.if-act_at.taken ≡ l.taken + cond c.act_at.result 1 0 =
-      elim c.if-act_at.branch [
-        then-act_at w ↦ w.taken-is ∙ ap (λ (b : Bool). l.taken + cond b 1 0) (sym w.if-act_at.true)
+    elim c.if-act_at.branch [
+      | then-act_at w ↦ w.taken-is ∙ ap (λ (b : Bool). l.taken + cond b 1 0) (sym w.if-act_at.true)
       | else-act_at w ↦ w.taken-is ∙ sym (add-zero l.taken) ∙ ap (λ (b : Bool). l.taken + cond b 1 0) (sym w.if-act_at.false)
-      ]
+    ]
     in (
       omega arith,
       acted_more a.command a.table.now owns l.k within _ l.invariant.1 fits
