@@ -46,7 +46,7 @@ use Rattle.clocking.proofs.Known.{reply_short}
 use Rattle.clocking.proofs.Register.{come, leaves-first, fills_at, drains_at, still_at}
 use Rattle.messages.specs.Messages.{message_size}
 use Rattle.passing.specs.declared.operations.Sent.{Sent}
-use Rattle.passing.specs.declared.operations.Sent.TheVariants.{Unsent, Nothing as None, TowardsA, TowardsB}
+use Rattle.passing.specs.declared.operations.Sent.TheVariants.{Unsent, Nothing as NothingSent, TowardsA, TowardsB}
 use Rattle.passing.specs.declared.operations.Relayed.{Relayed}
 use Rattle.passing.specs.declared.operations.Relayed.TheVariants.{Unrelayed, Stopped, SentOn}
 use Rattle.passing.specs.declared.operations.TimedOut.{TimedOut as Timed}
@@ -104,7 +104,7 @@ load_fits Done = accepted-fits 0 0 (omega arith) (omega arith)
 
 pub sent_fits : (s : Sent) → Fit (sent_parts s)
 sent_fits (Unsent r) = refused-fits r
-sent_fits None = accepted-fits 0 0 (omega arith) (omega arith)
+sent_fits NothingSent = accepted-fits 0 0 (omega arith) (omega arith)
 sent_fits TowardsA = accepted-fits 1 message_size (omega arith) (omega arith)
 sent_fits TowardsB = accepted-fits 2 message_size (omega arith) (omega arith)
 

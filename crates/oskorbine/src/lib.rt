@@ -4,13 +4,13 @@
 
 mod answers;
 mod beats;
-mod cells;
 mod clocks;
 mod discharges;
 mod frames;
+mod loading;
 
 pub use beats::{osk_heartbeat, osk_relay, osk_time_out, osk_wake};
-pub use cells::{osk_compare, osk_load, osk_store};
 pub use clocks::{osk_clock_byte, osk_clock_release, osk_clock_start, osk_clock_window};
 pub use discharges::osk_discharge;
 pub use frames::osk_frame;
+pub use loading::{osk_compare, osk_load, osk_store};

@@ -106,7 +106,7 @@ pub record Promises : Type 2 where
   nothing_left : Promised pec.nothing_left.Statement.statement pec.nothing_left.Reads.Asked
   of_command : Promised pec.of_command.Statement.statement pec.of_command.Reads.Asked
   remainder_10 : Promised pec.remainder_10.Statement.statement pec.remainder_10.Reads.Asked
-  two_bytes_lem : Promised check_words.two_bytes.Statement.statement check_words.two_bytes.Reads.Asked
+  two-bytes : Promised check_words.two_bytes.Statement.statement check_words.two_bytes.Reads.Asked
   -- the check words
   command-check : Promised check_words.command_check.Statement.statement check_words.command_check.Reads.Asked
   command-right : Promised check_words.command_right.Statement.statement check_words.command_right.Reads.Asked
@@ -154,7 +154,7 @@ pub record Promises : Type 2 where
   sound-count : Promised judging.sound_count.Statement.statement judging.sound_count.Reads.Asked
   whole-table : Promised judging.whole_table.Statement.statement judging.whole_table.Reads.Asked
   command-in : Promised judging.command_in.Statement.statement judging.command_in.Reads.Asked
-  numbers_of_lem : Promised chain.numbers_of.Statement.statement chain.numbers_of.Reads.Asked
+  numbers-of : Promised chain.numbers_of.Statement.statement chain.numbers_of.Reads.Asked
   serve : Promised serving.serve.Statement.statement serving.serve.Reads.Asked
   serve_at : Promised serving.serve_at.Statement.statement serving.serve_at.Reads.Asked
   replies_of : Promised replying.replies_of.Statement.statement replying.replies_of.Reads.Asked
@@ -298,7 +298,7 @@ proved =
       nothing_left = (λ M. pec.nothing_left.Met.met, λ κ a. tt);
       of_command = (λ M. pec.of_command.Met.met, λ κ a. tt);
       remainder_10 = (λ M. pec.remainder_10.Met.met, λ κ a. tt);
-      two_bytes_lem = (λ M. check_words.two_bytes.Met.met, λ κ a. tt);
+      two-bytes = (λ M. check_words.two_bytes.Met.met, λ κ a. tt);
       command-check = (λ M. check_words.command_check.Met.met, λ κ a. tt);
       command-right = (λ M. check_words.command_right.Met.met, λ κ a. tt);
       data-pec = (λ M. remainders.data_pec.Met.met, λ κ a. tt);
@@ -343,7 +343,7 @@ proved =
       sound-count = (λ M. judging.sound_count.Met.met, λ κ a. tt);
       whole-table = (λ M. judging.whole_table.Met.met, λ κ a. tt);
       command-in = (λ M. judging.command_in.Met.met, λ κ a. tt);
-      numbers_of_lem = (λ M. chain.numbers_of.Met.met, λ κ a. tt);
+      numbers-of = (λ M. chain.numbers_of.Met.met, λ κ a. tt);
       serve = (λ M. serving.serve.Met.met, λ κ a. tt);
       serve_at = (λ M. serving.serve_at.Met.met, λ κ a. tt);
       replies_of = (λ M. replying.replies_of.Met.met, λ κ a. tt);

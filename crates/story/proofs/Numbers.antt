@@ -42,7 +42,7 @@ use Rattle.messages.specs.declared.verdicts.Verdict.TheVariants.{Refused as Unju
 use Rattle.messages.specs.Messages.{count_in, flags_in, message_right, is_pass}
 use Rattle.messages.specs.Verdicts.{verdict_refusals, verdict_of, verdict}
 use Rattle.heartbeats.specs.Steps.{is_timeout, towards_a}
-use Rattle.passing.specs.declared.operations.Sent.TheVariants.{Unsent, Nothing as None, TowardsA, TowardsB}
+use Rattle.passing.specs.declared.operations.Sent.TheVariants.{Unsent, Nothing as NothingSent, TowardsA, TowardsB}
 use Rattle.passing.specs.declared.operations.Relayed.TheVariants.{Unrelayed, Stopped, SentOn}
 use Rattle.passing.specs.declared.operations.TimedOut.TheVariants.{Untimed, NoTimeoutMonitor, RanOut}
 use Rattle.passing.specs.Hops.{hop_sends}
@@ -180,7 +180,7 @@ sent_accepted : (r bytes : List ℕ) → (sent_numbers (sent_towards r bytes)).n
 unfolding sent_towards
 sent_accepted r bytes = by (eqb (length bytes) 0) (towards_a r)
   where
-    by : (none toA : Bool) → (sent_numbers (cond none None (cond toA TowardsA TowardsB))).number ≡ 0
+    by : (none toA : Bool) → (sent_numbers (cond none NothingSent (cond toA TowardsA TowardsB))).number ≡ 0
     by true toA = refl
     by false true = refl
     by false false = refl

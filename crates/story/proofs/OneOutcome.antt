@@ -132,7 +132,7 @@ pub record OneOutcome : Type 0 where
   nothing_left : Settles pec.nothing_left.Reads.Post (λ κ z e. leaves z []) (λ κ a. leaves (number_right a.0) [])
   of_command : Settles pec.of_command.Reads.Post (λ κ z e. leaves z []) (λ κ a. leaves (remainder 15 polynomial15 16 (bits_of 16 a.0)) [])
   remainder_10 : Settles pec.remainder_10.Reads.Post (λ κ z e. leaves z []) (λ κ a. leaves (remainder 10 polynomial10 0 (bits_of 64 a.0)) [])
-  two_bytes_lem : Settles check_words.two_bytes.Reads.Post (λ κ z e. leaves z []) (λ κ a. leaves (two_bytes a.0) [])
+  two-bytes : Settles check_words.two_bytes.Reads.Post (λ κ z e. leaves z []) (λ κ a. leaves (two_bytes a.0) [])
   -- the check words
   command-check : Settles check_words.command_check.Reads.Post (λ κ z e. leaves z []) (λ κ a. leaves (command_check a.0) [])
   command-right : Settles check_words.command_right.Reads.Post (λ κ z e. leaves z []) (λ κ a. leaves (command_right a.0.now) [])
@@ -190,7 +190,7 @@ pub record OneOutcome : Type 0 where
   whole-table : Settles judging.whole_table.Reads.Post (λ κ z e. leaves z []) (λ κ a. leaves (whole_table a.1.0 a.0.now) [])
   command-in : Settles judging.command_in.Reads.Post (λ κ z e. leaves z []) (λ κ a. leaves (command_in a.0.now) [])
   judge_head : Settles judging.judge_head.Reads.Post (λ κ z e. leaves z []) (λ κ a. leaves (head_judged a.0.now a.1.0 a.1.1.0) [])
-  numbers_of_lem : Settles chain.numbers_of.Reads.Post (λ κ z e. leaves z []) (λ κ a. leaves (numbers_of a.0) [])
+  numbers-of : Settles chain.numbers_of.Reads.Post (λ κ z e. leaves z []) (λ κ a. leaves (numbers_of a.0) [])
   serve : Settles serving.serve.Reads.Post (λ κ z e. leaves z (e.0.now ∷ []))
       (λ κ a. leaves (cond (whole_table a.1.1.0 a.0.now) (takers a.1.0 (rows record_size a.1.1.0 a.0.now) (write_payloads (width_of a.1.0) a.1.1.0 a.1.1.1.0.now)) 0) (cond (whole_table a.1.1.0 a.0.now) (joined (along (λ r own. keeps a.1.0 own r) (rows record_size a.1.1.0 a.0.now) (write_payloads (width_of a.1.0) a.1.1.0 a.1.1.1.0.now))) a.0.now ∷ []))
   serve_at : Settles serving.serve_at.Reads.Post (λ κ z e. leaves z (e.0.now ∷ []))
@@ -274,7 +274,7 @@ one_outcomes =
       nothing_left = settles (λ κ a z e p i. leaves (p i) []);
       of_command = settles (λ κ a z e p i. leaves (p i) []);
       remainder_10 = settles (λ κ a z e p i. leaves (p i) []);
-      two_bytes_lem = settles (λ κ a z e p i. leaves (p i) []);
+      two-bytes = settles (λ κ a z e p i. leaves (p i) []);
       command-check = settles (λ κ a z e p i. leaves (p i) []);
       command-right = settles (λ κ a z e p i. leaves (p i) []);
       data-pec = settles (λ κ a z e p i. leaves (p i) []);
@@ -320,7 +320,7 @@ one_outcomes =
       whole-table = settles (λ κ a z e p i. leaves (p i) []);
       command-in = settles (λ κ a z e p i. leaves (p i) []);
       judge_head = settles (λ κ a z e p i. leaves (p i) []);
-      numbers_of_lem = settles (λ κ a z e p i. leaves (p i) []);
+      numbers-of = settles (λ κ a z e p i. leaves (p i) []);
       serve = settles (λ κ a z e p i. leaves (p.0 i) (p.1 i ∷ []));
       serve_at = settles (λ κ a z e p i. leaves (p.0 i) (p.1 i ∷ []));
       replies_of = settles (λ κ a z e p i. leaves (p.0 i) (p.1 i ∷ []));

@@ -18,7 +18,7 @@ use Rattle.priorities.specs.declared.outputs.Events.{Events}
 use Rattle.discharge.specs.declared.question.Discharged.TheVariants.{Refused as Unasked, On}
 use Rattle.discharge.specs.Question.{discharge_refusals, discharged, outputs_after}
 use Rattle.heartbeats.specs.Steps.{is_timeout, towards_a}
-use Rattle.passing.specs.declared.operations.Sent.TheVariants.{Unsent, Nothing as None, TowardsA, TowardsB}
+use Rattle.passing.specs.declared.operations.Sent.TheVariants.{Unsent, Nothing as NothingSent, TowardsA, TowardsB}
 use Rattle.passing.specs.declared.operations.Relayed.TheVariants.{Unrelayed, Stopped, SentOn}
 use Rattle.passing.specs.declared.operations.TimedOut.TheVariants.{Untimed, NoTimeoutMonitor, RanOut}
 use Rattle.passing.specs.Hops.{hop_sends}
@@ -53,7 +53,7 @@ sent_apart : (r bytes : List ℕ) (e : Refusal) → sent_towards r bytes ≡ Uns
 unfolding sent_towards
 sent_apart r bytes e = by (eqb (length bytes) 0) (towards_a r)
   where
-    by : (none toA : Bool) → cond none None (cond toA TowardsA TowardsB) ≡ Unsent e → ⊥
+    by : (none toA : Bool) → cond none NothingSent (cond toA TowardsA TowardsB) ≡ Unsent e → ⊥
     by true toA q = let z : ◌≡◌ {A = ℕ} 0 1 = cc in omega arith
     by false true q = let z : ◌≡◌ {A = ℕ} 0 1 = cc in omega arith
     by false false q = let z : ◌≡◌ {A = ℕ} 0 1 = cc in omega arith

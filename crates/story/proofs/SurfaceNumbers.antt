@@ -36,7 +36,7 @@ use Rattle.messages.specs.Messages.{count_in, flags_in, message_right, is_pass}
 use Rattle.messages.specs.Verdicts.{verdict_refusals, verdict_of, verdict}
 use Rattle.ports.specs.Ports.{port_refusals, port_of}
 use Rattle.passing.specs.declared.operations.Sent.{Sent}
-use Rattle.passing.specs.declared.operations.Sent.TheVariants.{Unsent, Nothing as None, TowardsA, TowardsB}
+use Rattle.passing.specs.declared.operations.Sent.TheVariants.{Unsent, Nothing as NothingSent, TowardsA, TowardsB}
 use Rattle.passing.specs.declared.operations.Relayed.{Relayed}
 use Rattle.passing.specs.declared.operations.Relayed.TheVariants.{Unrelayed, Stopped, SentOn}
 use Rattle.passing.specs.declared.operations.TimedOut.{TimedOut as Timed}
@@ -89,7 +89,7 @@ same_port n k (B false) = refl
 
 same_sent : (s : Sent) → (sent_parts s).number ≡ (sent_numbers s).number
 same_sent (Unsent r) = refl
-same_sent None = refl
+same_sent NothingSent = refl
 same_sent TowardsA = refl
 same_sent TowardsB = refl
 

@@ -20,7 +20,7 @@ use Rattle.ports.specs.declared.ports.Port.TheVariants.{Refused, A, B}
 use Rattle.messages.specs.declared.verdicts.Verdict.{Verdict}
 use Rattle.messages.specs.declared.verdicts.Verdict.TheVariants.{Refused as Unjudged, Passed, Failed, Damaged as MessageDamaged, TimedOut}
 use Rattle.passing.specs.declared.operations.Sent.{Sent}
-use Rattle.passing.specs.declared.operations.Sent.TheVariants.{Unsent, Nothing as None, TowardsA, TowardsB}
+use Rattle.passing.specs.declared.operations.Sent.TheVariants.{Unsent, Nothing as NothingSent, TowardsA, TowardsB}
 use Rattle.passing.specs.declared.operations.Relayed.{Relayed}
 use Rattle.passing.specs.declared.operations.Relayed.TheVariants.{Unrelayed, Stopped, SentOn}
 use Rattle.passing.specs.declared.operations.TimedOut.{TimedOut as Timed}
@@ -43,7 +43,7 @@ discharged_numbers (On n) = record { number = 0; values = n ∷ [] }
 -- a manager that wakes, and a whole heartbeat: the port that a message is sent towards, or left at. Its bytes come beside it
 abbrev pub sent_numbers : Sent → Numbered ℕ
 sent_numbers (Unsent r) = record { number = number_of r; values = [] }
-sent_numbers None = record { number = 0; values = 0 ∷ [] }
+sent_numbers NothingSent = record { number = 0; values = 0 ∷ [] }
 sent_numbers TowardsA = record { number = 0; values = 1 ∷ [] }
 sent_numbers TowardsB = record { number = 0; values = 2 ∷ [] }
 

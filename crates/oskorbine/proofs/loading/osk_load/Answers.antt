@@ -1,11 +1,11 @@
--- `oskorbine::cells::osk_load` meets its contract: the load's answer is packed.
+-- `oskorbine::loading::osk_load` meets its contract: the load's answer is packed.
 -- Assumes nothing.
 use mathlib.Core.Path.{ap, ◌∙◌}
 use borrow.Author.Rules.{rules}
 use Rattle.loads.specs.declared.loads.Loaded.{Loaded}
 use Rattle.packing.specs.Packed.{packed}
 use Rattle.oskorbine.specs.Answers.{load_parts}
-use Rattle.oskorbine.proofs.cells.osk_load.Goals as goal
+use Rattle.oskorbine.proofs.loading.osk_load.Goals as goal
 
 pub returns : goal.returns
 returns c =
