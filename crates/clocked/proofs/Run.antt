@@ -45,7 +45,7 @@ back_short table (a ∷ b ∷ c ∷ d ∷ bytes) h = absurd (omega arith)
 
 -- ---- a later byte
 
--- one more, counted up to `mostSeen`
+-- one more, counted up to `most_seen`
 one_more_lem : (k : ℕ) → k ≤ most_seen → one_more k ≡ min (k + 1) most_seen
 unfolding one_more
 one_more_lem k h = by (dec_lt k most_seen)

@@ -94,7 +94,7 @@ abbrev pub Promised : {L : Type 0} {A : L → Type 0} → (Type 1 → Type 2) �
 Promised {L} {A} statement asked = ((M : Type 1) → statement M) × ((κ : L) (a : A κ) → asked κ a)
 
 pub record Promises : Type 2 where
-  -- bytes
+  -- laying
   put : Promised laying.put.Statement.statement laying.put.Reads.Asked
   -- refusals
   number-of : Promised refusals.number_of.Statement.statement refusals.number_of.Reads.Asked

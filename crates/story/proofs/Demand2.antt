@@ -518,7 +518,7 @@ pub record Demand2 : Type 0 where
       → is_right (part_a a n k) expected ≡ false → is_right (part_b b n k) expected ≡ false → counter_differs (part_a a n k) expected ≡ false → counter_differs (part_b b n k) expected ≡ true
   -- what is handed over is that port's part, and nothing where it is refused
   port_hands : (a b : List ℕ) (n k expected : ℕ) → bytes_of a b n k expected ≡ by_port [] (part_a a n k) (part_b b n k) (port_of a b n k expected)
-  -- what the chain replies at port A, and from its other end at port B (`fromA`, `fromB`), hands over monitor k's own reply. Its own counter expected: from A
+  -- what the chain replies at port A, and from its other end at port B (`from_a`, `from_b`), hands over monitor k's own reply. Its own counter expected: from A
   -- whatever came to B, and from B where A's part is not right. Any counter expected, and told whether it differs: from A where B's part is not right, and from B
   -- where A's is damaged
   port_a : (table buffer : List ℕ) (code : ℕ) (part : Part) → command_of code commands ≡ Reads part → sound table ≡ true
@@ -588,7 +588,7 @@ pub record Demand2 : Type 0 where
       → (answer table came (length buffer) ≡ Refused CommandWrong) × (table_after table came (length buffer) ≡ table) × (reply_after table came buffer ≡ buffer)
   -- and no further: examples of both, and eleven places behind a command and sixteen in one that get through
   sharp : Sharp
-  -- ---- a missed command: what a read that our host builds shows of a command that came before it (`readAfter`)
+  -- ---- a missed command: what a read that our host builds shows of a command that came before it (`read_after`)
 
   -- a reply of a monitor with a counter of at most 63, as a sound record has, is right against that counter, and against any other its counter differs and is the
   -- one told; and so is each monitor's part of the chain's reply
@@ -740,8 +740,8 @@ pub record Demand2 : Type 0 where
       × (out_after_beat table position out ≡ handed_out (beat_sends (position - 1) table) out)
       × (table_after_beat table position (length out) ≡ beat_leaves (position - 1) table)
   ways : (n k : ℕ) → (way true n k ≡ tabulate (λ i. k - suc i) 0 k) × (way false n k ≡ tabulate (λ i. k + suc i) 0 (n - suc k))
-  -- and that is what `passing::wake` and then `passing::relay` at each position on the way leave and hand out, a buffer lent anew for each (`sentByTurns`,
-  -- `leftByTurns`), until nothing is handed out
+  -- and that is what `passing::wake` and then `passing::relay` at each position on the way leave and hand out, a buffer lent anew for each (`sent_by_turns`,
+  -- `left_by_turns`), until nothing is handed out
   in_turn : (table : List ℕ) (position : ℕ) (out : List ℕ) → Passed (wake_refusals table position (length out))
       → (table_after_beat table position (length out) ≡ left_by_turns out table position)
       × (out_after_beat table position out ≡ handed_out (sent_by_turns out table position) out)
@@ -767,7 +767,7 @@ pub record Demand2 : Type 0 where
   beat_measures : (toA : Bool) (k : ℕ) (table : List ℕ) → Guarded toA k table → FromTheEnd toA k (monitors table) → (j : ℕ) → j < monitors table
       → row_at record_size j (beat_leaves k table) ≡ measured (row_at record_size j table)
   -- in such a chain, wherever the manager is: a message that is struck behind h hops (`Struck`: one bit or more, within ten places in a row of the last four bytes or
-  -- within fifteen of the first four) comes to nothing, and the table stays as it then is, in which every monitor from there on is as it was (`beat-untouched`);
+  -- within fifteen of the first four) comes to nothing, and the table stays as it then is, in which every monitor from there on is as it was (`beat_untouched`);
   -- struck on its way out it is damaged in the host's eyes
   beat_struck : (toA : Bool) (k : ℕ) (table : List ℕ) → Guarded toA k table → (h : ℕ) → h < hops toA (monitors table) k → (came : List ℕ)
       → Struck (sent_along (take h (way_from k table)) (wake_sends k table) (wake_leaves k table)) came

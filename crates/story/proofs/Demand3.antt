@@ -90,10 +90,10 @@ pub record Demand3 : Type 0 where
   one_to_32 : (table : List ℕ) → sound table ≡ true → (1 ≤ monitors table) × (monitors table ≤ most_monitors)
   -- `chain::handle`, lent any reply buffer with room for eight bytes a monitor, and the functions of the operations (`loads::store`, `loads::compare`,
   -- `passing::wake`, `passing::relay`, `passing::heartbeat` and `passing::time_out`) do what the rules say
-  by_frames_lem : (table buffer : List ℕ) (events : List Event) → payload_size * monitors table ≤ length buffer
+  by-frames : (table buffer : List ℕ) (events : List Event) → payload_size * monitors table ≤ length buffer
       → by_frames table buffer events ≡ by_rules table events
   -- `clocked::start`, `clocked::clock` and `clocked::release`, lent any state, and the functions of the operations do what the rules say
-  by_bytes_lem : (table state : List ℕ) (events : List Event) → by_bytes table state events ≡ by_rules table events
+  by-bytes : (table state : List ℕ) (events : List Event) → by_bytes table state events ≡ by_rules table events
   -- so the two engines end in the same table and give the same answers and reply bytes
   alike : (table buffer state : List ℕ) (events : List Event) → payload_size * monitors table ≤ length buffer
       → by_frames table buffer events ≡ by_bytes table state events
@@ -461,8 +461,8 @@ unfolding chained_by locked
 demand_3 =
     record {
       one_to_32 = λ table s. ((is_sound table s).some, (is_sound table s).few);
-      by_frames_lem = frames_by_rules;
-      by_bytes_lem = bytes-by_rules;
+      by-frames = frames_by_rules;
+      by-bytes = bytes-by_rules;
       alike = λ table buffer state events room. frames_by_rules table buffer events room ∙ sym (bytes-by_rules table state events);
       load-done = halves_by_rules;
       load-refused = refused-by_rules;

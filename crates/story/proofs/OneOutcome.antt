@@ -119,7 +119,7 @@ settles says = (says, λ κ a z z' e e' p q. one_outcome (says κ a z e p) (says
 -- ---- every public function of every library
 
 pub record OneOutcome : Type 0 where
-  -- bytes
+  -- laying
   put : Settles laying.put.Reads.Post (λ κ z e. leaves z (e.0.now ∷ []))
       (λ κ a. leaves tt (cond (fits a.1.0 a.1.1.0.now a.0.now) (placed a.1.0 a.1.1.0.now a.0.now) a.0.now ∷ []))
   -- refusals

@@ -183,9 +183,9 @@ unfoldable pub by_rules : List ℕ → List Event → Left
 by_rules table [] = record { table = table; seen = [] }
 by_rules table (event ∷ events) = saw (ruled table event).seen (by_rules (ruled table event).table events)
 
--- ---- an operation, which goes by no engine: `loads::store` promises `stored` and `tableAfterStore`, `loads::compare` `compared` and `tableAfterCompare`,
--- `passing::wake` `wokenAt`, `tableAfterWake` and `outAfterWake`, `passing::relay` `relayedAt`, `tableAfterRelay` and `outAfterRelay`, `passing::heartbeat`
--- `beaten`, `tableAfterBeat` and `outAfterBeat`, and `passing::time_out` `timedOut` and `tableAfterTimeOut`
+-- ---- an operation, which goes by no engine: `loads::store` promises `stored` and `table_after_store`, `loads::compare` `compared` and `table_after_compare`,
+-- `passing::wake` `woken_at`, `table_after_wake` and `out_after_wake`, `passing::relay` `relayed_at`, `table_after_relay` and `out_after_relay`, `passing::heartbeat`
+-- `beaten`, `table_after_beat` and `out_after_beat`, and `passing::time_out` `timed_out` and `table_after_time_out`
 
 unfoldable pub promised : List ℕ → Operation → Step
 promised table (Store position codes) = record { table = table_after_store table position codes; seen = StoreAnswered (stored table position codes) }
@@ -201,7 +201,7 @@ promised table (Heartbeat position out) =
     record { table = table_after_beat table position (length out); seen = HeartbeatAnswered (beaten table position (length out)) (out_after_beat table position out) }
 promised table (TimeOut position) = record { table = table_after_time_out table position; seen = TimeOutAnswered (timed_out table position) }
 
--- ---- by whole frames: `chain::handle` promises `answer`, `tableAfter` and `replyAfter`. A reply buffer is lent, and lent again as it was left; a reply is its
+-- ---- by whole frames: `chain::handle` promises `answer`, `table_after` and `reply_after`. A reply buffer is lent, and lent again as it was left; a reply is its
 -- first bytes
 
 unfoldable pub by_frames : List ℕ → List ℕ → List Event → Left
@@ -213,8 +213,8 @@ by_frames table buffer (Frame frame ∷ events) =
 by_frames table buffer (Beside operation ∷ events) =
     let step = promised table operation in saw step.seen (by_frames step.table buffer events)
 
--- ---- by clocked bytes: `clocked::start` promises `idle` of the state, `clocked::clock` `stateAfter` and the byte `answered`, and
--- `clocked::release` `released`, `tableReleased`, and `idle` of the state. A state is lent, and lent again as it was left; a reply is
+-- ---- by clocked bytes: `clocked::start` promises `idle` of the state, `clocked::clock` `state_after` and the byte `answered`, and
+-- `clocked::release` `released`, `table_released`, and `idle` of the state. A state is lent, and lent again as it was left; a reply is
 -- what came back after the fourth byte
 
 -- the state after the bytes of a frame, one by one

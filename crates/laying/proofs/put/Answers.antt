@@ -1,4 +1,4 @@
--- `bytes::put` meets its contract. Two tests find out whether the bytes fit; the loop's invariant: those before i are laid.
+-- `laying::put` meets its contract. Two tests find out whether the bytes fit; the loop's invariant: those before i are laid.
 -- Assumes nothing.
 use mathlib.Core.Path.{refl, sym, ap, ◌∙◌}
 use mathlib.Core.List.{List}
