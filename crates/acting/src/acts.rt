@@ -1,7 +1,7 @@
 // What one monitor does with an accepted command and its own bytes.
-ghost use Rattle.std.specs.Prelude.{◌≡◌, cond, ◌&&◌, length};
+ghost use Rattle.std.specs.Prelude.{◌≡◌, cond, ◌&&◌};
 ghost use Rattle.pec.specs.Words.{sealed_right, number_right};
-ghost use Rattle.records.specs.Record.{record_size, is_record};
+ghost use Rattle.records.specs.Record.{is_record};
 ghost use Rattle.records.specs.Commands.{data_size};
 ghost use Rattle.monitor.specs.Effects.{locked, next_count, counted, done, good_for, accepts, takes, keeps};
 
@@ -12,14 +12,15 @@ use records::{
 use writes::needs_check;
 use writing::write;
 
-fn lock(rec: &mut [u8])
-    requires { length rec.old ≡ record_size }
+#[tactic(auto, unfolding(monitor::specs::Effects::locked, records::specs::Record::on_bytes, records::specs::Record::anew))]
+fn lock(rec: &mut [u8; RECORD_SIZE])
     ensures { rec.new ≡ locked rec.old }
 {
     rec[UNLOCKED] = 0;
 }
 
 // After 63 comes 1. A counter above 63 is in no sound record.
+#[tactic(auto, unfolding(monitor::specs::Effects::next_count))]
 fn next_count(n: u8) -> u8
     ensures { result ≡ next_count n }
 {
@@ -27,8 +28,8 @@ fn next_count(n: u8) -> u8
 }
 
 // Locked, and counted where it is taken: so begins every command that is no read.
-fn begin(rec: &mut [u8], taken: bool)
-    requires { length rec.old ≡ record_size }
+#[tactic(auto, unfolding(monitor::specs::Effects::counted, records::specs::Record::on_bytes, records::specs::Record::anew))]
+fn begin(rec: &mut [u8; RECORD_SIZE], taken: bool)
     ensures { rec.new ≡ cond taken (counted (locked rec.old)) (locked rec.old) }
 {
     lock(rec);
@@ -38,8 +39,8 @@ fn begin(rec: &mut [u8], taken: bool)
 }
 
 // A bare command at one monitor: counted and done.
-fn act_bare(what: Bare, rec: &mut [u8])
-    requires { length rec.old ≡ record_size }
+#[tactic(auto, unfolding(records::specs::Record::is_record))]
+fn act_bare(what: Bare, rec: &mut [u8; RECORD_SIZE])
     ensures { rec.new ≡ done what (counted (locked rec.old)) }
 {
     begin(rec, true);
@@ -58,6 +59,7 @@ fn number_for(what: Write, own: &[u8]) -> u64
 }
 
 // Are a monitor's own bytes good for a write: right, or, where it does not need its check right, whatever bytes they are, if as many?
+#[tactic(auto, unfolding(monitor::specs::Effects::good_for))]
 fn good_for(what: Write, own: &[u8]) -> bool
     ensures { result ≡ good_for what own.now }
 {
@@ -68,19 +70,15 @@ fn good_for(what: Write, own: &[u8]) -> bool
 }
 
 // Does a monitor accept a write: are its own bytes good for it, and is it not in LPCM?
+#[tactic(auto, unfolding(monitor::specs::Effects::accepts))]
 fn accepts(what: Write, rec: &[u8], own: &[u8]) -> bool
     ensures { result ≡ accepts what own.now rec.now }
 {
-    let asleep = in_lpcm(rec);
-    if asleep {
-        return false;
-    }
-    good_for(what, own)
+    !in_lpcm(rec) && good_for(what, own)
 }
 
 // A write at one monitor: counted and done where it accepts it.
-fn act_write(what: Write, rec: &mut [u8], own: &[u8]) -> bool
-    requires { length rec.old ≡ record_size }
+fn act_write(what: Write, rec: &mut [u8; RECORD_SIZE], own: &[u8]) -> bool
     ensures value { result ≡ takes (Command.Writes what) own.now rec.old }
     ensures rec_after { rec.new ≡ keeps (Command.Writes what) own.now rec.old }
 {
@@ -95,21 +93,22 @@ fn act_write(what: Write, rec: &mut [u8], own: &[u8]) -> bool
 
 // What one monitor does with an accepted command: its record changes as the rules say, and the answer is whether it took
 // the command. A slice that is no record stays as it is, and the answer is false.
+#[tactic(auto, unfolding(monitor::specs::Effects::keeps, records::specs::Record::is_record))]
 pub fn act(command: Command, rec: &mut [u8], own: &[u8]) -> bool
     ensures value { result ≡ (is_record rec.old && takes command own.now rec.old) }
     ensures rec_after { rec.new ≡ cond (is_record rec.old) (keeps command own.now rec.old) rec.old }
 {
-    if rec.len() != RECORD_SIZE {
+    let Some(record) = rec.as_mut_array() else {
         return false;
-    }
+    };
     match command {
         Command::Reads(_) => {
-            lock(rec);
+            lock(record);
             true
         }
-        Command::Writes(what) => act_write(what, rec, own),
+        Command::Writes(what) => act_write(what, record, own),
         Command::Bares(what) => {
-            act_bare(what, rec);
+            act_bare(what, record);
             true
         }
         Command::Unlisted => false,

@@ -1,58 +1,60 @@
-// What is written to standard output. A write that fails shows as output that is missing.
-use crate::words::{BAR, BYTE, SIZE, WORDS};
-use std::num::wrapping_add_u64;
+// What is said of a half and of the whole pack.
+use crate::seen::{Found, Seen};
+use crate::sums::Sums;
+use ports::Port;
+use std::io;
 
-// The number of standard output among the process's open files.
-const STDOUT_FILENO: i32 = 1;
-
-// Exact: whole volts and six digits, so that no figure of the microvolts is lost. A 1 before the six keeps their zeros.
-fn volts(microvolts: u64) {
-    let mut text = [0u8; 20];
-    io::print_decimal(STDOUT_FILENO, microvolts / 1000000);
-    io::write_all(STDOUT_FILENO, b".");
-    let digits = io::decimal(microvolts % 1000000 + 1000000, &mut text);
-    if digits > 0 {
-        io::write_all(STDOUT_FILENO, &text[1..digits]);
+fn where_read(port: Option<Port>) -> &'static str {
+    match port {
+        Some(Port::A(_)) => "read at port A",
+        Some(Port::B(_)) => "read at port B, since what came to port A was damaged",
+        None => "NOT read at one port",
     }
 }
 
-// A byte of the words. In place of a # stands the number, of a @ the same as a byte in hexadecimal, and of a $ as so many microvolts.
-fn one(byte: u8, number: u64) {
-    if byte == b'#' {
-        io::print_decimal(STDOUT_FILENO, number);
-    } else if byte == b'@' {
-        io::print_hex(STDOUT_FILENO, number, 2);
-    } else if byte == b'$' {
-        volts(number);
+fn counter(rt: &impl Print, received: u8, expected: u8) -> io::Result<()> {
+    if received == expected {
+        println!(rt; "  counter {received}, as expected")
     } else {
-        io::write_all(STDOUT_FILENO, &[byte]);
+        println!(rt; "  counter {received}, but {expected} was expected: it MISSED a write")
     }
 }
 
-// The words of a number, with a number in them.
-pub(crate) fn words(k: u64, number: u64) {
-    let all = WORDS;
-    let mut at = 0;
-    let mut i = 0;
-    while i < SIZE {
-        let byte = all[i];
-        if byte == b'~' {
-            at = wrapping_add_u64(at, 1);
-        } else if at == k {
-            one(byte, number);
+fn flags(rt: &impl Print, seen: &Seen, found: &Found) -> io::Result<()> {
+    print!(rt; "  flags up:")?;
+    for (number, cell) in seen.cells.iter().enumerate() {
+        if cell.flags.any() {
+            print!(rt; " cell {}{}", number + 1, cell.flags)?;
         }
-        i += 1;
     }
+    if found.flagged == 0 {
+        print!(rt; " none")?;
+    }
+    let wrong = found.wrong;
+    println!(rt; "\n  cells with wrong flags, by the thresholds ordered: {wrong}")
 }
 
-// The first bytes of a frame: a command, and the payloads of two monitors.
-pub(crate) fn frame(bytes: [u8; 20], length: usize) {
-    let mut i = 0;
-    while i < length {
-        if i % 8 == 4 {
-            words(BAR, 0);
-        }
-        words(BYTE, bytes[i % 20] as u64);
-        i += 1;
+// All that is read of a half.
+pub(crate) fn half(rt: &impl Print, seen: &Seen, found: &Found, sums: &Sums) -> io::Result<()> {
+    let half = seen.half;
+    println!(rt;
+        "{half}, monitor {}, {}",
+        half.monitor(),
+        where_read(found.port)
+    )?;
+    if let Some(received) = found.counter {
+        counter(rt, received, seen.expected)?;
     }
+    println!(rt; "  holds {}: {}", seen.limits, found.owner)?;
+    println!(rt; "  lowest cell: {} at {}", sums.lowest_cell, sums.lowest)?;
+    flags(rt, seen, found)
+}
+
+pub(crate) fn pack(rt: &impl Print, count: Option<usize>, sums: &Sums) -> io::Result<()> {
+    print!(rt;
+        "pack: {} cells, lowest {}",
+        count.unwrap_or(0),
+        sums.lowest
+    )?;
+    println!(rt; ", highest {}, total {}", sums.highest, sums.total)
 }

@@ -3,4 +3,4 @@
 
 mod cells;
 
-pub use cells::{code_in, compare, store};
+pub use cells::{CLEARED, code_in, compare, store};

@@ -12,27 +12,23 @@ use refusals::Refusal;
 use replying::replies_of;
 use serving::serve;
 
-// What comes of a frame: its refusal, or how many monitors took it and how long the reply is.
-#[derive(Clone, Copy)]
-pub enum Answer {
-    Refused(Refusal),
-    Accepted { taken: usize, reply: usize },
+// What comes of a frame that is not refused: how many monitors took it, and how long the reply is.
+#[derive(Clone, Copy, Debug, PartialEq, Eq)]
+pub struct Answer {
+    pub taken: usize,
+    pub reply: usize,
 }
 
 // The refusals in the paper's order.
-fn judge(table: &[u8], frame: &[u8], room: usize) -> Judged
+fn judge(table: &[u8], frame: &[u8], room: usize) -> Result<Judged, Refusal>
     ensures value { result ≡ judged table.now frame.now room }
     ensures ready_if { ReadyIf result table.now frame.now room }
 {
-    match judge_head(frame, frame.len(), sound_count(table)) {
-        Judged::Bad(refusal) => Judged::Bad(refusal),
-        Judged::Good(command, n) => {
-            if room < records::reply_size(command, n) {
-                return Judged::Bad(Refusal::NoRoom);
-            }
-            Judged::Good(command, n)
-        }
+    let judged = judge_head(frame, frame.len(), sound_count(table))?;
+    if room < records::reply_size(judged.command, judged.monitors) {
+        return Err(Refusal::NoRoom);
     }
+    Ok(judged)
 }
 
 // What follows the command and its check; nothing in a shorter frame.
@@ -56,17 +52,13 @@ fn serve_frame(table: &mut [u8], command: Command, n: usize, frame: &[u8]) -> us
 
 // Handles a frame: the table becomes what the rules say, and the reply to a read goes to the start of the reply buffer. A
 // refusal changes nothing.
-pub fn handle(table: &mut [u8], frame: &[u8], buffer: &mut [u8]) -> Answer
+pub fn handle(table: &mut [u8], frame: &[u8], buffer: &mut [u8]) -> Result<Answer, Refusal>
     ensures value { result ≡ answer table.old frame.now (length buffer.old) }
     ensures table_after { table.new ≡ table_after table.old frame.now (length buffer.old) }
     ensures buffer_after { buffer.new ≡ reply_after table.old frame.now buffer.old }
 {
-    match judge(table, frame, buffer.len()) {
-        Judged::Bad(refusal) => Answer::Refused(refusal),
-        Judged::Good(command, n) => {
-            let reply = replies_of(table, command, n, buffer);
-            let taken = serve_frame(table, command, n, frame);
-            Answer::Accepted { taken, reply }
-        }
-    }
+    let judged = judge(table, frame, buffer.len())?;
+    let reply = replies_of(table, judged.command, judged.monitors, buffer);
+    let taken = serve_frame(table, judged.command, judged.monitors, frame);
+    Ok(Answer { taken, reply })
 }

@@ -3,6 +3,7 @@ ghost use Rattle.std.specs.Prelude.{◌≡◌};
 ghost use Rattle.chain.specs.Numbers.{numbers_of};
 
 use crate::frames::Answer;
+use refusals::Refusal;
 
 // A refusal's number, or 0 with how many monitors took the frame and how long the reply is.
 #[derive(Clone, Copy)]
@@ -12,19 +13,19 @@ pub struct Numbers {
     pub reply: usize,
 }
 
-pub fn numbers_of(answer: Answer) -> Numbers
+pub fn numbers_of(answer: Result<Answer, Refusal>) -> Numbers
     ensures { result ≡ numbers_of answer }
 {
     match answer {
-        Answer::Refused(refusal) => Numbers {
+        Err(refusal) => Numbers {
             number: refusals::number_of(refusal),
             taken: 0,
             reply: 0,
         },
-        Answer::Accepted { taken, reply } => Numbers {
+        Ok(answer) => Numbers {
             number: 0,
-            taken,
-            reply,
+            taken: answer.taken,
+            reply: answer.reply,
         },
     }
 }

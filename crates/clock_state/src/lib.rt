@@ -4,6 +4,6 @@
 mod state;
 
 pub use state::{
-    CHAINED, DRAINS, HEAD, KIND, Kind, SEEN, STATE_SIZE, STILL, WINDOWS, chained_in, kind_in,
-    seen_in, start,
+    CHAINED, HEAD, KIND, Kind, SEEN, STATE_SIZE, WINDOWS, byte_of, chained_in, kind_in, seen_in,
+    start,
 };

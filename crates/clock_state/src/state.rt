@@ -2,7 +2,7 @@
 // its end counts as 0.
 ghost use Rattle.std.specs.Prelude.{◌≡◌, ◌<◌, ◌≤◌};
 ghost use Rattle.records.specs.Commands.{most_monitors};
-ghost use Rattle.clock_state.specs.State.{idle, seen_in, kind_in, chained_in};
+ghost use Rattle.clock_state.specs.State.{idle, seen_in, kind_byte, kind_in, chained_in};
 
 use records::{MOST_MONITORS, PAYLOAD_SIZE, byte_at};
 
@@ -10,7 +10,7 @@ use records::{MOST_MONITORS, PAYLOAD_SIZE, byte_at};
 // and in any other frame the windows stay empty.
 #[derive(Clone, Copy)]
 pub enum Kind {
-    Fills(usize),
+    Fills(u8),
     Drains,
     Still,
 }
@@ -28,10 +28,15 @@ pub const WINDOWS: usize = 8;
 
 pub const STATE_SIZE: usize = WINDOWS + PAYLOAD_SIZE * MOST_MONITORS;
 
-// A kind as its byte; of a write it is the width of its windows. Any other byte is one of a frame where the windows stay empty.
-pub const STILL: u8 = 0;
+// The bytes of the kinds that have no width. That of a write is the width of its windows, which is more than these, and no more than a
+// reply's.
+const STILL: u8 = 0;
 
-pub const DRAINS: u8 = 1;
+const DRAINS: u8 = 1;
+
+const NARROWEST: u8 = DRAINS + 1;
+
+const WIDEST: u8 = PAYLOAD_SIZE as u8;
 
 // Before a frame. Whatever the bytes were, a frame that had begun is given up.
 pub fn start(state: &mut [u8; STATE_SIZE])
@@ -41,16 +46,16 @@ pub fn start(state: &mut [u8; STATE_SIZE])
 }
 
 // How many bytes came.
+#[tactic(auto, unfolding(crate::specs::State::seen_in))]
 pub fn seen_in(state: &[u8]) -> usize
     ensures value { result ≡ seen_in state.now }
     ensures upper_bound { result < 65536 }
 {
-    let low = byte_at(state, SEEN) as usize;
-    let high = byte_at(state, SEEN + 1) as usize;
-    low + high * 256
+    u16::from_le_bytes([byte_at(state, SEEN), byte_at(state, SEEN + 1)]) as usize
 }
 
 // N at byte four, and 0 for more monitors than a chain has.
+#[tactic(auto, unfolding(crate::specs::State::chained_in))]
 pub fn chained_in(state: &[u8]) -> usize
     ensures value { result ≡ chained_in state.now }
     ensures upper_bound { result ≤ most_monitors }
@@ -59,19 +64,25 @@ pub fn chained_in(state: &[u8]) -> usize
     if n <= MOST_MONITORS { n } else { 0 }
 }
 
+// A kind as its byte.
+pub fn byte_of(kind: Kind) -> u8
+    ensures { result ≡ kind_byte kind }
+{
+    match kind {
+        Kind::Fills(width) => width,
+        Kind::Drains => DRAINS,
+        Kind::Still => STILL,
+    }
+}
+
+// The kind that its byte stands for; any other byte is one of a frame where the windows stay empty.
+#[tactic(auto, unfolding(crate::specs::State::kind_in))]
 pub fn kind_in(state: &[u8]) -> Kind
     ensures { result ≡ kind_in state.now }
 {
-    let byte = byte_at(state, KIND);
-    if byte == DRAINS {
-        return Kind::Drains;
+    match byte_at(state, KIND) {
+        DRAINS => Kind::Drains,
+        width @ NARROWEST..=WIDEST => Kind::Fills(width),
+        _ => Kind::Still,
     }
-    if byte <= DRAINS {
-        return Kind::Still;
-    }
-    let width = byte as usize;
-    if PAYLOAD_SIZE < width {
-        return Kind::Still;
-    }
-    Kind::Fills(width)
 }

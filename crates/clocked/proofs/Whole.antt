@@ -23,7 +23,6 @@ use Rattle.records.specs.Record.{record_size}
 use Rattle.records.specs.Commands.{is_listed, most_monitors, payload_size, frame_length, reply_length}
 use Rattle.monitor.specs.Effects.{keeps}
 use Rattle.reads.specs.Reply.{reply}
-use Rattle.chain.specs.declared.frames.Answer.TheVariants.{Refused, Accepted}
 use Rattle.judging.specs.Table.{monitors, sound}
 use Rattle.judging.specs.Refusals.{command_in, room_row}
 use Rattle.serving.specs.Served.{takers, taken_by, kept}
@@ -38,6 +37,8 @@ use Rattle.clocked.proofs.Run.{windows_for, came_for, run, back}
 use Rattle.clocking.proofs.Known.{chained-sound, reply_short}
 use Rattle.clocked.proofs.SameRefusals.{command-head, same_outcome}
 use Rattle.clocked.proofs.Acting.{same_taken, same_kept, came-reply, length-came, same-reply, same_buffer}
+use Rattle.std.specs.Prelude.{Err}
+use Rattle.chain.specs.Frame.{took}
 
 -- ---- a release needs no room for a reply
 
@@ -121,8 +122,8 @@ module _ (table frame : List ℕ) where
   pub judged-whole : (room : ℕ) → settled clock table room ≡ answer table frame room
   unfolding settled answer
   judged-whole room =
-      same_outcome table frame room Refused _ _
-      (λ p. ap₂ Accepted (acts-taken room p) (ap (λ (c : Command). reply_length c (monitors table)) (head-command room p)))
+      same_outcome table frame room Err _ _
+      (λ p. ap₂ took (acts-taken room p) (ap (λ (c : Command). reply_length c (monitors table)) (head-command room p)))
 
   -- the table
   pub table-whole : (room : ℕ) → table_settled clock table room ≡ table_after table frame room
@@ -155,7 +156,7 @@ module _ (table frame : List ℕ) where
   -- the answer
   pub released-whole : (room : ℕ) → payload_size * monitors table ≤ room → released clock table ≡ answer table frame room
   unfolding released settled
-  released-whole room h = sym (no_sixth clock table room Refused _ h) ∙ judged-whole room
+  released-whole room h = sym (no_sixth clock table room Err _ h) ∙ judged-whole room
 
   -- the table
   pub table_released-whole : (room : ℕ) → payload_size * monitors table ≤ room → table_released clock table ≡ table_after table frame room
@@ -164,11 +165,11 @@ module _ (table frame : List ℕ) where
 
   -- ---- the reply is what came back after byte four
 
-  module _ (room taken bytes : ℕ) (e : answer table frame room ≡ Accepted taken bytes) where
+  module _ (room taken bytes : ℕ) (e : answer table frame room ≡ took taken bytes) where
     -- an accepted frame passes every refusal
     passed : Passed (frame_refusals table frame room)
     unfolding answer
-    passed = has_passed (frame_refusals table frame room) Refused _ (Accepted taken bytes) (accepted-apart taken bytes) e
+    passed = has_passed (frame_refusals table frame room) Err _ (took taken bytes) (accepted-apart taken bytes) e
 
     module _ (part : Part) (c : command_in frame ≡ Reads part) where
       -- a read's length
@@ -188,12 +189,12 @@ module _ (table frame : List ℕ) where
       read_length = ap length its-reply ∙ length-came table frame part (monitors table) its-length
 
   -- the same where it is the release that accepts the read
-  pub released_read : (taken bytes : ℕ) → released clock table ≡ Accepted taken bytes → (part : Part) → command_in frame ≡ Reads part
+  pub released_read : (taken bytes : ℕ) → released clock table ≡ took taken bytes → (part : Part) → command_in frame ≡ Reads part
       → drop 4 (answered_all table frame start) ≡ reply_data (map (reply part) (rows record_size (monitors table) table))
   released_read taken bytes e = read_whole (payload_size * monitors table) taken bytes (sym (released-whole (payload_size * monitors table) (omega arith)) ∙ e)
 
   -- of any accepted frame it begins as the reply buffer does
-  pub reply-whole : (buffer : List ℕ) (taken bytes : ℕ) → answer table frame (length buffer) ≡ Accepted taken bytes
+  pub reply-whole : (buffer : List ℕ) (taken bytes : ℕ) → answer table frame (length buffer) ≡ took taken bytes
       → take bytes (drop 4 (answered_all table frame start)) ≡ take bytes (reply_after table frame buffer)
   reply-whole buffer taken bytes e =
       let p = passed (length buffer) taken bytes e in

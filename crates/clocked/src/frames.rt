@@ -16,13 +16,11 @@ use releasing::{judge, release};
 const REPLY_SIZE: usize = PAYLOAD_SIZE * MOST_MONITORS;
 
 // Keeps the byte that came back with the i-th byte of a frame, counted from 0: those after the fourth, as many as there is room for.
+#[tactic(auto, unfolding(crate::specs::Frames::kept_one))]
 fn keep(back: &mut [u8], i: usize, byte: u8)
     ensures { back.new ≡ kept_one i byte back.old }
 {
-    if i < 4 {
-        return;
-    }
-    if i - 4 < back.len() {
+    if i >= 4 && i - 4 < back.len() {
         back[i - 4] = byte;
     }
 }
@@ -32,21 +30,19 @@ fn clock_all(state: &mut [u8; STATE_SIZE], table: &[u8], frame: &[u8], back: &mu
     ensures state_after { clock_of state.new ≡ clocked_all table.now frame.now (clock_of state.old) }
     ensures back_after { back.new ≡ kept_back (answered_all table.now frame.now (clock_of state.old)) back.old }
 {
-    let mut i = 0;
-    while i < frame.len() {
-        let byte = clock(state, table, frame[i]);
+    for (i, clocked) in frame.iter().enumerate() {
+        let byte = clock(state, table, *clocked);
         keep(back, i, byte);
-        i += 1;
     }
 }
 
 // The length of the reply where a release is so judged; a refusal has none.
-fn reply_after(judged: Judged) -> usize
+fn reply_after(judged: Result<Judged, Refusal>) -> usize
     ensures { result ≡ reply_of judged }
 {
     match judged {
-        Judged::Bad(_) => 0,
-        Judged::Good(command, n) => records::reply_size(command, n),
+        Err(_) => 0,
+        Ok(judged) => records::reply_size(judged.command, judged.monitors),
     }
 }
 
@@ -56,14 +52,14 @@ fn settle(
     table: &mut [u8],
     back: &[u8; REPLY_SIZE],
     buffer: &mut [u8],
-) -> Answer
+) -> Result<Answer, Refusal>
     ensures value { result ≡ settled (clock_of state.old) table.old (length buffer.old) }
     ensures table_after { table.new ≡ table_settled (clock_of state.old) table.old (length buffer.old) }
     ensures buffer_after { buffer.new ≡ buffer_settled (clock_of state.old) table.old back.now buffer.old }
 {
     let size = reply_after(judge(state, table));
     if buffer.len() < size {
-        return Answer::Refused(Refusal::NoRoom);
+        return Err(Refusal::NoRoom);
     }
     let came = &back[..];
     laying::put(buffer, 0, &came[..size]);
@@ -72,7 +68,7 @@ fn settle(
 
 // Handles a frame as the chain does, by clocking it: the same answer, table and reply. That it is clocked is promised of `start`,
 // `clock` and `release`, not here.
-pub fn handle(table: &mut [u8], frame: &[u8], buffer: &mut [u8]) -> Answer
+pub fn handle(table: &mut [u8], frame: &[u8], buffer: &mut [u8]) -> Result<Answer, Refusal>
     ensures value { result ≡ answer table.old frame.now (length buffer.old) }
     ensures table_after { table.new ≡ table_after table.old frame.now (length buffer.old) }
     ensures buffer_after { buffer.new ≡ reply_after table.old frame.now buffer.old }

@@ -1,15 +1,15 @@
 // One byte clocked in.
-ghost use Rattle.std.specs.Prelude.{◌≡◌, ◌++◌, ◌∷◌, [], ◌<◌, ◌≤◌, length, get_or, drop};
+ghost use Rattle.std.specs.Prelude.{◌≡◌, ◌++◌, ◌∷◌, [], ◌<◌, ◌≤◌, get_or, drop};
 ghost use Rattle.records.specs.Commands.{payload_size};
 ghost use Rattle.clocking.specs.Clock.{known, chained_by, kind_of, one_more, clocked, leaving, answered};
-ghost use Rattle.clock_state.specs.State.{state_size, kind_byte, kind_in, chained_in, register_in};
+ghost use Rattle.clock_state.specs.State.{kind_in, chained_in, register_in};
 ghost use Rattle.clocking.specs.Bytes.{clock_of, counted, noted, shifted, moved_on, taken_in, state_after};
 
 use clock_state::{
-    CHAINED, DRAINS, HEAD, KIND, Kind, SEEN, STATE_SIZE, STILL, WINDOWS, chained_in, kind_in,
-    seen_in,
+    CHAINED, HEAD, KIND, Kind, SEEN, STATE_SIZE, WINDOWS, byte_of, chained_in, kind_in, seen_in,
 };
-use records::{Command, MOST_MONITORS, PAYLOAD_SIZE};
+use records::{Command, MOST_MONITORS, PAYLOAD_SIZE, width_of};
+use std::mem::replace;
 
 // What is answered where nothing leaves monitor 1, and what the last window draws.
 const FAR: u8 = 0xff;
@@ -20,7 +20,7 @@ const MOST_SEEN: usize = 4 + PAYLOAD_SIZE * MOST_MONITORS + 1;
 // The command of the first four bytes, and one that is not listed where refusal 1, 3 or 4 holds. The count of the table, 0 if it is not
 // sound, is known already: a look at all of it is dear.
 fn known_command(table: &[u8], head: &[u8], count: usize) -> Command
-    requires { (length head.now ≡ 4) × (count ≡ chained_by table.now) }
+    requires { count ≡ chained_by table.now }
     ensures { result ≡ known table.now head.now }
 {
     if count == 0 {
@@ -29,32 +29,29 @@ fn known_command(table: &[u8], head: &[u8], count: usize) -> Command
     if !check_words::command_right(head) {
         return Command::Unlisted;
     }
-    let command = judging::command_in(head);
-    command
+    judging::command_in(head)
 }
 
-// What the bytes after the fourth do by the command, as the kind's byte: the windows of a write are as wide as its command's.
-fn kind_of(command: Command) -> u8
-    ensures { result ≡ kind_byte (kind_of command) }
+// What the bytes after the fourth do by the command: the windows of a write are as wide as its command's.
+fn kind_of(command: Command) -> Kind
+    ensures { result ≡ kind_of command }
 {
     match command {
-        Command::Reads(_) => DRAINS,
-        Command::Writes(_) => records::width_of(command) as u8,
-        Command::Bares(_) => STILL,
-        Command::Unlisted => STILL,
+        Command::Reads(_) => Kind::Drains,
+        Command::Writes(_) => Kind::Fills(width_of(command) as u8),
+        Command::Bares(_) | Command::Unlisted => Kind::Still,
     }
 }
 
 // What the four bytes say, by the table that is lent with the fourth; a known read's replies.
-fn note(state: &mut [u8], table: &[u8])
-    requires { length state.old ≡ state_size }
+fn note(state: &mut [u8; STATE_SIZE], table: &[u8])
     ensures { state.new ≡ noted table.now state.old }
 {
     let count = judging::sound_count(table);
     let command = known_command(table, &state[HEAD..WINDOWS], count);
-    state[KIND] = kind_of(command);
+    state[KIND] = byte_of(kind_of(command));
     state[CHAINED] = count as u8;
-    replying::reply_all(table, command, &mut state[WINDOWS..STATE_SIZE]);
+    replying::reply_all(table, command, &mut state[WINDOWS..]);
 }
 
 // The register moves on by one byte; what falls out in front comes back, and `byte` where there is no register.
@@ -62,23 +59,17 @@ fn shift(register: &mut [u8], byte: u8) -> u8
     ensures value { result ≡ get_or register.old 0 byte }
     ensures register_after { register.new ≡ drop 1 (register.old ++ byte ∷ []) }
 {
-    let size = register.len();
-    if size == 0 {
+    if register.is_empty() {
         return byte;
     }
-    let first = register[0];
-    let mut i = 1;
-    while i < size {
-        register[i - 1] = register[i];
-        i += 1;
-    }
-    register[size - 1] = byte;
-    first
+    register.rotate_left(1);
+    let last = register.len() - 1;
+    replace(&mut register[last], byte)
 }
 
 // The windows of so many bytes pass a byte on.
-fn shift_windows(state: &mut [u8], byte: u8, width: usize) -> u8
-    requires { (length state.old ≡ state_size) × (width ≤ payload_size) }
+fn shift_windows(state: &mut [u8; STATE_SIZE], byte: u8, width: usize) -> u8
+    requires { width ≤ payload_size }
     ensures value { result ≡ get_or (register_in width (chained_in state.old) state.old) 0 byte }
     ensures state_after { state.new ≡ shifted width byte state.old }
 {
@@ -87,14 +78,13 @@ fn shift_windows(state: &mut [u8], byte: u8, width: usize) -> u8
 }
 
 // A byte after the fourth.
-fn move_on(state: &mut [u8], byte: u8) -> u8
-    requires { length state.old ≡ state_size }
+fn move_on(state: &mut [u8; STATE_SIZE], byte: u8) -> u8
     ensures value { result ≡ leaving (clock_of state.old).kind (clock_of state.old).windows }
     ensures state_after { state.new ≡ moved_on (kind_in state.old) byte state.old }
 {
     match kind_in(state) {
         Kind::Fills(width) => {
-            shift_windows(state, byte, width);
+            shift_windows(state, byte, width as usize);
             FAR
         }
         Kind::Drains => shift_windows(state, FAR, PAYLOAD_SIZE),
@@ -103,8 +93,7 @@ fn move_on(state: &mut [u8], byte: u8) -> u8
 }
 
 // A byte by its place in the frame.
-fn take_in(state: &mut [u8], table: &[u8], byte: u8) -> u8
-    requires { length state.old ≡ state_size }
+fn take_in(state: &mut [u8; STATE_SIZE], table: &[u8], byte: u8) -> u8
     ensures value { result ≡ answered (clock_of state.old) }
     ensures state_after { state.new ≡ taken_in table.now byte state.old }
 {
@@ -129,13 +118,11 @@ fn one_more(seen: usize) -> usize
 }
 
 // Counts a byte.
-fn count(state: &mut [u8])
-    requires { length state.old ≡ state_size }
+fn count(state: &mut [u8; STATE_SIZE])
     ensures { state.new ≡ counted state.old }
 {
-    let seen = one_more(seen_in(state));
-    state[SEEN] = (seen % 256) as u8;
-    state[SEEN + 1] = (seen / 256) as u8;
+    let seen = one_more(seen_in(state)) as u16;
+    state[SEEN..SEEN + 2].copy_from_slice(&seen.to_le_bytes());
 }
 
 // Clocks one byte in, and answers the byte that comes back.

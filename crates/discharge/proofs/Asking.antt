@@ -4,27 +4,24 @@
 use mathlib.Core.Path.{◌≡◌, sym, ap, ◌∙◌}
 use mathlib.Core.Bool.{Bool, cond}
 use mathlib.Core.List.{List, [], ◌∷◌, ◌++◌}
-use Prim.Native.Nat.{ℕ, ◌-◌, ◌≤◌, ◌<◌}
+use Prim.Native.Nat.{ℕ, ◌+◌, ◌-◌, ◌*◌, ◌≤◌, ◌<◌}
 use lib.Dec.{leb}
 use lib.ListN.{length, drop}
 use borrow.Author.Tests.{lt-ltb, le-ltb, le-leb}
 use Rattle.laws.specs.Rows.{row_at}
-use Rattle.laws.proofs.LentParts.{part-lent}
 use Rattle.refusals.specs.declared.Refusal.{Refusal}
 use Rattle.refusals.specs.declared.Refusal.TheVariants.{PositionWrong, NoRoom}
 use Rattle.refusals.specs.Order.{decide}
 use Rattle.refusals.proofs.Deciding.{holds_here, holds_not, none_left, decide_append}
 use Rattle.records.specs.Record.{cell_count, record_size}
-use Rattle.judging.specs.declared.places.Placed.{Placed}
-use Rattle.judging.specs.declared.places.Placed.TheVariants.{Nowhere, At}
 use Rattle.judging.specs.Places.{place_refusals, placed}
-use Rattle.judging.proofs.Lent.{lent}
+use Rattle.judging.proofs.Lies.{part, part-row}
 use Rattle.judging.proofs.Place.{by_place, as_placed, its_index}
 use Rattle.priorities.specs.declared.outputs.Events.{Events}
 use Rattle.priorities.specs.Table27.{last_phase}
 use Rattle.priorities.specs.Outputs.{outputs, count_on}
-use Rattle.discharge.specs.declared.question.Discharged.TheVariants.{Refused, On}
 use Rattle.discharge.specs.Question.{phase_row, out_row, discharge_refusals, discharged, outputs_after}
+use Rattle.std.specs.Prelude.{Result, Ok, Err}
 
 module _ {A : Type 0} (table : List ℕ) (position phase room : ℕ) (refused : Refusal → A) (accepted : A) where
   -- what the refusals after the place say
@@ -35,17 +32,17 @@ module _ {A : Type 0} (table : List ℕ) (position phase room : ℕ) (refused : 
   abbrev pub asked : A
   asked = decide (discharge_refusals table position phase room) refused accepted
 
-  by-its_place : {p : Placed} → placed table position ≡ p → asked ≡ by_place refused later p
+  by-its_place : {p : Result ℕ Refusal} → placed table position ≡ p → asked ≡ by_place refused later p
   unfolding discharge_refusals place_refusals
   by-its_place e =
       decide_append (place_refusals table position) (phase_row phase ∷ out_row room ∷ []) refused accepted
       ∙ as_placed table position refused later
       ∙ ap (by_place refused later) e
 
-  pub no_place : {r : Refusal} → placed table position ≡ Nowhere r → asked ≡ refused r
+  pub no_place : {r : Refusal} → placed table position ≡ Err r → asked ≡ refused r
   no_place e = by-its_place e
 
-  module _ {k : ℕ} (e : placed table position ≡ At k) where
+  module _ {k : ℕ} (e : placed table position ≡ Ok k) where
     pub phase_wrong : last_phase < phase → asked ≡ refused PositionWrong
     phase_wrong h = by-its_place e ∙ holds_here _ _ refused accepted (lt-ltb last_phase phase h)
 
@@ -60,26 +57,30 @@ module _ {A : Type 0} (table : List ℕ) (position phase room : ℕ) (refused : 
 
 -- ---- what is answered: the outputs of the record that the table lends, put where there is room for them
 
-module _ (table : List ℕ) (position : ℕ) (events : Events) (phase : ℕ) (out : List ℕ) {k : ℕ} (e : placed table position ≡ At k)
-    (h : phase ≤ last_phase) (room : cell_count ≤ length out) where
-  own : lent k table ≡ row_at record_size (position - 1) table
-  own = part-lent record_size k table ∙ ap (λ (j : ℕ). row_at record_size j table) (its_index table position e)
+module _ (table : List ℕ) (position : ℕ) (events : Events) (phase : ℕ) (out : List ℕ) {k : ℕ} (e : placed table position ≡ Ok k)
+    (h : phase ≤ last_phase) (room : cell_count ≤ length out)
+    {start end : ℕ} (lies : (start ≡ k * record_size) × (end ≡ k * record_size + record_size) × (end ≤ length table)) where
+  abbrev its : List ℕ
+  its = part k table lies
 
-  pub so_many_on : {n : ℕ} → n ≡ cond (leb cell_count (length out)) (count_on events phase (lent k table)) 0
-      → On n ≡ discharged table position events phase (length out)
+  own : its ≡ row_at record_size (position - 1) table
+  own = part-row k table lies ∙ ap (λ (j : ℕ). row_at record_size j table) (its_index table position e)
+
+  pub so_many_on : {n : ℕ} → n ≡ cond (leb cell_count (length out)) (count_on events phase its) 0
+      → Ok n ≡ discharged table position events phase (length out)
   unfolding discharged
   so_many_on n =
-      ap On
+      ap Ok
       (n
-      ∙ ap (λ (b : Bool). cond b (count_on events phase (lent k table)) 0) (le-leb cell_count (length out) room)
+      ∙ ap (λ (b : Bool). cond b (count_on events phase its) 0) (le-leb cell_count (length out) room)
       ∙ ap (count_on events phase) own)
-      ∙ sym (answered table position phase (length out) Refused _ e h room)
+      ∙ sym (answered table position phase (length out) Err _ e h room)
 
-  pub outputs_put : {after : List ℕ} → after ≡ cond (leb cell_count (length out)) (outputs events phase (lent k table) ++ drop cell_count out) out
+  pub outputs_put : {after : List ℕ} → after ≡ cond (leb cell_count (length out)) (outputs events phase its ++ drop cell_count out) out
       → after ≡ outputs_after table position events phase out
   unfolding outputs_after
   outputs_put a =
       a
-      ∙ ap (λ (b : Bool). cond b (outputs events phase (lent k table) ++ drop cell_count out) out) (le-leb cell_count (length out) room)
+      ∙ ap (λ (b : Bool). cond b (outputs events phase its ++ drop cell_count out) out) (le-leb cell_count (length out) room)
       ∙ ap (λ (r : List ℕ). outputs events phase r ++ drop cell_count out) own
       ∙ sym (answered table position phase (length out) (λ n. out) _ e h room)

@@ -1,6 +1,6 @@
 -- Document 02, L2: the question about the discharge outputs of one monitor of the chain, its refusals and its answer. Positions count from 1.
 -- Assumes nothing.
-use Rattle.std.specs.Prelude.{List, [], ◌∷◌, ◌++◌, ℕ, ◌-◌, ltb, length, drop}
+use Rattle.std.specs.Prelude.{List, [], ◌∷◌, ◌++◌, ℕ, ◌-◌, ltb, length, drop, Result, Ok, Err}
 use Rattle.laws.specs.Rows.{row_at}
 use Rattle.refusals.specs.declared.Refusal.TheVariants.{PositionWrong, NoRoom}
 use Rattle.refusals.specs.Order.{Row, ◌gives◌, decide}
@@ -9,8 +9,7 @@ use Rattle.judging.specs.Refusals.{table_row, position_row}
 use Rattle.priorities.specs.declared.outputs.Events.{Events}
 use Rattle.priorities.specs.Table27.{last_phase}
 use Rattle.priorities.specs.Outputs.{outputs, count_on}
-use Rattle.discharge.specs.declared.question.Discharged.{Discharged}
-use Rattle.discharge.specs.declared.question.Discharged.TheVariants.{Refused, On}
+use Rattle.refusals.specs.declared.Refusal.{Refusal}
 
 -- ---- the refusals, in their order; 1 and 7 are those of the table and of the position
 
@@ -27,9 +26,9 @@ discharge_refusals table position phase room = table_row table ∷ position_row 
 
 -- ---- what comes of it. The table is only read, and a refusal changes nothing
 
-unfoldable pub discharged : List ℕ → ℕ → Events → ℕ → ℕ → Discharged
+unfoldable pub discharged : List ℕ → ℕ → Events → ℕ → ℕ → Result ℕ Refusal
 discharged table position events phase room =
-    decide (discharge_refusals table position phase room) Refused (On (count_on events phase (row_at record_size (position - 1) table)))
+    decide (discharge_refusals table position phase room) Err (Ok (count_on events phase (row_at record_size (position - 1) table)))
 
 -- the outputs at the start of a buffer, cell 1's first; bytes past them stay
 unfoldable pub outputs_after : List ℕ → ℕ → Events → ℕ → List ℕ → List ℕ

@@ -3,4 +3,4 @@
 
 mod question;
 
-pub use question::{Discharged, discharge};
+pub use question::discharge;

@@ -6,7 +6,6 @@ ghost use Rattle.ports.specs.Ports.{port_of};
 ghost use Rattle.packing.specs.Packed.{packed};
 ghost use Rattle.door.specs.Answers.{built_parts, checked_parts, port_parts};
 
-use host::Built;
 use packing::{accepted, refused};
 use ports::{Checked, Port};
 use records::PAYLOAD_SIZE;
@@ -17,8 +16,8 @@ pub fn osk_host_frame(command: u16, monitors: usize, values: &[u8], out: &mut [u
     ensures out_after { out.new ≡ buffer_after command monitors values.now out.old }
 {
     match host::build(command, monitors, values, out) {
-        Built::Unbuilt(refusal) => refused(refusal),
-        Built::Length(size) => accepted(0, size as u16),
+        Err(refusal) => refused(refusal),
+        Ok(size) => accepted(0, size as u16),
     }
 }
 
@@ -28,10 +27,10 @@ pub fn osk_check(payload: &[u8], expected: u8) -> u32
     ensures { result ≡ packed (checked_parts (checked payload.now expected)) }
 {
     match ports::check(payload, expected) {
-        Checked::Unchecked(refusal) => refused(refusal),
-        Checked::Right => accepted(1, 0),
-        Checked::Damaged => accepted(2, 0),
-        Checked::CounterDiffers(received) => accepted(3, received as u16),
+        Err(refusal) => refused(refusal),
+        Ok(Checked::Right) => accepted(1, 0),
+        Ok(Checked::Damaged) => accepted(2, 0),
+        Ok(Checked::CounterDiffers(received)) => accepted(3, received as u16),
     }
 }
 
@@ -49,9 +48,9 @@ pub fn osk_two_ports(a: &[u8], b: &[u8], monitors: usize, position: usize, expec
     ensures { result ≡ packed (port_parts monitors position (port_of a.now b.now monitors position expected)) }
 {
     match ports::port_of(a, b, monitors, position, expected) {
-        Port::Refused(refusal) => refused(refusal),
-        Port::A(differs) => accepted(told(1, differs), ((position - 1) * PAYLOAD_SIZE) as u16),
-        Port::B(differs) => accepted(
+        Err(refusal) => refused(refusal),
+        Ok(Port::A(differs)) => accepted(told(1, differs), ((position - 1) * PAYLOAD_SIZE) as u16),
+        Ok(Port::B(differs)) => accepted(
             told(2, differs),
             ((monitors - position) * PAYLOAD_SIZE) as u16,
         ),

@@ -12,10 +12,10 @@ pub fn osk_verdict(message: &[u8], time_ran_out: u8) -> u32
     ensures { result ≡ packed (verdict_parts (verdict message.now (not (eqb time_ran_out 0)))) }
 {
     match verdict_on(message, time_ran_out != 0) {
-        Verdict::Refused(refusal) => refused(refusal),
-        Verdict::Passed => accepted(1, 0),
-        Verdict::Failed { count, flags } => accepted(2, 256 * (count as u16) + (flags as u16)),
-        Verdict::Damaged => accepted(3, 0),
-        Verdict::TimedOut => accepted(4, 0),
+        Err(refusal) => refused(refusal),
+        Ok(Verdict::Passed) => accepted(1, 0),
+        Ok(Verdict::Failed { count, flags }) => accepted(2, 256 * (count as u16) + (flags as u16)),
+        Ok(Verdict::Damaged) => accepted(3, 0),
+        Ok(Verdict::TimedOut) => accepted(4, 0),
     }
 }

@@ -5,7 +5,7 @@ ghost use Rattle.packing.specs.Packed.{packed};
 ghost use Rattle.door.specs.Volts.{volts_or_nan, summary_parts, summary_out};
 
 use packing::{accepted, refused};
-use readings::{Pack, Reading};
+use readings::Reading;
 use refusals::Refusal;
 use thresholds::ResultCode;
 
@@ -39,14 +39,14 @@ pub fn osk_summary(codes: &[i16], out: &mut [f64]) -> u32
     ensures out_after { out.new ≡ summary_out (summary_of codes.now) out.old }
 {
     match readings::summary_of(codes) {
-        Pack::Refused(refusal) => refused(refusal),
-        Pack::Nothing => {
+        Err(refusal) => refused(refusal),
+        Ok(None) => {
             if out.len() < SUMMARY_SIZE {
                 return refused(Refusal::NoRoom);
             }
             accepted(0, 0)
         }
-        Pack::Whole(summary) => {
+        Ok(Some(summary)) => {
             if out.len() < SUMMARY_SIZE {
                 return refused(Refusal::NoRoom);
             }

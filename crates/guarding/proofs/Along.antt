@@ -17,7 +17,6 @@ use Rattle.judging.proofs.Changed.{changed_record, other_record}
 use Rattle.measuring.specs.Measuring.{measured}
 use Rattle.messages.specs.Messages.{message, message_right}
 use Rattle.messages.proofs.Sent.{message-right, message-count, message-flags}
-use Rattle.heartbeats.specs.declared.steps.Beat.TheVariants.{Silent, Sends}
 use Rattle.heartbeats.specs.Steps.{manages, is_manager, is_timeout, ndev, counted_down, joined_to, woken, wakes, hears, judged, reached}
 use Rattle.heartbeats.proofs.Kept.{length-woken, length-reached}
 use Rattle.passing.specs.Hops.{bytes_sent, wake_sends, wake_leaves, hop_sends, hop_leaves, hops, behind, sent_along, left_along}
@@ -27,6 +26,8 @@ use Rattle.guarding.proofs.Ways.{behind-apart, behind_past, woken-whole, ahead_w
 use Rattle.guarding.proofs.Struck.{sends-on, hop_right, wake_right}
 use Rattle.guarding.proofs.Summed.{less_none, counted_byte, counted-first, joined-first}
 use Rattle.guarding.proofs.MetAlong.{met}
+use Rattle.std.specs.Prelude.{None}
+use Rattle.heartbeats.specs.Steps.{sends}
 
 -- ---- one monitor
 
@@ -43,7 +44,7 @@ wake_message : (k : ℕ) (table : List ℕ) → is_manager (at k table) ≡ true
 unfolding wake_sends wakes
 wake_message k table e =
     let r = at k table in
-    ap (λ (b : Bool). bytes_sent (cond b (Sends (counted_down r (ndev r)) (joined_to r 0)) Silent)) e
+    ap (λ (b : Bool). bytes_sent (cond b (sends (counted_down r (ndev r)) (joined_to r 0)) None)) e
 
 measures : (m r : List ℕ) → sends_on r ≡ true → message_right m ≡ true → reached m r ≡ measured r
 unfolding sends_on reached hears

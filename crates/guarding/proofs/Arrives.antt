@@ -9,6 +9,7 @@ use mathlib.Core.Logic.Iff
 use mathlib.Core.Logic.{◌↔◌}
 use Prim.Native.Nat.{ℕ, ◌+◌, ◌≤◌, ◌<◌}
 use native.Mathlib.Omega.{arith}
+use Rattle.std.specs.Prelude.{Ok}
 use Rattle.laws.specs.Counts.{all}
 use Rattle.laws.proofs.Rows.{length-rows}
 use Rattle.records.specs.Record.{record_size}
@@ -67,22 +68,22 @@ module _ (toA : Bool) (k : ℕ) (table : List ℕ) (g : Guarded toA k table) whe
         less_back (ndev (at k table)) (passing (chain table)) h
         (omega (arith, (is_sound table g.its-sound).few, passing_most (chain table), length-rows record_size (monitors table) table))
 
-    pub verdict-passed : ndev (at k table) ≡ monitors table + 0x42 → (verdict (beat_sends k table) false ≡ Passed) ↔ (all passes (chain table) ≡ true)
+    pub verdict-passed : ndev (at k table) ≡ monitors table + 0x42 → (verdict (beat_sends k table) false ≡ Ok Passed) ↔ (all passes (chain table) ≡ true)
     verdict-passed e =
         let few = (is_sound table g.its-sound).few in
         let first = ndev (at k table) in
         let sent = arrives (omega arith) in
-        subst⁻¹ (λ (bytes : List ℕ). (verdict bytes false ≡ Passed) ↔ (all passes (chain table) ≡ true)) sent
+        subst⁻¹ (λ (bytes : List ℕ). (verdict bytes false ≡ Ok Passed) ↔ (all passes (chain table) ≡ true)) sent
         (Iff.trans (sent_passed (less first (passing (chain table))) (union (chain table))) (passed-all table few first e))
 
     -- so no chain of another number passes by CMC_NDEV's count, whatever it is
     pub verdict_exactly : ndev (at k table) < 256
-        → (verdict (beat_sends k table) false ≡ Passed) ↔ ((all passes (chain table) ≡ true) × (ndev (at k table) ≡ monitors table + 0x42))
+        → (verdict (beat_sends k table) false ≡ Ok Passed) ↔ ((all passes (chain table) ≡ true) × (ndev (at k table) ≡ monitors table + 0x42))
     verdict_exactly byte =
         let rs = chain table in
         let n = length-rows record_size (monitors table) table in
         let first = ndev (at k table) in
-        subst⁻¹ (λ (bytes : List ℕ). (verdict bytes false ≡ Passed) ↔ ((all passes rs ≡ true) × (first ≡ monitors table + 0x42))) (arrives byte)
+        subst⁻¹ (λ (bytes : List ℕ). (verdict bytes false ≡ Ok Passed) ↔ ((all passes rs ≡ true) × (first ≡ monitors table + 0x42))) (arrives byte)
         (Iff.trans (sent_passed (less first (passing rs)) (union rs))
         (subst (λ (m : ℕ). ((less first (passing rs) ≡ pass_count) × (union rs ≡ 0)) ↔ ((all passes rs ≡ true) × (first ≡ m + 0x42))) n
         (pass_exactly rs first byte (omega (arith, n, (is_sound table g.its-sound).few)))))

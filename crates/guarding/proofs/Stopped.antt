@@ -12,13 +12,14 @@ use Rattle.records.specs.Record.{record_size, in_lpcm}
 use Rattle.judging.specs.Table.{monitors, sound}
 use Rattle.judging.proofs.Soundness.{is_sound}
 use Rattle.measuring.specs.Measuring.{measured}
-use Rattle.heartbeats.specs.declared.steps.Beat.TheVariants.{Silent, Sends}
 use Rattle.heartbeats.specs.Steps.{towards_a, is_manager, ndev, counted_down, joined_to, woken, wakes}
 use Rattle.heartbeats.proofs.Kept.{awake_left}
 use Rattle.passing.specs.Hops.{bytes_sent, wake_sends, wake_leaves, hop_sends, hop_leaves, hops, behind, way, way_from, sent_along, left_along, beat_sends, beat_leaves}
 use Rattle.guarding.specs.Chains.{at}
 use Rattle.passing.proofs.Silent.{same-table, none-along}
 use Rattle.guarding.proofs.Ways.{woken-whole, ahead_woken, hop_whole, ahead_hop}
+use Rattle.std.specs.Prelude.{None}
+use Rattle.heartbeats.specs.Steps.{sends}
 
 awake_hop : (k : ℕ) (bytes table : List ℕ) → in_lpcm (at k table) ≡ false → hop_sends k bytes table ≡ []
 unfolding hop_sends
@@ -56,7 +57,7 @@ pub no_beat : (k : ℕ) (table : List ℕ) → is_manager (at k table) ≡ false
 unfolding beat_sends beat_leaves wake_sends wake_leaves wakes woken
 no_beat k table e =
     let r = at k table in
-    let sent = ap bytes_sent (ap (λ (b : Bool). cond b (Sends (counted_down r (ndev r)) (joined_to r 0)) Silent) e) in
+    let sent = ap bytes_sent (ap (λ (b : Bool). cond b (sends (counted_down r (ndev r)) (joined_to r 0)) None) e) in
     let left = same-table k woken table (ap (λ (b : Bool). cond b (measured r) r) e) in
     let none = none-along (way_from k table) table in
     (ap₂ (sent_along (way_from k table)) sent left ∙ none.0, ap₂ (left_along (way_from k table)) sent left ∙ none.1)

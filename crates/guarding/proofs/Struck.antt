@@ -20,12 +20,13 @@ use Rattle.messages.specs.Verdicts.{verdict}
 use Rattle.messages.proofs.Sent.{message-right}
 use Rattle.messages.proofs.Struck.{message_hit_command, message_hit_data, damaged_by-command, damaged_by_data}
 use Rattle.heartbeats.specs.declared.steps.Beat.{Beat}
-use Rattle.heartbeats.specs.declared.steps.Beat.TheVariants.{Silent, Sends}
 use Rattle.heartbeats.specs.Steps.{manages, is_manager, is_timeout, ndev, counted_down, joined_to, wakes, hears, answers}
 use Rattle.passing.specs.Hops.{bytes_sent, wake_sends, wake_leaves, hop_sends, hop_leaves, hops, behind, way, way_from, sent_along, left_along, beat_sends}
 use Rattle.guarding.specs.Chains.{at, sends_on, Guarded, Struck}
 use Rattle.passing.proofs.Silent.{wrong_along, behind_within}
 use Rattle.guarding.proofs.Ways.{behind_past, woken-whole, ahead_woken, hop_whole, ahead_hop}
+use Rattle.std.specs.Prelude.{Option, None, Ok}
+use Rattle.heartbeats.specs.Steps.{sends}
 
 -- ---- a right message that is struck
 
@@ -33,27 +34,27 @@ not_right : (sent came : List ℕ) → message_right sent ≡ true → Struck se
 not_right sent came right (long, inl s) = message_hit_data sent came right s
 not_right sent came right (long, inr s) = message_hit_command sent came right s
 
-damaged : (sent came : List ℕ) → message_right sent ≡ true → Struck sent came → verdict came false ≡ Damaged
+damaged : (sent came : List ℕ) → message_right sent ≡ true → Struck sent came → verdict came false ≡ Ok Damaged
 damaged sent came right (long, inl s) = damaged_by_data sent came right s
 damaged sent came right (long, inr s) = damaged_by-command sent came right s long
 
 -- ---- what is sent is right
 
-pub sends-on : (m r : List ℕ) → sends_on r ≡ true → message_right m ≡ true → answers m r ≡ Sends (counted_down r (count_in m)) (joined_to r (flags_in m))
+pub sends-on : (m r : List ℕ) → sends_on r ≡ true → message_right m ≡ true → answers m r ≡ sends (counted_down r (count_in m)) (joined_to r (flags_in m))
 unfolding sends_on answers hears
 sends-on m r on right =
     let ready = both_first (in_lpcm r && not (manages r)) (not (is_timeout r)) on in
     let no_end = both_second (in_lpcm r && not (manages r)) (not (is_timeout r)) on in
-    ap₂ (λ (a b : Bool). cond (a && b) (Sends (counted_down r (count_in m)) (joined_to r (flags_in m))) Silent) (ap₂ ◌&&◌ ready right) no_end
+    ap₂ (λ (a b : Bool). cond (a && b) (sends (counted_down r (count_in m)) (joined_to r (flags_in m))) None) (ap₂ ◌&&◌ ready right) no_end
 
-sent_right : {b : Beat} (count flags : ℕ) → b ≡ Sends count flags → message_right (bytes_sent b) ≡ true
-sent_right count flags e = ap (λ (b : Beat). message_right (bytes_sent b)) e ∙ message-right count flags
+sent_right : {b : Option Beat} (count flags : ℕ) → b ≡ sends count flags → message_right (bytes_sent b) ≡ true
+sent_right count flags e = ap (λ (b : Option Beat). message_right (bytes_sent b)) e ∙ message-right count flags
 
 pub wake_right : (k : ℕ) (table : List ℕ) → is_manager (at k table) ≡ true → message_right (wake_sends k table) ≡ true
 unfolding wake_sends wakes
 wake_right k table e =
     let r = at k table in
-    sent_right (counted_down r (ndev r)) (joined_to r 0) (ap (λ (b : Bool). cond b (Sends (counted_down r (ndev r)) (joined_to r 0)) Silent) e)
+    sent_right (counted_down r (ndev r)) (joined_to r 0) (ap (λ (b : Bool). cond b (sends (counted_down r (ndev r)) (joined_to r 0)) None) e)
 
 pub hop_right : (k : ℕ) (bytes table : List ℕ) → sends_on (at k table) ≡ true → message_right bytes ≡ true → message_right (hop_sends k bytes table) ≡ true
 unfolding hop_sends
@@ -110,7 +111,7 @@ module _ (toA : Bool) (k : ℕ) (table : List ℕ) (g : Guarded toA k table) whe
       (ap (λ (ks : List ℕ). sent_along ks came t) after ∙ rest.0, ap (λ (ks : List ℕ). left_along ks came t) after ∙ rest.1)
 
   -- on the last hop, to the host, which judges what comes in time
-  pub struck_last : (came : List ℕ) → Struck (beat_sends k table) came → verdict came false ≡ Damaged
+  pub struck_last : (came : List ℕ) → Struck (beat_sends k table) came → verdict came false ≡ Ok Damaged
   unfolding beat_sends
   struck_last came struck =
       damaged (beat_sends k table) came (so_far-right (way_from k table) (hops toA (monitors table) k) (omega arith) its-way) struck

@@ -1,26 +1,27 @@
 -- Document 02, L8: the elementary operations in turn, as a bench does them: the manager at a position wakes, and what it was handed goes to the monitor at the next
 -- position, and so on, until nothing is handed out. Positions count from 1. Each goes by what the functions promise.
 -- Assumes nothing.
-use Rattle.std.specs.Prelude.{cond, List, [], ◌∷◌, map, ℕ, suc, ◌-◌, eqb, length, take}
+use Rattle.std.specs.Prelude.{cond, List, [], ◌∷◌, map, ℕ, suc, ◌-◌, eqb, length, take, Option, Some, None, Result, Ok, Err}
 use Rattle.messages.specs.Messages.{message_size}
-use Rattle.passing.specs.declared.operations.Sent.{Sent}
-use Rattle.passing.specs.declared.operations.Sent.TheVariants.{Unsent, Nothing, TowardsA, TowardsB}
 use Rattle.passing.specs.declared.operations.Relayed.{Relayed}
-use Rattle.passing.specs.declared.operations.Relayed.TheVariants.{Unrelayed, Stopped, SentOn}
+use Rattle.passing.specs.declared.operations.Relayed.TheVariants.{Stopped, SentOn}
 use Rattle.passing.specs.Hops.{way_from}
 use Rattle.passing.specs.Operations.{woken_at, table_after_wake, out_after_wake, relayed_at, table_after_relay, out_after_relay}
+use Rattle.refusals.specs.declared.Refusal.{Refusal}
+use Rattle.passing.specs.declared.operations.End.{End}
+use Rattle.passing.specs.declared.operations.End.TheVariants.{A, B}
 
 -- what was handed out: a message at the start of the buffer, or nothing
-abbrev pub woke : Sent → List ℕ → List ℕ
-woke (Unsent r) out = []
-woke Nothing out = []
-woke TowardsA out = take message_size out
-woke TowardsB out = take message_size out
+abbrev pub woke : Result (Option End) Refusal → List ℕ → List ℕ
+woke (Err r) out = []
+woke (Ok None) out = []
+woke (Ok (Some A)) out = take message_size out
+woke (Ok (Some B)) out = take message_size out
 
-abbrev pub relayed : Relayed → List ℕ → List ℕ
-relayed (Unrelayed r) out = []
-relayed Stopped out = []
-relayed SentOn out = take message_size out
+abbrev pub relayed : Result Relayed Refusal → List ℕ → List ℕ
+relayed (Err r) out = []
+relayed (Ok Stopped) out = []
+relayed (Ok SentOn) out = take message_size out
 
 -- to the monitors at positions, with a buffer that is lent anew for each hop
 module _ (out : List ℕ) where

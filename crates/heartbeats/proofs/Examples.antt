@@ -15,8 +15,9 @@ use Rattle.cells.specs.Cells.{code_in}
 use Rattle.monitor.specs.Effects.{cells_to}
 use Rattle.measuring.specs.Measuring.{cuv, cov, cdv, masked, kinds, kinds_of, kinds_in, pending, found, measured, passes}
 use Rattle.messages.specs.Messages.{message_head, message, count_in, flags_in, message_right, is_pass}
-use Rattle.heartbeats.specs.declared.steps.Beat.TheVariants.{Silent, Sends}
 use Rattle.heartbeats.specs.Steps.{manages, is_manager, is_timeout, ndev, counted_down, joined_to, woken, wakes, hears, judged, reached, answers, late}
+use Rattle.std.specs.Prelude.{None}
+use Rattle.heartbeats.specs.Steps.{sends}
 
 -- a monitor that leaves out all of its cells, by byte 0 of its configuration, CMC_NDEV, CMF0 and CMF1
 abbrev monitor : ℕ → ℕ → ℕ → ℕ → List ℕ
@@ -38,24 +39,24 @@ last = monitor 0x08 0x00 0x00 0x83
 pub record Turns : Type 0 where
   is_long : length manager ≡ record_size
   -- 48 is 47 after the manager, 46 after the next; the third fails, and leaves the count and joins its flag to those that came
-  starts : wakes manager ≡ Sends 0x47 0x00
-  passes_on : answers (message 0x47 0x00) good ≡ Sends 0x46 0x00
-  fails : answers (message 0x46 0x00) bad ≡ Sends 0x46 0x02
-  joins : answers (message 0x46 0x08) bad ≡ Sends 0x46 0x0A
+  starts : wakes manager ≡ sends 0x47 0x00
+  passes_on : answers (message 0x47 0x00) good ≡ sends 0x46 0x00
+  fails : answers (message 0x46 0x00) bad ≡ sends 0x46 0x02
+  joins : answers (message 0x46 0x08) bad ≡ sends 0x46 0x0A
   -- in eight bits
-  wraps : answers (message 0x00 0x00) good ≡ Sends 0xFF 0x00
+  wraps : answers (message 0x00 0x00) good ≡ sends 0xFF 0x00
   -- a timeout monitor judges after its own step and sends nothing: 43 is then 42, a pass, which clears both flags
   passed : byte_of cmf1 (reached (message 0x43 0x00) last) ≡ 0x80
-  ends : answers (message 0x43 0x00) last ≡ Silent
+  ends : answers (message 0x43 0x00) last ≡ None
   -- anything else sets CMF_BTMCMP and leaves CMF_BTMWD
   flagged : byte_of cmf1 (reached (message 0x43 0x01) (monitor 0x08 0x00 0x00 0x80)) ≡ 0x81
   missing : byte_of cmf1 (reached (message 0x42 0x00) (monitor 0x08 0x00 0x00 0x82)) ≡ 0x83
   -- the time runs out
   ran_out_lem : byte_of cmf1 (late (monitor 0x08 0x00 0x00 0x80)) ≡ 0x82
   -- one bit of the check flipped; a monitor not in LPCM; a manager
-  damaged : answers (0x00 ∷ 0x43 ∷ 0x47 ∷ 0xB2 ∷ 0x47 ∷ 0x00 ∷ 0x01 ∷ 0x4F ∷ []) good ≡ Silent
-  asleep : answers (message 0x47 0x00) (monitor 0x00 0x00 0x00 0x03) ≡ Silent
-  taken_by-none : answers (message 0x47 0x00) manager ≡ Silent
+  damaged : answers (0x00 ∷ 0x43 ∷ 0x47 ∷ 0xB2 ∷ 0x47 ∷ 0x00 ∷ 0x01 ∷ 0x4F ∷ []) good ≡ None
+  asleep : answers (message 0x47 0x00) (monitor 0x00 0x00 0x00 0x03) ≡ None
+  taken_by-none : answers (message 0x47 0x00) manager ≡ None
 
 pub turns : Turns
 unfolding bit_at bytes_of byte_in byte_of in_lpcm anew on_bytes signed lower upper codes_of code_in cells_to cuv cov cdv masked kinds kinds_of kinds_in pending found measured passes message message_right message_head same seal sealed_right word_at two_bytes command_check pec15 data_pec remainder step once bits_of_bytes bits_of odd ◌⊕◌ xor is_pass count_in flags_in manages is_manager is_timeout ndev counted_down joined_to woken wakes hears judged reached answers late

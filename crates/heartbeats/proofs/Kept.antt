@@ -21,8 +21,9 @@ use Rattle.records.proofs.Parts.{byte_of-part, outside_anew, sound_elsewhere}
 use Rattle.measuring.specs.Measuring.{measured}
 use Rattle.measuring.proofs.Measured.{length-measured, sound-measured, measured_spares}
 use Rattle.messages.specs.Messages.{count_in, flags_in, message_right, is_pass}
-use Rattle.heartbeats.specs.declared.steps.Beat.TheVariants.{Silent, Sends}
 use Rattle.heartbeats.specs.Steps.{manages, is_manager, is_timeout, counted_down, joined_to, woken, hears, judged, reached, answers, late}
+use Rattle.std.specs.Prelude.{None}
+use Rattle.heartbeats.specs.Steps.{sends}
 
 -- what holds of both holds of either
 either : {A : Type 0} (f : List ℕ → A) (b : Bool) (x y : List ℕ) {z : A} → f x ≡ z → f y ≡ z → f (cond b x y) ≡ z
@@ -148,30 +149,30 @@ module _ (r : List ℕ) where
 
     -- ---- what leaves it as it is
 
-    unheard : hears m r ≡ false → (reached m r ≡ r) × (answers m r ≡ Silent)
+    unheard : hears m r ≡ false → (reached m r ≡ r) × (answers m r ≡ None)
     unfolding reached answers
     unheard e = (
       ap (λ (b : Bool). cond b (cond (is_timeout r) (marked (judged m r) (measured r)) (measured r)) r) e,
-      ap (λ (b : Bool). cond (b && not (is_timeout r)) (Sends (counted_down r (count_in m)) (joined_to r (flags_in m))) Silent) e,
+      ap (λ (b : Bool). cond (b && not (is_timeout r)) (sends (counted_down r (count_in m)) (joined_to r (flags_in m))) None) e,
     )
 
-    pub manager-left : manages r ≡ true → (reached m r ≡ r) × (answers m r ≡ Silent)
+    pub manager-left : manages r ≡ true → (reached m r ≡ r) × (answers m r ≡ None)
     unfolding hears
     manager-left e = unheard (ap (λ (b : Bool). in_lpcm r && not b && message_right m) e ∙ ap (λ (b : Bool). b && message_right m) (and-false (in_lpcm r)))
 
-    pub awake_left : in_lpcm r ≡ false → (reached m r ≡ r) × (answers m r ≡ Silent)
+    pub awake_left : in_lpcm r ≡ false → (reached m r ≡ r) × (answers m r ≡ None)
     unfolding hears
     awake_left e = unheard (ap (λ (b : Bool). b && not (manages r) && message_right m) e)
 
-    pub wrong_left : message_right m ≡ false → (reached m r ≡ r) × (answers m r ≡ Silent)
+    pub wrong_left : message_right m ≡ false → (reached m r ≡ r) × (answers m r ≡ None)
     unfolding hears
     wrong_left e =
         unheard
         (ap (λ (b : Bool). in_lpcm r && not (manages r) && b) e ∙ and-false (in_lpcm r && not (manages r)))
 
     -- and a timeout monitor sends nothing
-    pub timeout_silent : is_timeout r ≡ true → answers m r ≡ Silent
+    pub timeout_silent : is_timeout r ≡ true → answers m r ≡ None
     unfolding answers
     timeout_silent e =
-        ap (λ (b : Bool). cond b (Sends (counted_down r (count_in m)) (joined_to r (flags_in m))) Silent)
+        ap (λ (b : Bool). cond b (sends (counted_down r (count_in m)) (joined_to r (flags_in m))) None)
         (ap (λ (b : Bool). hears m r && not b) e ∙ and-false (hears m r))

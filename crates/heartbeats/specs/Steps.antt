@@ -1,14 +1,17 @@
 -- Document 02, L8, by the sheet's "LPCM operation", "LPCM heartbeat messages" and "LPCM bridgeless timeout monitor": what one monitor makes of its turn in a
 -- heartbeat. A heartbeat is no frame: counter and byte 69 stay.
 -- Assumes nothing.
-use Rattle.std.specs.Prelude.{Bool, cond, not, ◌&&◌, List, ℕ, ◌+◌, ◌%◌}
+use Rattle.std.specs.Prelude.{Bool, cond, not, ◌&&◌, List, ℕ, ◌+◌, ◌%◌, Option, Some, None}
 use Rattle.std.specs.Int.Bits.{bit_and, bit_or}
 use Rattle.laws.specs.Bits.{bit_at}
 use Rattle.records.specs.Record.{lpcm_configuration, cmf0, cmf1, in_lpcm, byte_in, byte_of, on_bytes}
 use Rattle.measuring.specs.Measuring.{measured, passes}
 use Rattle.messages.specs.Messages.{count_in, flags_in, message_right, is_pass}
 use Rattle.heartbeats.specs.declared.steps.Beat.{Beat}
-use Rattle.heartbeats.specs.declared.steps.Beat.TheVariants.{Silent, Sends}
+
+-- a message of this count and these flags is sent
+abbrev pub sends : ℕ → ℕ → Option Beat
+sends count flags = Some (record { count = count; flags = flags })
 
 -- ---- what the configuration makes of a monitor in LPCM
 
@@ -45,8 +48,8 @@ joined_to r flags = bit_or flags (byte_of cmf0 (measured r))
 unfoldable pub woken : List ℕ → List ℕ
 woken r = cond (is_manager r) (measured r) r
 
-unfoldable pub wakes : List ℕ → Beat
-wakes r = cond (is_manager r) (Sends (counted_down r (ndev r)) (joined_to r 0)) Silent
+unfoldable pub wakes : List ℕ → Option Beat
+wakes r = cond (is_manager r) (sends (counted_down r (ndev r)) (joined_to r 0)) None
 
 -- ---- a message reaches a monitor
 
@@ -62,9 +65,9 @@ unfoldable pub reached : List ℕ → List ℕ → List ℕ
 reached message r = cond (hears message r) (cond (is_timeout r) (on_bytes cmf1 (λ i old. judged message r old) (measured r)) (measured r)) r
 
 -- what it sends on; a timeout monitor sends nothing
-unfoldable pub answers : List ℕ → List ℕ → Beat
+unfoldable pub answers : List ℕ → List ℕ → Option Beat
 answers message r =
-    cond (hears message r && not (is_timeout r)) (Sends (counted_down r (count_in message)) (joined_to r (flags_in message))) Silent
+    cond (hears message r && not (is_timeout r)) (sends (counted_down r (count_in message)) (joined_to r (flags_in message))) None
 
 -- ---- the time runs out: CMF_BTMWD
 

@@ -24,11 +24,10 @@ use Rattle.records.specs.declared.commands.Write.{Write}
 use Rattle.records.specs.declared.commands.Command.TheVariants.{Reads, Writes, Bares, Unlisted}
 use Rattle.records.specs.declared.record.Part.{Part}
 use Rattle.records.specs.Commands.{commands, command_of, data_size, payload_size, width_of, frame_length}
-use Rattle.host.specs.declared.frames.Built.{Built}
-use Rattle.host.specs.declared.frames.Built.TheVariants.{Unbuilt, Length}
 use Rattle.host.specs.Frames.{head_size, sealed, body, value_count, frame_for, built, buffer_after}
 use Rattle.host.proofs.Judging.{Buildable, by_judgement, buildable_accepted, accepted-length, accepted_buildable, built-by, after-by}
 use Rattle.host.proofs.Payloads.{length_data, payloads_round, sealed-right}
+use Rattle.std.specs.Prelude.{Result, Ok, Err}
 
 -- ---- how long
 
@@ -112,26 +111,26 @@ head-fits (Bares b) n = omega arith
 head-fits Unlisted n = omega arith
 
 module _ (code n : ℕ) (values buffer : List ℕ) where
-  abbrev asked : Built
+  abbrev asked : Result ℕ Refusal
   asked = built code n values (length buffer)
 
   -- by the outcome
-  by-outcome : {b : Built} → asked ≡ b → buffer_after code n values buffer ≡ by_judgement (λ r. buffer) (λ l. frame_for code n values ++ drop l buffer) b
+  by-outcome : {b : Result ℕ Refusal} → asked ≡ b → buffer_after code n values buffer ≡ by_judgement (λ r. buffer) (λ l. frame_for code n values ++ drop l buffer) b
   by-outcome e =
       after-by code n values buffer
       ∙ ap (by_judgement (λ r. buffer) (λ l. frame_for code n values ++ drop l buffer)) (sym (built-by code n values (length buffer)) ∙ e)
 
   -- refused: nothing changes
-  pub built-refused : (r : Refusal) → asked ≡ Unbuilt r → buffer_after code n values buffer ≡ buffer
+  pub built-refused : (r : Refusal) → asked ≡ Err r → buffer_after code n values buffer ≡ buffer
   built-refused r e = by-outcome e
 
   -- accepted: no refusal held
-  pub built_buildable : {l : ℕ} → asked ≡ Length l → Buildable (command_of code commands) n (length values) (length buffer)
+  pub built_buildable : {l : ℕ} → asked ≡ Ok l → Buildable (command_of code commands) n (length values) (length buffer)
   built_buildable e =
       accepted_buildable (command_of code commands) n (length values) (length buffer) (sym (built-by code n values (length buffer)) ∙ e)
 
   -- the frame is at the buffer's start, its length is told, and the bytes past it stay
-  pub built-accepted : {l : ℕ} → asked ≡ Length l
+  pub built-accepted : {l : ℕ} → asked ≡ Ok l
       → (l ≡ length (frame_for code n values)) × (buffer_after code n values buffer ≡ frame_for code n values ++ drop l buffer)
   built-accepted e = (
     accepted-length (command_of code commands) n (length values) (length buffer) (sym (built-by code n values (length buffer)) ∙ e)
@@ -140,7 +139,7 @@ module _ (code n : ℕ) (values buffer : List ℕ) where
   )
 
   -- the command and its check put at the start, and then what follows
-  pub placed-accepted : {l : ℕ} → asked ≡ Length l
+  pub placed-accepted : {l : ℕ} → asked ≡ Ok l
       → placed head_size (body (command_of code commands) n values) (placed 0 (head code) buffer) ≡ buffer_after code n values buffer
   unfolding frame_for
   placed-accepted e =
@@ -152,8 +151,8 @@ module _ (code n : ℕ) (values buffer : List ℕ) where
 
   -- a request is accepted where no refusal holds
   pub built-given : Buildable (command_of code commands) n (length values) (length buffer)
-      → (asked ≡ Length (length (frame_for code n values)))
+      → (asked ≡ Ok (length (frame_for code n values)))
       × (buffer_after code n values buffer ≡ frame_for code n values ++ drop (length (frame_for code n values)) buffer)
   built-given b =
-      let e : asked ≡ Length (length (frame_for code n values)) = built-by code n values (length buffer) ∙ buildable_accepted (command_of code commands) n (length values) (length buffer) b ∙ ap Length (sym (length-frame code n values b.count)) in
+      let e : asked ≡ Ok (length (frame_for code n values)) = built-by code n values (length buffer) ∙ buildable_accepted (command_of code commands) n (length values) (length buffer) b ∙ ap Ok (sym (length-frame code n values b.count)) in
       (e, by-outcome e)

@@ -16,9 +16,8 @@ use Rattle.refusals.specs.Order.{decide, Passed}
 use Rattle.refusals.proofs.Deciding.{decide-map, passes, has_passed}
 use Rattle.records.specs.declared.commands.Command.{Command}
 use Rattle.records.specs.Commands.{commands, command_of, is_listed, most_monitors, frame_length}
-use Rattle.host.specs.declared.frames.Built.{Built}
-use Rattle.host.specs.declared.frames.Built.TheVariants.{Unbuilt, Length}
 use Rattle.host.specs.Frames.{value_count, frame_for, request_refusals, judged, build_refusals, built, buffer_after}
+use Rattle.std.specs.Prelude.{Result, Ok, Err}
 
 -- as many monitors as a chain can have
 pub chain-test : (n : ℕ) → leb 1 n && leb n most_monitors ≡ true → (1 ≤ n) × (n ≤ most_monitors)
@@ -34,9 +33,9 @@ pub record Buildable (command : Command) (n given room : ℕ) : Type 0 where
   pub fits : frame_length command n ≤ room
 
 -- what is made of each judgement
-abbrev pub by_judgement : {R : Type 0} → (Refusal → R) → (ℕ → R) → Built → R
-by_judgement refused accepted (Unbuilt r) = refused r
-by_judgement refused accepted (Length l) = accepted l
+abbrev pub by_judgement : {R : Type 0} → (Refusal → R) → (ℕ → R) → Result ℕ Refusal → R
+by_judgement refused accepted (Err r) = refused r
+by_judgement refused accepted (Ok l) = accepted l
 
 module _ (command : Command) (n given room : ℕ) where
   abbrev chain_test : Bool
@@ -50,28 +49,28 @@ module _ (command : Command) (n given room : ℕ) where
 
   -- ---- down the list
 
-  pub not_listed : is_listed command ≡ false → judged command n given room ≡ Unbuilt CodeNotListed
+  pub not_listed : is_listed command ≡ false → judged command n given room ≡ Err CodeNotListed
   unfolding judged decide
   not_listed l = simp l
 
-  pub no_chain : is_listed command ≡ true → chain_test ≡ false → judged command n given room ≡ Unbuilt PositionWrong
+  pub no_chain : is_listed command ≡ true → chain_test ≡ false → judged command n given room ≡ Err PositionWrong
   unfolding judged decide
   no_chain l c = simp (l, c)
 
-  pub count_wrong : is_listed command ≡ true → chain_test ≡ true → count_test ≡ false → judged command n given room ≡ Unbuilt CountWrong
+  pub count_wrong : is_listed command ≡ true → chain_test ≡ true → count_test ≡ false → judged command n given room ≡ Err CountWrong
   unfolding judged decide
   count_wrong l c v = simp (l, c, v)
 
-  pub no_room : is_listed command ≡ true → chain_test ≡ true → count_test ≡ true → room_test ≡ true → judged command n given room ≡ Unbuilt NoRoom
+  pub no_room : is_listed command ≡ true → chain_test ≡ true → count_test ≡ true → room_test ≡ true → judged command n given room ≡ Err NoRoom
   unfolding judged decide
   no_room l c v r = simp (l, c, v, r)
 
   pub is_accepted : is_listed command ≡ true → chain_test ≡ true → count_test ≡ true → room_test ≡ false
-      → judged command n given room ≡ Length (frame_length command n)
+      → judged command n given room ≡ Ok (frame_length command n)
   unfolding judged decide
   is_accepted l c v r = simp (l, c, v, r)
 
-  pub buildable_accepted : Buildable command n given room → judged command n given room ≡ Length (frame_length command n)
+  pub buildable_accepted : Buildable command n given room → judged command n given room ≡ Ok (frame_length command n)
   buildable_accepted b =
       is_accepted b.listed (simp (le-leb 1 n b.first, le-leb n most_monitors b.most))
       (eq-eqb given (value_count command n) b.count)
@@ -80,21 +79,21 @@ module _ (command : Command) (n given room : ℕ) where
   -- ---- back up the list
 
   -- no refusal held
-  passed : {l : ℕ} → judged command n given room ≡ Length l → Passed (request_refusals command n given room)
+  passed : {l : ℕ} → judged command n given room ≡ Ok l → Passed (request_refusals command n given room)
   unfolding judged
-  passed {l} e = has_passed (request_refusals command n given room) Unbuilt (Length (frame_length command n)) (Length l) apart e
+  passed {l} e = has_passed (request_refusals command n given room) Err (Ok (frame_length command n)) (Ok l) apart e
     where
-      apart : (r : Refusal) → Length l ≡ Unbuilt r → ⊥
+      apart : (r : Refusal) → Ok l ≡ Err r → ⊥
       apart r e = let z : ◌≡◌ {A = ℕ} 0 1 = cc in omega arith
 
   -- the length is the frame's
-  pub accepted-length : {l : ℕ} → judged command n given room ≡ Length l → l ≡ frame_length command n
+  pub accepted-length : {l : ℕ} → judged command n given room ≡ Ok l → l ≡ frame_length command n
   unfolding judged
   accepted-length e =
-      let whole : judged command n given room ≡ Length (frame_length command n) = passes (request_refusals command n given room) Unbuilt (Length (frame_length command n)) (passed e) in
+      let whole : judged command n given room ≡ Ok (frame_length command n) = passes (request_refusals command n given room) Err (Ok (frame_length command n)) (passed e) in
       cc
 
-  pub accepted_buildable : {l : ℕ} → judged command n given room ≡ Length l → Buildable command n given room
+  pub accepted_buildable : {l : ℕ} → judged command n given room ≡ Ok l → Buildable command n given room
   accepted_buildable e =
       let p = passed e in
       let chain = chain-test n (not-false chain_test p.1.0) in
@@ -118,4 +117,4 @@ module _ (code n : ℕ) (values : List ℕ) where
   unfolding buffer_after build_refusals judged
   after-by buffer =
       sym (decide-map (by_judgement (λ r. buffer) (λ l. frame_for code n values ++ drop l buffer))
-      (request_refusals (command_of code commands) n (length values) (length buffer)) Unbuilt (Length (frame_length (command_of code commands) n)))
+      (request_refusals (command_of code commands) n (length values) (length buffer)) Err (Ok (frame_length (command_of code commands) n)))

@@ -1,6 +1,6 @@
 -- Document 01: the frames that our host writes. Values are nearest monitor first; on the wire the farthest comes first.
 -- Assumes nothing.
-use Rattle.std.specs.Prelude.{not, ◌&&◌, List, [], ◌∷◌, ◌++◌, map, ℕ, ◌*◌, eqb, leb, ltb, length, drop, replicate}
+use Rattle.std.specs.Prelude.{not, ◌&&◌, List, [], ◌∷◌, ◌++◌, map, ℕ, ◌*◌, eqb, leb, ltb, length, drop, replicate, Result, Ok, Err}
 use Rattle.laws.specs.Rows.{rows}
 use Rattle.pec.specs.Words.{two_bytes, command_check, seal}
 use Rattle.wire.specs.Order.{write_data}
@@ -9,8 +9,7 @@ use Rattle.refusals.specs.Order.{Row, ◌gives◌, decide}
 use Rattle.records.specs.declared.commands.Command.{Command}
 use Rattle.records.specs.declared.commands.Command.TheVariants.{Reads, Writes, Bares, Unlisted}
 use Rattle.records.specs.Commands.{commands, command_of, is_listed, most_monitors, data_size, payload_size, frame_length}
-use Rattle.host.specs.declared.frames.Built.{Built}
-use Rattle.host.specs.declared.frames.Built.TheVariants.{Unbuilt, Length}
+use Rattle.refusals.specs.declared.Refusal.{Refusal}
 
 -- the bytes of a command and its check
 abbrev pub head_size : ℕ
@@ -48,15 +47,15 @@ request_refusals command n given room =
     ∷ []
 
 -- what such a request comes to: a refusal, or the frame's length
-unfoldable pub judged : Command → ℕ → ℕ → ℕ → Built
-judged command n given room = decide (request_refusals command n given room) Unbuilt (Length (frame_length command n))
+unfoldable pub judged : Command → ℕ → ℕ → ℕ → Result ℕ Refusal
+judged command n given room = decide (request_refusals command n given room) Err (Ok (frame_length command n))
 
 unfoldable pub build_refusals : ℕ → ℕ → List ℕ → ℕ → List Row
 build_refusals code n values room = request_refusals (command_of code commands) n (length values) room
 
 -- what comes of building: the frame at the start of the buffer, and its length; bytes past it stay. A refusal changes nothing
-unfoldable pub built : ℕ → ℕ → List ℕ → ℕ → Built
-built code n values room = decide (build_refusals code n values room) Unbuilt (Length (frame_length (command_of code commands) n))
+unfoldable pub built : ℕ → ℕ → List ℕ → ℕ → Result ℕ Refusal
+built code n values room = decide (build_refusals code n values room) Err (Ok (frame_length (command_of code commands) n))
 
 unfoldable pub buffer_after : ℕ → ℕ → List ℕ → List ℕ → List ℕ
 buffer_after code n values buffer =

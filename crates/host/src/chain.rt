@@ -6,8 +6,5 @@ ghost use Rattle.records.specs.Commands.{most_monitors};
 pub fn is_chain(n: usize) -> bool
     ensures { result ≡ (leb 1 n && leb n most_monitors) }
 {
-    if n < 1 {
-        return false;
-    }
-    n <= records::MOST_MONITORS
+    (1..=records::MOST_MONITORS).contains(&n)
 }

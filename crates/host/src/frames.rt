@@ -4,28 +4,18 @@ ghost use Rattle.laws.specs.Rows.{rows, row_at};
 ghost use Rattle.laying.specs.Placed.{placed};
 ghost use Rattle.pec.specs.Words.{two_bytes, command_check};
 ghost use Rattle.wire.specs.Order.{write_data};
-ghost use Rattle.records.specs.Commands.{most_monitors, seal_size, payload_size, frame_length};
+ghost use Rattle.records.specs.Commands.{most_monitors, seal_size, frame_length};
 ghost use Rattle.host.specs.Frames.{head_size, sealed, body, value_count, judged, built, buffer_after};
 
 use crate::chain::is_chain;
 use records::Command;
 use refusals::Refusal;
 
-// What comes of building a frame: its refusal, or its length.
-#[derive(Clone, Copy)]
-pub enum Built {
-    Unbuilt(Refusal),
-    Length(usize),
-}
-
 // The bytes of a command and its check.
 const HEAD_SIZE: usize = 4;
 
 // What a reply is clocked over.
 const FILLER: u8 = 0xff;
-
-// The most that is sent of it: the replies of as many monitors as a chain has.
-const MOST_FILLER: usize = records::PAYLOAD_SIZE * records::MOST_MONITORS;
 
 // The value bytes that a command wants.
 fn value_count(command: Command, n: usize) -> usize
@@ -45,23 +35,23 @@ fn value_count(command: Command, n: usize) -> usize
 
 // The refusals of a request, in their order, or the length of its frame: by the command and how many value bytes there are.
 #[tactic(auto, unfolding(crate::specs::Frames::judged, refusals::specs::Order::decide))]
-fn judge(command: Command, n: usize, given: usize, room: usize) -> Built
+fn judge(command: Command, n: usize, given: usize, room: usize) -> Result<usize, Refusal>
     ensures { result ≡ judged command n given room }
 {
     if !records::is_listed(command) {
-        return Built::Unbuilt(Refusal::CodeNotListed);
+        return Err(Refusal::CodeNotListed);
     }
     if !is_chain(n) {
-        return Built::Unbuilt(Refusal::PositionWrong);
+        return Err(Refusal::PositionWrong);
     }
     if given != value_count(command, n) {
-        return Built::Unbuilt(Refusal::CountWrong);
+        return Err(Refusal::CountWrong);
     }
     let length = records::frame_length(command, n);
     if room < length {
-        return Built::Unbuilt(Refusal::NoRoom);
+        return Err(Refusal::NoRoom);
     }
-    Built::Length(length)
+    Ok(length)
 }
 
 // The command and its check, at the buffer's start.
@@ -75,40 +65,23 @@ fn put_head(buffer: &mut [u8], code: u16)
     laying::put(buffer, 2, &check);
 }
 
-// Six bytes of a slice.
-fn six_of(six: &[u8]) -> [u8; 6]
-    requires { length six.now ≡ 6 }
-    ensures { result ≡ six.now }
-{
-    [six[0], six[1], six[2], six[3], six[4], six[5]]
-}
-
-// Two bytes of a slice.
-fn two_of(two: &[u8]) -> [u8; 2]
-    requires { length two.now ≡ 2 }
-    ensures { result ≡ two.now }
-{
-    [two[0], two[1]]
-}
-
 // A monitor's data bytes, six or two, and the seal over them with the counter 0.
 fn put_sealed(buffer: &mut [u8], at: usize, own: &[u8])
     requires { ((length own.now ≡ 6) ⊎ (length own.now ≡ 2)) × (at + (length own.now + seal_size) ≤ length buffer.old) }
     ensures { buffer.new ≡ placed at (sealed own.now) buffer.old }
 {
-    if own.len() == 6 {
-        let six = six_of(own);
-        let payload = check_words::sealed(&six, 0);
+    if let Ok(six) = <&[u8; 6]>::try_from(own) {
+        let payload = check_words::sealed(six, 0);
         laying::put(buffer, at, &payload);
-    } else {
-        let two = two_of(own);
-        let payload = check_words::sealed_two(&two, 0);
+    } else if let Ok(two) = <&[u8; 2]>::try_from(own) {
+        let payload = check_words::sealed_two(two, 0);
         laying::put(buffer, at, &payload);
     }
 }
 
 // The payload at place i of a write that has so many data bytes for each monitor. The values are nearest monitor first; the farthest monitor's
 // payload is sent first.
+// The size, n and the values travel together through this function and the next alone, so they are no struct.
 fn put_payload(buffer: &mut [u8], size: usize, n: usize, values: &[u8], i: usize)
     requires { (i < n) × (n ≤ most_monitors) × ((size ≡ 6) ⊎ (size ≡ 2)) × (length values.now ≡ size * n) × (head_size + (size + seal_size) * n ≤ length buffer.old) }
     ensures { buffer.new ≡ placed (head_size + i * (size + seal_size)) (sealed (row_at size (n - (i + 1)) values.now)) buffer.old }
@@ -124,20 +97,17 @@ fn put_payloads(buffer: &mut [u8], size: usize, n: usize, values: &[u8])
     requires { (n ≤ most_monitors) × ((size ≡ 6) ⊎ (size ≡ 2)) × (length values.now ≡ size * n) × (head_size + (size + seal_size) * n ≤ length buffer.old) }
     ensures { buffer.new ≡ placed head_size (write_data (map sealed (rows size n values.now))) buffer.old }
 {
-    let mut i = 0;
-    while i < n {
+    for i in 0..n {
         put_payload(buffer, size, n, values, i);
-        i += 1;
     }
 }
 
 // What a reply is clocked over.
 fn put_filler(buffer: &mut [u8], size: usize)
-    requires { (size ≤ payload_size * most_monitors) × (head_size + size ≤ length buffer.old) }
+    requires { head_size + size ≤ length buffer.old }
     ensures { buffer.new ≡ placed head_size (replicate size 0xFF) buffer.old }
 {
-    let filler = [FILLER; MOST_FILLER];
-    laying::put(buffer, HEAD_SIZE, &filler[..size]);
+    buffer[HEAD_SIZE..HEAD_SIZE + size].fill(FILLER);
 }
 
 // What follows the command and its check.
@@ -157,16 +127,13 @@ fn put_body(buffer: &mut [u8], command: Command, n: usize, values: &[u8])
 }
 
 // Builds the frame for a code, n monitors and values, at the start of a buffer. A refusal changes nothing.
-pub fn build(code: u16, n: usize, values: &[u8], buffer: &mut [u8]) -> Built
+pub fn build(code: u16, n: usize, values: &[u8], buffer: &mut [u8]) -> Result<usize, Refusal>
     ensures value { result ≡ built code n values.now (length buffer.old) }
     ensures buffer_after { buffer.new ≡ buffer_after code n values.now buffer.old }
 {
     let command = records::command_of(code);
-    let built = judge(command, n, values.len(), buffer.len());
-    let Built::Length(_) = built else {
-        return built;
-    };
+    let length = judge(command, n, values.len(), buffer.len())?;
     put_head(buffer, code);
     put_body(buffer, command, n, values);
-    built
+    Ok(length)
 }

@@ -4,4 +4,4 @@
 mod chain;
 mod frames;
 
-pub use frames::{Built, build};
+pub use frames::build;

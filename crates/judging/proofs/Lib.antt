@@ -1,7 +1,9 @@
 pub mod Lent
+pub mod Lies
 pub mod Soundness
 pub mod Whole
 pub mod Judging
 pub mod Keeps
 pub mod Changed
 pub mod Place
+pub mod Chunks

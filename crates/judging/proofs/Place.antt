@@ -16,26 +16,24 @@ use Rattle.refusals.specs.declared.Refusal.TheVariants.{TableNotSound, PositionW
 use Rattle.refusals.specs.Order.{decide, Passed}
 use Rattle.refusals.proofs.Deciding.{holds_here, holds_not, none_left, decide-map, has_passed}
 use Rattle.records.specs.Record.{record_size}
-use Rattle.records.specs.Commands.{most_monitors}
-use Rattle.judging.specs.declared.places.Placed.{Placed}
-use Rattle.judging.specs.declared.places.Placed.TheVariants.{Nowhere, At}
 use Rattle.judging.specs.Table.{monitors, sound}
 use Rattle.judging.specs.Places.{place_refusals, placed}
 use Rattle.judging.proofs.Soundness.{both, is_sound}
 use Rattle.judging.proofs.Keeps.{Keeps}
 use Rattle.refusals.proofs.Decided.{is_accepted}
+use Rattle.std.specs.Prelude.{Result, Ok, Err}
 
 -- a place is no refusal
-pub at-apart : (k : ℕ) (r : Refusal) → At k ≡ Nowhere r → ⊥
+pub at-apart : (k : ℕ) (r : Refusal) → ◌≡◌ {A = Result ℕ Refusal} (Ok k) (Err r) → ⊥
 at-apart k r e = let z : ◌≡◌ {A = ℕ} 0 1 = cc in omega arith
 
-pub at_same : {j k : ℕ} → At j ≡ At k → j ≡ k
+pub at_same : {j k : ℕ} → ◌≡◌ {A = Result ℕ Refusal} (Ok j) (Ok k) → j ≡ k
 at_same e = cc
 
 -- by the place: its refusal, or what is accepted there
-abbrev pub by_place : {A : Type 0} → (Refusal → A) → A → Placed → A
-by_place refused accepted (Nowhere r) = refused r
-by_place refused accepted (At k) = accepted
+abbrev pub by_place : {A : Type 0} → (Refusal → A) → A → Result ℕ Refusal → A
+by_place refused accepted (Err r) = refused r
+by_place refused accepted (Ok k) = accepted
 
 module _ (table : List ℕ) (position : ℕ) where
   pub record Place : Type 0 where
@@ -46,44 +44,44 @@ module _ (table : List ℕ) (position : ℕ) where
   -- ---- refusal by refusal
 
   -- what the second says
-  abbrev pub of_position : Placed
-  of_position = decide (drop 1 (place_refusals table position)) Nowhere (At (position - 1))
+  abbrev pub of_position : Result ℕ Refusal
+  of_position = decide (drop 1 (place_refusals table position)) Err (Ok (position - 1))
 
-  pub stop_1 : sound table ≡ false → placed table position ≡ Nowhere TableNotSound
+  pub stop_1 : sound table ≡ false → placed table position ≡ Err TableNotSound
   unfolding placed place_refusals
-  stop_1 e = holds_here _ _ Nowhere _ (ap not e)
+  stop_1 e = holds_here _ _ Err _ (ap not e)
 
   pub pass_1 : sound table ≡ true → placed table position ≡ of_position
   unfolding placed place_refusals
-  pass_1 e = holds_not _ _ Nowhere _ (ap not e)
+  pass_1 e = holds_not _ _ Err _ (ap not e)
 
-  stop_2 : leb 1 position && leb position (monitors table) ≡ false → of_position ≡ Nowhere PositionWrong
+  stop_2 : leb 1 position && leb position (monitors table) ≡ false → of_position ≡ Err PositionWrong
   unfolding place_refusals
-  stop_2 e = holds_here _ _ Nowhere _ (ap not e)
+  stop_2 e = holds_here _ _ Err _ (ap not e)
 
   -- a position is wrong at either end
-  pub stop_2_low : position < 1 → of_position ≡ Nowhere PositionWrong
+  pub stop_2_low : position < 1 → of_position ≡ Err PositionWrong
   stop_2_low h = stop_2 (ap (λ (b : Bool). b && leb position (monitors table)) (lt-leb 1 position h))
 
-  pub stop_2_high : monitors table < position → of_position ≡ Nowhere PositionWrong
+  pub stop_2_high : monitors table < position → of_position ≡ Err PositionWrong
   stop_2_high h = stop_2 (ap (λ (b : Bool). leb 1 position && b) (lt-leb position (monitors table) h) ∙ and-false (leb 1 position))
 
-  pub pass_2 : 1 ≤ position → position ≤ monitors table → of_position ≡ At (position - 1)
+  pub pass_2 : 1 ≤ position → position ≤ monitors table → of_position ≡ Ok (position - 1)
   unfolding place_refusals
   pass_2 l h =
-      holds_not _ _ Nowhere _ (ap₂ (λ (a b : Bool). not (a && b)) (le-leb 1 position l) (le-leb position (monitors table) h))
-      ∙ none_left Nowhere (At (position - 1))
+      holds_not _ _ Err _ (ap₂ (λ (a b : Bool). not (a && b)) (le-leb 1 position l) (le-leb position (monitors table) h))
+      ∙ none_left Err (Ok (position - 1))
 
   -- ---- what comes of a question that begins with these two
 
   pub as_placed : {A : Type 0} (refused : Refusal → A) (accepted : A)
       → decide (place_refusals table position) refused accepted ≡ by_place refused accepted (placed table position)
   unfolding placed
-  as_placed refused accepted = sym (decide-map (by_place refused accepted) (place_refusals table position) Nowhere (At (position - 1)))
+  as_placed refused accepted = sym (decide-map (by_place refused accepted) (place_refusals table position) Err (Ok (position - 1)))
 
   -- ---- there and back
 
-  pub is_placed : Place → placed table position ≡ At (position - 1)
+  pub is_placed : Place → placed table position ≡ Ok (position - 1)
   is_placed p = pass_1 p.its-sound ∙ pass_2 p.first p.last
 
   pub place : Passed (place_refusals table position) → Place
@@ -92,33 +90,27 @@ module _ (table : List ℕ) (position : ℕ) where
       let ends = both (leb 1 position) (leb position (monitors table)) (not-false _ none.1.0) in
       record { its-sound = not-false (sound table) none.0; first = leb-true 1 position ends.0; last = leb-true position (monitors table) ends.1 }
 
-  pub place_passed : {k : ℕ} → placed table position ≡ At k → Passed (place_refusals table position)
+  pub place_passed : {k : ℕ} → placed table position ≡ Ok k → Passed (place_refusals table position)
   unfolding placed
-  place_passed {k} e = has_passed (place_refusals table position) Nowhere (At (position - 1)) (At k) (at-apart k) e
+  place_passed {k} e = has_passed (place_refusals table position) Err (Ok (position - 1)) (Ok k) (at-apart k) e
 
-  pub at_place : {k : ℕ} → placed table position ≡ At k → Place
+  pub at_place : {k : ℕ} → placed table position ≡ Ok k → Place
   at_place e = place (place_passed e)
 
-  pub its_index : {k : ℕ} → placed table position ≡ At k → k ≡ position - 1
+  pub its_index : {k : ℕ} → placed table position ≡ Ok k → k ≡ position - 1
   unfolding placed
-  its_index {k} e = sym (at_same (is_accepted (place_refusals table position) Nowhere (At (position - 1)) (At k) (at-apart k) e))
+  its_index {k} e = sym (at_same (is_accepted (place_refusals table position) Err (Ok (position - 1)) (Ok k) (at-apart k) e))
 
   -- ---- what it gives
 
   pub there : Place → position - 1 < monitors table
   there p = omega (arith, p.first, p.last)
 
-  pub few : Place → position - 1 < most_monitors
-  few p = omega (arith, there p, (is_sound table p.its-sound).few)
-
   pub fits : Place → (position - 1) * record_size + record_size ≤ length table
   fits p = row_fits record_size (there p) (omega (arith, (is_sound table p.its-sound).whole))
 
   -- of the record as the code counts it, from 0
-  pub at-few : {k : ℕ} → placed table position ≡ At k → k < most_monitors
-  at-few e = subst⁻¹ (λ (j : ℕ). j < most_monitors) (its_index e) (few (at_place e))
-
-  pub at-fits : {k : ℕ} → placed table position ≡ At k → k * record_size + record_size ≤ length table
+  pub at-fits : {k : ℕ} → placed table position ≡ Ok k → k * record_size + record_size ≤ length table
   at-fits e = subst⁻¹ (λ (j : ℕ). j * record_size + record_size ≤ length table) (its_index e) (fits (at_place e))
 
 -- it stays in a table that keeps its monitors

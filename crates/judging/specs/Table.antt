@@ -1,6 +1,7 @@
 -- Document 01, "The table": records of monitors end to end, nearest monitor first.
 -- Assumes nothing.
-use Rattle.std.specs.Prelude.{Bool, ◌&&◌, List, ◌++◌, ◌⊎◌, ℕ, ◌+◌, ◌*◌, ◌/◌, ◌≤◌, ◌<◌, eqb, leb, length, take, drop}
+use Rattle.std.specs.Prelude.{Bool, ◌&&◌, List, ◌++◌, ◌⊎◌, ℕ, ◌+◌, ◌*◌, ◌/◌, ◌≤◌, ◌<◌, eqb, leb, length, take, drop, cond, Option, Some, None}
+use Rattle.std.specs.declared.ops.Range.{Range}
 use Rattle.laws.specs.Counts.{all}
 use Rattle.laws.specs.Rows.{rows, row_at}
 use Rattle.records.specs.declared.record.Part.{Part}
@@ -30,3 +31,12 @@ changed_at k f table = take (k * record_size) table ++ f (row_at record_size k t
 -- byte i of the table is none of a part of the record at k
 abbrev pub Beside : Part → ℕ → ℕ → Type 0
 Beside p k i = (i < k * record_size + p.at) ⊎ (k * record_size + p.at + p.size ≤ i)
+
+-- where the record at k lies in a table, from its first byte up to the one behind its last, and none where it does not lie whole in it
+abbrev pub place_at : ℕ → List ℕ → Option (ℕ × ℕ)
+place_at k table = cond (leb (k * record_size + record_size) (length table)) (Some (k * record_size, k * record_size + record_size)) None
+
+-- where a range begins and where it ends
+abbrev pub ends : Option (Range ℕ) → Option (ℕ × ℕ)
+ends None = None
+ends (Some lies) = Some (lies.start, lies.end)

@@ -7,11 +7,11 @@ ghost use Rattle.judging.specs.Heads.{head_judged};
 use records::{Command, MOST_MONITORS};
 use refusals::Refusal;
 
-// What the refusals say of a frame: the first that holds, or the command and the number of monitors.
+// What a frame is that nothing refuses: its command, and the number of monitors that it goes to.
 #[derive(Clone, Copy)]
-pub enum Judged {
-    Bad(Refusal),
-    Good(Command, usize),
+pub struct Judged {
+    pub command: Command,
+    pub monitors: usize,
 }
 
 // The code of a frame; of one under two bytes as though zeros followed.
@@ -42,28 +42,31 @@ fn head_of(frame: &[u8]) -> &[u8]
 
 // What the refusals say of a frame that begins with these bytes, where so many came in all, for a chain of n monitors: n is 0 where
 // the table is not sound.
-pub fn judge_head(frame: &[u8], bytes: usize, n: usize) -> Judged
+pub fn judge_head(frame: &[u8], bytes: usize, n: usize) -> Result<Judged, Refusal>
     ensures { result ≡ head_judged frame.now bytes n }
 {
     if n < 1 {
-        return Judged::Bad(Refusal::TableNotSound);
+        return Err(Refusal::TableNotSound);
     }
     if MOST_MONITORS < n {
-        return Judged::Bad(Refusal::TableNotSound);
+        return Err(Refusal::TableNotSound);
     }
     if bytes < 4 {
-        return Judged::Bad(Refusal::FrameShort);
+        return Err(Refusal::FrameShort);
     }
     if !check_words::command_right(head_of(frame)) {
-        return Judged::Bad(Refusal::CommandWrong);
+        return Err(Refusal::CommandWrong);
     }
     // Not by `command_in`: the slice would go on in memory, and every frame waits for it to be copied there.
     let command = records::command_of(code_in(frame));
     if !records::is_listed(command) {
-        return Judged::Bad(Refusal::CodeNotListed);
+        return Err(Refusal::CodeNotListed);
     }
     if bytes != records::frame_length(command, n) {
-        return Judged::Bad(Refusal::LengthWrong);
+        return Err(Refusal::LengthWrong);
     }
-    Judged::Good(command, n)
+    Ok(Judged {
+        command,
+        monitors: n,
+    })
 }

@@ -6,5 +6,5 @@ mod places;
 mod tables;
 
 pub use heads::{Judged, command_in, judge_head};
-pub use places::{Placed, place_of};
-pub use tables::{sound, sound_count, whole_table};
+pub use places::place_of;
+pub use tables::{record_at, sound, sound_count, whole_table};

@@ -3,14 +3,14 @@
 -- Assumes nothing.
 use mathlib.Core.Path.{◌≡◌, sym, ap, ap₂, ◌∙◌}
 use mathlib.Core.Bool.{Bool, cond}
-use mathlib.Core.List.{List, [], ◌∷◌, ◌++◌, append_assoc, append-nil}
-use Prim.Native.Nat.{ℕ, suc, ◌+◌, ◌≤◌, ◌<◌}
+use mathlib.Core.List.{List, [], ◌++◌, append_assoc, append-nil}
+use Prim.Native.Nat.{ℕ, ◌+◌, ◌-◌, ◌≤◌, ◌<◌}
 use native.Mathlib.Nat.{add-zero, zero-add}
-use native.Mathlib.Numerals.{add-one}
 use native.Mathlib.Omega.{arith}
-use lib.ListN.{length, get_or, set, take, drop, length-append, length-drop, take-append-drop}
+use lib.ListN.{length, take, drop, length-append, length-drop, take-append-drop}
 use borrow.Author.Tests.{le-leb, lt-leb}
-use lib.Seq.{length-take-le, take-suc, take_at, drop_at, drop-drop, set_split, append_snoc}
+use borrow.Rule.Slice.PartMut.{put_mid, Post-is}
+use lib.Seq.{length-take-le, take_at, drop_at, drop-drop}
 use Rattle.laying.specs.Placed.{placed, fits}
 
 pub placed-none : (at : ℕ) (buffer : List ℕ) → placed at [] buffer ≡ buffer
@@ -72,27 +72,11 @@ laid_behind at end xs ys buffer e h =
     let l : length (placed at xs buffer) ≡ length buffer = length-placed at end xs buffer e fits in
     ap (tried end ys) (laid at xs buffer (omega arith)) ∙ laid end ys (placed at xs buffer) (omega arith) ∙ placed_more at end xs buffer e fits ys
 
--- ---- by stores
+-- ---- by a part that was lent
 
--- one store puts one byte
-placed_one : (i v : ℕ) (buffer : List ℕ) → i < length buffer → set buffer i v ≡ placed i (v ∷ []) buffer
+-- a part that holds the bytes when it comes back
+pub part_back : (at : ℕ) (bytes buffer : List ℕ) {after : List ℕ} → after ≡ bytes → put_mid at (at + length bytes - at) buffer after ≡ placed at bytes buffer
 unfolding placed
-placed_one i v buffer h =
-    set_split buffer i v h
-    ∙ sym (append_snoc (take i buffer) v (drop (suc i) buffer))
-    ∙ ap (λ (n : ℕ). take i buffer ++ v ∷ [] ++ drop n buffer) (sym (add-one i))
-
--- one store behind what is put
-pub placed-next : (at end : ℕ) (xs buffer : List ℕ) (v : ℕ) → at + length xs ≡ end → end < length buffer
-    → set (placed at xs buffer) end v ≡ placed at (xs ++ v ∷ []) buffer
-placed-next at end xs buffer v e h =
-    let fits : end ≤ length buffer = omega arith in
-    let l : length (placed at xs buffer) ≡ length buffer = length-placed at end xs buffer e fits in
-    placed_one end v (placed at xs buffer) (omega arith) ∙ placed_more at end xs buffer e fits (v ∷ [])
-
--- a list is put byte by byte, after i turns of a loop
-pub copied_more : (at i : ℕ) (bytes buffer : List ℕ) → i < length bytes → at + i < length buffer
-    → set (placed at (take i bytes) buffer) (at + i) (get_or bytes i 0) ≡ placed at (take (i + 1) bytes) buffer
-copied_more at i bytes buffer hi h =
-    placed-next at (at + i) (take i bytes) buffer (get_or bytes i 0) (ap (λ (n : ℕ). at + n) (length-take-le i bytes (omega arith))) h
-    ∙ ap (λ (l : List ℕ). placed at l buffer) (sym (ap (λ (n : ℕ). take n bytes) (add-one i) ∙ take-suc bytes i 0 hi))
+part_back at bytes buffer e =
+    ap₂ (λ (held rest : List ℕ). take at buffer ++ (held ++ rest)) e (Post-is at (at + length bytes) buffer (omega arith))
+    ∙ sym (append_assoc (take at buffer) bytes (drop (at + length bytes) buffer))

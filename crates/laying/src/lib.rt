@@ -14,9 +14,5 @@ pub fn put(buffer: &mut [u8], at: usize, bytes: &[u8])
     if buffer.len() - at < bytes.len() {
         return;
     }
-    let mut i = 0;
-    while i < bytes.len() {
-        buffer[at + i] = bytes[i];
-        i += 1;
-    }
+    buffer[at..at + bytes.len()].copy_from_slice(bytes);
 }

@@ -1,15 +1,31 @@
 // The frames that are tried.
-use crate::bench::{Bytes, ROOM, lay};
+use std::alloc::{AllocError, Global};
 
-// A frame: of what is given the code and its check. A write has the bytes of the farthest monitor first, eight each, and a CLRCMFLAG, of
-// kind 4, four. What else follows the command is FF.
-pub(crate) fn frame(given: u64, kind: u64, first: u64, second: u64) -> Bytes {
-    let bare = lay([0xff; ROOM], 0, 4, given >> 32);
-    if kind == 2 {
-        return lay(lay(bare, 4, 8, second), 12, 8, first);
+// What follows the command.
+#[derive(Clone, Copy)]
+pub(crate) enum Body {
+    // FF, so that the whole frame has so many bytes. Of a shorter one the command is cut.
+    Ones(usize),
+    // What the first and the second monitor are sent: of a write eight bytes, of a CLRCMFLAG four.
+    Eights([u64; 2]),
+    Fours([u32; 2]),
+}
+
+// A command with its check, and what follows: the bytes of the farthest monitor first.
+pub(crate) fn frame(alloc: Global, command: u32, body: Body) -> Result<Vec<u8>, AllocError> {
+    let mut bytes = Vec::from_slice(alloc, &command.to_be_bytes())?;
+    match body {
+        Body::Ones(size) => bytes.resize(size, 0xff)?,
+        Body::Eights(eights) => {
+            for eight in eights.into_iter().rev() {
+                bytes.extend_from_slice(&eight.to_be_bytes())?;
+            }
+        }
+        Body::Fours(fours) => {
+            for four in fours.into_iter().rev() {
+                bytes.extend_from_slice(&four.to_be_bytes())?;
+            }
+        }
     }
-    if kind == 4 {
-        return lay(lay(bare, 4, 4, second), 8, 4, first);
-    }
-    bare
+    Ok(bytes)
 }

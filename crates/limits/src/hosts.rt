@@ -1,86 +1,368 @@
 // The frames that our host builds, at their limits.
-use crate::words::{BUILDS, LENGTH, REFUSED, words};
-use host::Built;
+use crate::bench::UNTOUCHED;
+use crate::case::{Case, as_wanted};
+use crate::say::Refused;
+use refusals::Refusal;
+use std::alloc::Global;
+use std::io;
 
-// WRCFGB, RDCFGB, MUTE, a code that no command has, WRPWMA, RDPWMB, CLRCMFLAG, WRCMCFG, RDCMFLAG, CMEN and CMHB, which is not for a host.
-const CODES: [u16; 11] = [
-    0x0024, 0x0026, 0x0028, 0x0003, 0x0020, 0x0023, 0x005e, 0x0058, 0x005f, 0x0041, 0x0043,
-];
-
-// Which code; monitors; bytes of values; room; a refusal's number, or the length of the frame.
-const ROWS: [u64; 38] = [
-    00_01_006_012_0_012,
-    00_02_012_020_0_020,
-    00_32_192_260_0_260,
-    00_00_000_300_7_000,
-    00_33_198_300_7_000,
-    00_02_012_019_6_000,
-    00_02_011_020_8_000,
-    00_02_011_019_8_000,
-    00_33_011_019_7_000,
-    03_33_011_019_4_000,
-    03_02_000_300_4_000,
-    01_32_000_260_0_260,
-    01_32_000_259_6_000,
-    01_02_012_020_8_000,
-    02_32_000_004_0_004,
-    02_32_000_003_6_000,
-    04_32_192_260_0_260,
-    04_32_191_260_8_000,
-    05_32_000_260_0_260,
-    05_32_000_259_6_000,
-    // CLRCMFLAG has two bytes of values for each
-    06_01_002_008_0_008,
-    06_02_004_012_0_012,
-    06_32_064_132_0_132,
-    06_00_000_300_7_000,
-    06_33_066_300_7_000,
-    06_02_004_011_6_000,
-    06_02_003_012_8_000,
-    06_02_005_012_8_000,
-    06_02_012_020_8_000,
-    06_32_063_132_8_000,
-    07_32_192_260_0_260,
-    07_32_064_132_8_000,
-    08_32_000_260_0_260,
-    08_32_064_132_8_000,
-    09_32_000_004_0_004,
-    09_02_004_012_8_000,
-    10_02_000_300_4_000,
-    10_02_004_012_4_000,
-];
-
-// Says what came: a refusal's number, or else the length, by which the two numbers of a row are one.
-fn told(came: Built) -> u64 {
-    match came {
-        Built::Unbuilt(refusal) => {
-            let number = refusals::number_of(refusal) as u64;
-            words(REFUSED, number, 0, 0, 0);
-            number * 1000
-        }
-        Built::Length(length) => {
-            words(LENGTH, length as u64, 0, 0, 0);
-            length as u64
-        }
-    }
+#[derive(Clone, Copy)]
+pub(crate) struct Command {
+    name: &'static str,
+    code: u16,
 }
 
-pub(crate) fn build(i: usize) -> bool {
-    let row = ROWS[i % 38];
-    let which = row / 1_000_000_000_000 % 11;
-    let n = row / 10_000_000_000 % 100;
-    let values = row / 10_000_000 % 1000;
-    let room = row / 10_000 % 1000;
-    let zeros = [0u8; 1000];
-    let mut buffer = [0xeeu8; 1000];
-    let v = values as usize;
-    let r = room as usize;
-    let came = host::build(
-        CODES[which as usize],
-        n as usize,
-        &zeros[0..v],
-        &mut buffer[0..r],
-    );
-    words(BUILDS + which, n, values, room, 0);
-    told(came) == row % 10_000
+const WRCFGB: Command = Command {
+    name: "WRCFGB",
+    code: 0x0024,
+};
+
+const RDCFGB: Command = Command {
+    name: "RDCFGB",
+    code: 0x0026,
+};
+
+const MUTE: Command = Command {
+    name: "MUTE",
+    code: 0x0028,
+};
+
+// A code that no command has.
+const UNLISTED: Command = Command {
+    name: "0003",
+    code: 0x0003,
+};
+
+const WRPWMA: Command = Command {
+    name: "WRPWMA",
+    code: 0x0020,
+};
+
+const RDPWMB: Command = Command {
+    name: "RDPWMB",
+    code: 0x0023,
+};
+
+const CLRCMFLAG: Command = Command {
+    name: "CLRCMFLAG",
+    code: 0x005e,
+};
+
+const WRCMCFG: Command = Command {
+    name: "WRCMCFG",
+    code: 0x0058,
+};
+
+const RDCMFLAG: Command = Command {
+    name: "RDCMFLAG",
+    code: 0x005f,
+};
+
+const CMEN: Command = Command {
+    name: "CMEN",
+    code: 0x0041,
+};
+
+// This one is not for a host.
+const CMHB: Command = Command {
+    name: "0043",
+    code: 0x0043,
+};
+
+// A frame for so many monitors, of so many bytes of values, in so much room; expected is its length.
+#[derive(Clone, Copy)]
+pub(crate) struct Build {
+    command: Command,
+    monitors: usize,
+    values: usize,
+    room: usize,
+    outcome: Result<usize, Refusal>,
+}
+
+pub(crate) static CASES: [Build; 38] = [
+    Build {
+        command: WRCFGB,
+        monitors: 1,
+        values: 6,
+        room: 12,
+        outcome: Ok(12),
+    },
+    Build {
+        command: WRCFGB,
+        monitors: 2,
+        values: 12,
+        room: 20,
+        outcome: Ok(20),
+    },
+    Build {
+        command: WRCFGB,
+        monitors: 32,
+        values: 192,
+        room: 260,
+        outcome: Ok(260),
+    },
+    Build {
+        command: WRCFGB,
+        monitors: 0,
+        values: 0,
+        room: 300,
+        outcome: Err(Refusal::PositionWrong),
+    },
+    Build {
+        command: WRCFGB,
+        monitors: 33,
+        values: 198,
+        room: 300,
+        outcome: Err(Refusal::PositionWrong),
+    },
+    Build {
+        command: WRCFGB,
+        monitors: 2,
+        values: 12,
+        room: 19,
+        outcome: Err(Refusal::NoRoom),
+    },
+    Build {
+        command: WRCFGB,
+        monitors: 2,
+        values: 11,
+        room: 20,
+        outcome: Err(Refusal::CountWrong),
+    },
+    Build {
+        command: WRCFGB,
+        monitors: 2,
+        values: 11,
+        room: 19,
+        outcome: Err(Refusal::CountWrong),
+    },
+    Build {
+        command: WRCFGB,
+        monitors: 33,
+        values: 11,
+        room: 19,
+        outcome: Err(Refusal::PositionWrong),
+    },
+    Build {
+        command: UNLISTED,
+        monitors: 33,
+        values: 11,
+        room: 19,
+        outcome: Err(Refusal::CodeNotListed),
+    },
+    Build {
+        command: UNLISTED,
+        monitors: 2,
+        values: 0,
+        room: 300,
+        outcome: Err(Refusal::CodeNotListed),
+    },
+    Build {
+        command: RDCFGB,
+        monitors: 32,
+        values: 0,
+        room: 260,
+        outcome: Ok(260),
+    },
+    Build {
+        command: RDCFGB,
+        monitors: 32,
+        values: 0,
+        room: 259,
+        outcome: Err(Refusal::NoRoom),
+    },
+    Build {
+        command: RDCFGB,
+        monitors: 2,
+        values: 12,
+        room: 20,
+        outcome: Err(Refusal::CountWrong),
+    },
+    Build {
+        command: MUTE,
+        monitors: 32,
+        values: 0,
+        room: 4,
+        outcome: Ok(4),
+    },
+    Build {
+        command: MUTE,
+        monitors: 32,
+        values: 0,
+        room: 3,
+        outcome: Err(Refusal::NoRoom),
+    },
+    Build {
+        command: WRPWMA,
+        monitors: 32,
+        values: 192,
+        room: 260,
+        outcome: Ok(260),
+    },
+    Build {
+        command: WRPWMA,
+        monitors: 32,
+        values: 191,
+        room: 260,
+        outcome: Err(Refusal::CountWrong),
+    },
+    Build {
+        command: RDPWMB,
+        monitors: 32,
+        values: 0,
+        room: 260,
+        outcome: Ok(260),
+    },
+    Build {
+        command: RDPWMB,
+        monitors: 32,
+        values: 0,
+        room: 259,
+        outcome: Err(Refusal::NoRoom),
+    },
+    // CLRCMFLAG has two bytes of values for each
+    Build {
+        command: CLRCMFLAG,
+        monitors: 1,
+        values: 2,
+        room: 8,
+        outcome: Ok(8),
+    },
+    Build {
+        command: CLRCMFLAG,
+        monitors: 2,
+        values: 4,
+        room: 12,
+        outcome: Ok(12),
+    },
+    Build {
+        command: CLRCMFLAG,
+        monitors: 32,
+        values: 64,
+        room: 132,
+        outcome: Ok(132),
+    },
+    Build {
+        command: CLRCMFLAG,
+        monitors: 0,
+        values: 0,
+        room: 300,
+        outcome: Err(Refusal::PositionWrong),
+    },
+    Build {
+        command: CLRCMFLAG,
+        monitors: 33,
+        values: 66,
+        room: 300,
+        outcome: Err(Refusal::PositionWrong),
+    },
+    Build {
+        command: CLRCMFLAG,
+        monitors: 2,
+        values: 4,
+        room: 11,
+        outcome: Err(Refusal::NoRoom),
+    },
+    Build {
+        command: CLRCMFLAG,
+        monitors: 2,
+        values: 3,
+        room: 12,
+        outcome: Err(Refusal::CountWrong),
+    },
+    Build {
+        command: CLRCMFLAG,
+        monitors: 2,
+        values: 5,
+        room: 12,
+        outcome: Err(Refusal::CountWrong),
+    },
+    Build {
+        command: CLRCMFLAG,
+        monitors: 2,
+        values: 12,
+        room: 20,
+        outcome: Err(Refusal::CountWrong),
+    },
+    Build {
+        command: CLRCMFLAG,
+        monitors: 32,
+        values: 63,
+        room: 132,
+        outcome: Err(Refusal::CountWrong),
+    },
+    Build {
+        command: WRCMCFG,
+        monitors: 32,
+        values: 192,
+        room: 260,
+        outcome: Ok(260),
+    },
+    Build {
+        command: WRCMCFG,
+        monitors: 32,
+        values: 64,
+        room: 132,
+        outcome: Err(Refusal::CountWrong),
+    },
+    Build {
+        command: RDCMFLAG,
+        monitors: 32,
+        values: 0,
+        room: 260,
+        outcome: Ok(260),
+    },
+    Build {
+        command: RDCMFLAG,
+        monitors: 32,
+        values: 64,
+        room: 132,
+        outcome: Err(Refusal::CountWrong),
+    },
+    Build {
+        command: CMEN,
+        monitors: 32,
+        values: 0,
+        room: 4,
+        outcome: Ok(4),
+    },
+    Build {
+        command: CMEN,
+        monitors: 2,
+        values: 4,
+        room: 12,
+        outcome: Err(Refusal::CountWrong),
+    },
+    Build {
+        command: CMHB,
+        monitors: 2,
+        values: 0,
+        room: 300,
+        outcome: Err(Refusal::CodeNotListed),
+    },
+    Build {
+        command: CMHB,
+        monitors: 2,
+        values: 4,
+        room: 12,
+        outcome: Err(Refusal::CodeNotListed),
+    },
+];
+
+impl Case for Build {
+    fn tried<R: Print + Alloc<A = Global>>(&self, rt: &R) -> io::Result<bool> {
+        let Command { name, code } = self.command;
+        let values = vec![in rt.alloc(); 0; self.values]?;
+        let mut buffer = vec![in rt.alloc(); UNTOUCHED; self.room]?;
+        let came = host::build(code, self.monitors, &values, &mut buffer);
+        print!(rt;
+            "{name}, monitors {}, value bytes {}, room {}",
+            self.monitors, self.values, self.room
+        )?;
+        match came {
+            Err(refusal) => print!(rt; "{}", Refused(refusal))?,
+            Ok(length) => print!(rt; ": length {length}")?,
+        }
+        Ok(as_wanted(came, self.outcome))
+    }
 }

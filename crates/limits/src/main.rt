@@ -3,117 +3,201 @@
 // to the same it is not as expected.
 #![tactic(auto)]
 
+mod beat_refusals;
 mod beats;
+mod begun;
 mod bench;
+mod bursts;
+mod case;
 mod cases;
+mod choices;
+mod clearing;
+mod codes;
 mod commands;
+mod comparing;
+mod counters;
+mod damage;
 mod deeds;
+mod engines;
 mod frames;
+mod held;
 mod hosts;
+mod loading;
 mod longest;
-mod notes;
+mod lpcm;
+mod masked;
+mod measured;
+mod operations;
 mod order;
 mod outputs;
-mod replies;
+mod packs;
+mod payloads;
+mod questions;
 mod say;
-mod sleeping;
+mod snapshots;
 mod soundness;
 mod starts;
+mod storing;
+mod tables;
 mod tally;
+mod turns;
+mod verdicts;
 mod volts;
-mod words;
+mod wholes;
 
-use notes::note;
-use say::text;
+use case::Case;
+use std::alloc::Global;
+use std::io;
 use tally::Tally;
-use words::words;
 
-// The kinds of case.
-const COMMAND: u8 = 0;
-
-const ORDER: u8 = 1;
-
-const SOUND: u8 = 2;
-
-const LONGEST: u8 = 3;
-
-const BUILD: u8 = 4;
-
-const VOLTS: u8 = 5;
-
-const PACK: u8 = 6;
-
-const OUTPUTS: u8 = 7;
-
-const BEAT_REFUSAL: u8 = 8;
-
-const BEAT: u8 = 9;
-
-const CHECK: u8 = 10;
-
-const PORTS: u8 = 11;
-
-fn tried(kind: u8, i: usize) -> bool {
-    match kind {
-        COMMAND => commands::command(i),
-        ORDER => order::refusal(i),
-        SOUND => soundness::sound(i),
-        LONGEST => longest::write(i),
-        BUILD => hosts::build(i),
-        VOLTS => volts::read(i),
-        PACK => volts::summary(i),
-        OUTPUTS => outputs::asked(i),
-        BEAT_REFUSAL => beats::refusal(i),
-        BEAT => beats::beat(i),
-        CHECK => replies::check(i),
-        _ => replies::two_ports(i),
+// Each case has a line of its own.
+fn lines<R: Print + Alloc<A = Global>, C: Case>(
+    rt: &R,
+    tally: &mut Tally,
+    all: &[C],
+) -> io::Result<()> {
+    for case in all {
+        let right = case.tried(rt)?;
+        tally.end_line(rt, right)?;
     }
+    Ok(())
 }
 
-// A heading, where there is one, and the cases of a kind from one up to another.
-fn run(t: Tally, heading: u64, kind: u8, from: usize, to: usize) -> Tally {
-    text(heading);
-    let mut total = t;
-    let mut i = from;
-    while i < to {
-        total = tally::ended(total, tried(kind, i));
-        i += 1;
-    }
-    total
+// Cases under a heading.
+fn section<R: Print + Alloc<A = Global>, C: Case>(
+    rt: &R,
+    tally: &mut Tally,
+    heading: &str,
+    all: &[C],
+) -> io::Result<()> {
+    println!(rt; "{heading}")?;
+    lines(rt, tally, all)
 }
 
-fn main() {
-    let t = Tally { lines: 0, right: 0 };
-    let t = run(t, words::TABLES, COMMAND, 0, 4);
-    let t = run(t, 0, SOUND, 0, 23);
-    let t = run(t, words::ROOM, COMMAND, 4, 12);
-    let t = run(t, words::COMMANDS, COMMAND, 12, 43);
-    let t = run(t, words::SNAPSHOTS, COMMAND, 43, 57);
-    let t = run(t, words::LPCM, COMMAND, 57, 101);
-    let t = run(t, words::LONGEST, LONGEST, 0, 2);
-    let t = run(t, words::ORDER, ORDER, 0, 47);
-    let t = run(t, 0, COMMAND, 101, 102);
-    let t = run(t, words::DAMAGE, COMMAND, 102, 113);
-    let t = run(t, words::SPIKES, COMMAND, 113, 124);
-    let t = run(t, words::COUNTERS, COMMAND, 124, 129);
-    let t = run(t, words::LOADS, COMMAND, 129, 145);
-    let t = run(t, words::STORES, COMMAND, 145, 157);
-    let t = run(t, words::COMPARES, COMMAND, 157, 172);
-    let t = run(t, words::OUTPUTS, OUTPUTS, 0, 51);
-    note(notes::BEAT_REFUSALS);
-    let t = run(t, 0, BEAT_REFUSAL, 0, 45);
-    note(notes::TURNS);
-    let t = run(t, 0, BEAT, 0, 49);
-    note(notes::BEATS);
-    let t = run(t, 0, BEAT, 49, 113);
-    note(notes::VERDICT_CASES);
-    let t = run(t, 0, BEAT, 113, 132);
-    let t = run(t, words::HOSTS, BUILD, 0, 38);
-    replies::heading(replies::CHECKS);
-    let t = run(t, 0, CHECK, 0, 26);
-    replies::heading(replies::PORTS);
-    let t = run(t, 0, PORTS, 0, 41);
-    let t = run(t, words::VOLTS, VOLTS, 0, 5);
-    let t = run(t, 0, PACK, 0, 5);
-    words(words::SUMMARY, t.lines, t.right, 0, 0);
+// The sizes of a table, and each command.
+fn try_commands<R: Print + Alloc<A = Global>>(rt: &R, tally: &mut Tally) -> io::Result<()> {
+    section(rt, tally, "tables", &tables::TABLES)?;
+    lines(rt, tally, &soundness::CASES)?;
+    section(rt, tally, "room for a reply", &tables::ROOM)?;
+    section(rt, tally, "each command, on two monitors", &commands::CASES)?;
+    section(
+        rt,
+        tally,
+        "snapshots; monitor 1 is lent with one on",
+        &snapshots::CASES,
+    )?;
+    section(
+        rt,
+        tally,
+        "low power cell monitoring (LPCM); with CMF1 80 and 7f monitor 1 is in it by CMC_EN alone and monitor 2 has all the other bits, after ULRR",
+        &lpcm::CASES,
+    )?;
+    section(
+        rt,
+        tally,
+        "each of 32 monitors sent its own position",
+        &longest::CASES,
+    )
+}
+
+// What is refused, and what comes damaged.
+fn try_refusals<R: Print + Alloc<A = Global>>(rt: &R, tally: &mut Tally) -> io::Result<()> {
+    section(
+        rt,
+        tally,
+        "refusals of a frame, in their order",
+        &order::CASES,
+    )?;
+    lines(rt, tally, &order::NOT_REFUSED)?;
+    section(
+        rt,
+        tally,
+        "damaged payloads, after ULRR where nothing else is said",
+        &damage::CASES,
+    )?;
+    section(
+        rt,
+        tally,
+        "spikes, after ULRR: of the bits hit, all in a row, the first and the last at least are turned over",
+        &bursts::CASES,
+    )?;
+    section(rt, tally, "counters of 62 and 63", &counters::CASES)
+}
+
+// What is done to codes.
+fn try_codes<R: Print + Alloc<A = Global>>(rt: &R, tally: &mut Tally) -> io::Result<()> {
+    section(rt, tally, "loads", &loading::CASES)?;
+    lines(rt, tally, &clearing::CASES)?;
+    section(rt, tally, "stores", &storing::CASES)?;
+    section(rt, tally, "compares", &comparing::CASES)
+}
+
+// Which discharge outputs are on.
+fn try_outputs<R: Print + Alloc<A = Global>>(rt: &R, tally: &mut Tally) -> io::Result<()> {
+    section(rt, tally, "discharge outputs", &outputs::CASES)
+}
+
+// One operation of a heartbeat.
+fn try_operations<R: Print + Alloc<A = Global>>(rt: &R, tally: &mut Tally) -> io::Result<()> {
+    section(
+        rt,
+        tally,
+        "heartbeats: refusals of each operation, in their order; monitors of 0 after CMEN, the last of them the manager",
+        &beat_refusals::CASES,
+    )?;
+    section(
+        rt,
+        tally,
+        "heartbeats: wakes, relays, and the time that runs out; the manager sends towards port A where nothing else is said",
+        &turns::CASES,
+    )
+}
+
+// Whole heartbeats. A function takes a few of the long lists at most, since each makes its check longer.
+fn try_heartbeats<R: Print + Alloc<A = Global>>(rt: &R, tally: &mut Tally) -> io::Result<()> {
+    section(
+        rt,
+        tally,
+        "whole heartbeats; monitor 1 has the limits, at its cell 1 where no other is named",
+        &wholes::CASES,
+    )?;
+    lines(rt, tally, &measured::CASES)
+}
+
+// The rest of them, and the host's verdicts.
+fn try_verdicts<R: Print + Alloc<A = Global>>(rt: &R, tally: &mut Tally) -> io::Result<()> {
+    lines(rt, tally, &masked::CASES)?;
+    section(rt, tally, "verdicts", &verdicts::CASES)
+}
+
+// What our host builds, and what it makes of what comes back.
+fn try_host<R: Print + Alloc<A = Global>>(rt: &R, tally: &mut Tally) -> io::Result<()> {
+    section(rt, tally, "frames of our host", &hosts::CASES)?;
+    section(rt, tally, "checks of one payload", &payloads::CASES)?;
+    section(rt, tally, "two ports", &choices::CASES)?;
+    section(
+        rt,
+        tally,
+        "voltages, with the bits of the f64",
+        &volts::CASES,
+    )?;
+    lines(rt, tally, &packs::CASES)
+}
+
+fn all<R: Print + Alloc<A = Global>>(rt: &R) -> io::Result<()> {
+    let mut tally = Tally { lines: 0, right: 0 };
+    try_commands(rt, &mut tally)?;
+    try_refusals(rt, &mut tally)?;
+    try_codes(rt, &mut tally)?;
+    try_outputs(rt, &mut tally)?;
+    try_operations(rt, &mut tally)?;
+    try_heartbeats(rt, &mut tally)?;
+    try_verdicts(rt, &mut tally)?;
+    try_host(rt, &mut tally)?;
+    println!(rt; "lines: {}, as expected: {}", tally.lines, tally.right)
+}
+
+// A write that fails shows as output that is missing.
+fn main(rt: HostRuntime) {
+    let _ = all(&rt);
 }

@@ -1,357 +1,461 @@
-// Which discharge outputs of a monitor are on, and the rows of Table 27 that decide them. The table is lent to be read only, so that it
-// stays needs no case.
-use crate::bench::{Bytes, RECORD, ROOM, lay, same};
-use crate::say;
-use crate::say::text;
-use crate::starts::start;
-use crate::words::{ASKED, ON, REFUSED, STAYS, words};
-use discharge::{Discharged, discharge};
+// The rows of Table 27 that decide which discharge outputs of a monitor are on, each by itself and with others.
+use crate::begun::{MUTED, MUTED_UNMUTED, UNSOUND};
+use crate::questions::{ASKED, NONE, Question};
 use priorities::Events;
+use refusals::Refusal;
 
-// A case is five numbers.
-//
-// 1. In decimal, begin_monitors_position_events_phase_room_refusal_on: the table that the case begins with (starts.rt), its monitors, and the
-//    position; the events, of which shutdown is 1, a measurement 2, WRCFGB 4 and WRPWM 8; the phase, and the room for the outputs; then the
-//    refusal or 0, and how many outputs are on.
-// 2, 3. The DCC bytes of the monitor that is asked about, configuration B bytes 4 and 5, and its duties, PWM group A and bytes 0 and 1 of
-//    group B, as they lie in its record.
-// 4, 5. The outputs expected, cells 1 to 8 and 9 to 16: the row, and 80 more where the output is on. Every other byte of the buffer stays
-//    ee, and so do these after a refusal.
-const ROWS: [u64; 255] = [
+pub(crate) static CASES: [Question; 51] = [
     // refusals, each by itself and where later ones would hold too
-    06_02_01_00_000_16_1_00,
-    0x0000,
-    0xffff_ffff_ffff_ffff,
-    0xeeee_eeee_eeee_eeee,
-    0xeeee_eeee_eeee_eeee,
-    06_02_03_00_015_15_1_00,
-    0x0000,
-    0xffff_ffff_ffff_ffff,
-    0xeeee_eeee_eeee_eeee,
-    0xeeee_eeee_eeee_eeee,
-    01_33_01_00_000_16_1_00,
-    0x0000,
-    0xffff_ffff_ffff_ffff,
-    0xeeee_eeee_eeee_eeee,
-    0xeeee_eeee_eeee_eeee,
-    01_02_00_00_000_16_7_00,
-    0x0000,
-    0xffff_ffff_ffff_ffff,
-    0xeeee_eeee_eeee_eeee,
-    0xeeee_eeee_eeee_eeee,
-    01_02_03_00_000_16_7_00,
-    0x0000,
-    0xffff_ffff_ffff_ffff,
-    0xeeee_eeee_eeee_eeee,
-    0xeeee_eeee_eeee_eeee,
-    01_02_03_00_015_15_7_00,
-    0x0000,
-    0xffff_ffff_ffff_ffff,
-    0xeeee_eeee_eeee_eeee,
-    0xeeee_eeee_eeee_eeee,
-    01_02_00_00_000_15_7_00,
-    0x0000,
-    0xffff_ffff_ffff_ffff,
-    0xeeee_eeee_eeee_eeee,
-    0xeeee_eeee_eeee_eeee,
-    01_32_33_00_000_16_7_00,
-    0x0000,
-    0xffff_ffff_ffff_ffff,
-    0xeeee_eeee_eeee_eeee,
-    0xeeee_eeee_eeee_eeee,
-    01_02_01_00_015_16_7_00,
-    0x0000,
-    0xffff_ffff_ffff_ffff,
-    0xeeee_eeee_eeee_eeee,
-    0xeeee_eeee_eeee_eeee,
-    01_02_01_00_255_16_7_00,
-    0x0000,
-    0xffff_ffff_ffff_ffff,
-    0xeeee_eeee_eeee_eeee,
-    0xeeee_eeee_eeee_eeee,
-    01_02_01_00_015_15_7_00,
-    0x0000,
-    0xffff_ffff_ffff_ffff,
-    0xeeee_eeee_eeee_eeee,
-    0xeeee_eeee_eeee_eeee,
-    01_02_01_00_000_15_6_00,
-    0x0000,
-    0xffff_ffff_ffff_ffff,
-    0xeeee_eeee_eeee_eeee,
-    0xeeee_eeee_eeee_eeee,
-    01_02_01_00_000_00_6_00,
-    0x0000,
-    0xffff_ffff_ffff_ffff,
-    0xeeee_eeee_eeee_eeee,
-    0xeeee_eeee_eeee_eeee,
+    Question {
+        name: "unsound table",
+        start: UNSOUND,
+        outcome: Err(Refusal::TableNotSound),
+        ..ASKED
+    },
+    Question {
+        name: "unsound table, position 3, phase 15, room 15",
+        start: UNSOUND,
+        position: 3,
+        phase: 15,
+        room: 15,
+        outcome: Err(Refusal::TableNotSound),
+        ..ASKED
+    },
+    Question {
+        name: "33 monitors",
+        monitors: 33,
+        outcome: Err(Refusal::TableNotSound),
+        ..ASKED
+    },
+    Question {
+        name: "position 0",
+        position: 0,
+        outcome: Err(Refusal::PositionWrong),
+        ..ASKED
+    },
+    Question {
+        name: "position 3 of 2",
+        position: 3,
+        outcome: Err(Refusal::PositionWrong),
+        ..ASKED
+    },
+    Question {
+        name: "position 3 of 2, phase 15, room 15",
+        position: 3,
+        phase: 15,
+        room: 15,
+        outcome: Err(Refusal::PositionWrong),
+        ..ASKED
+    },
+    Question {
+        name: "position 0, room 15",
+        position: 0,
+        room: 15,
+        outcome: Err(Refusal::PositionWrong),
+        ..ASKED
+    },
+    Question {
+        name: "position 33 of 32",
+        monitors: 32,
+        position: 33,
+        outcome: Err(Refusal::PositionWrong),
+        ..ASKED
+    },
+    Question {
+        name: "phase 15",
+        phase: 15,
+        outcome: Err(Refusal::PositionWrong),
+        ..ASKED
+    },
+    Question {
+        name: "phase 255",
+        phase: 255,
+        outcome: Err(Refusal::PositionWrong),
+        ..ASKED
+    },
+    Question {
+        name: "phase 15, room 15",
+        phase: 15,
+        room: 15,
+        outcome: Err(Refusal::PositionWrong),
+        ..ASKED
+    },
+    Question {
+        name: "room 15",
+        room: 15,
+        outcome: Err(Refusal::NoRoom),
+        ..ASKED
+    },
+    Question {
+        name: "room 0",
+        room: 0,
+        outcome: Err(Refusal::NoRoom),
+        ..ASKED
+    },
     // the last phase; room to spare; the last position
-    01_02_01_00_014_16_0_16,
-    0x0000,
-    0xffff_ffff_ffff_ffff,
-    0x8181_8181_8181_8181,
-    0x8181_8181_8181_8181,
-    01_02_01_00_014_17_0_16,
-    0x0000,
-    0xffff_ffff_ffff_ffff,
-    0x8181_8181_8181_8181,
-    0x8181_8181_8181_8181,
-    01_32_32_00_000_16_0_01,
-    0x0100,
-    0,
-    0x8401_0101_0101_0101,
-    0x0101_0101_0101_0101,
+    Question {
+        name: "duties 15, phase 14, room 16",
+        phase: 14,
+        outcome: Ok(16),
+        outputs: [0x8181_8181_8181_8181, 0x8181_8181_8181_8181],
+        ..ASKED
+    },
+    Question {
+        name: "duties 15, phase 14, room 17",
+        phase: 14,
+        room: 17,
+        outcome: Ok(16),
+        outputs: [0x8181_8181_8181_8181, 0x8181_8181_8181_8181],
+        ..ASKED
+    },
+    Question {
+        name: "position 32 of 32, duties 0, DCC of cell 1",
+        monitors: 32,
+        position: 32,
+        dcc: 0x0100,
+        duties: 0,
+        outcome: Ok(1),
+        outputs: [0x8401_0101_0101_0101, 0x0101_0101_0101_0101],
+        ..ASKED
+    },
     // row 1: on while the phase is below the duty
-    01_02_01_00_006_16_0_16,
-    0x0000,
-    0x7777_7777_7777_7777,
-    0x8181_8181_8181_8181,
-    0x8181_8181_8181_8181,
-    01_02_01_00_007_16_0_00,
-    0x0000,
-    0x7777_7777_7777_7777,
-    0x0101_0101_0101_0101,
-    0x0101_0101_0101_0101,
-    01_02_01_00_000_16_0_15,
-    0x0000,
-    0x1032_5476_98ba_dcfe,
-    0x0181_8181_8181_8181,
-    0x8181_8181_8181_8181,
-    01_02_01_00_007_16_0_08,
-    0x0000,
-    0x1032_5476_98ba_dcfe,
-    0x0101_0101_0101_0101,
-    0x8181_8181_8181_8181,
-    01_02_01_00_014_16_0_01,
-    0x0000,
-    0x1032_5476_98ba_dcfe,
-    0x0101_0101_0101_0101,
-    0x0101_0101_0101_0181,
+    Question {
+        name: "duties 7, phase 6",
+        phase: 6,
+        duties: 0x7777_7777_7777_7777,
+        outcome: Ok(16),
+        outputs: [0x8181_8181_8181_8181, 0x8181_8181_8181_8181],
+        ..ASKED
+    },
+    Question {
+        name: "duties 7, phase 7",
+        phase: 7,
+        duties: 0x7777_7777_7777_7777,
+        outcome: Ok(0),
+        outputs: [0x0101_0101_0101_0101, 0x0101_0101_0101_0101],
+        ..ASKED
+    },
+    Question {
+        name: "duties 0 to 15, phase 0",
+        duties: 0x1032_5476_98ba_dcfe,
+        outcome: Ok(15),
+        outputs: [0x0181_8181_8181_8181, 0x8181_8181_8181_8181],
+        ..ASKED
+    },
+    Question {
+        name: "duties 0 to 15, phase 7",
+        phase: 7,
+        duties: 0x1032_5476_98ba_dcfe,
+        outcome: Ok(8),
+        outputs: [0x0101_0101_0101_0101, 0x8181_8181_8181_8181],
+        ..ASKED
+    },
+    Question {
+        name: "duties 0 to 15, phase 14",
+        phase: 14,
+        duties: 0x1032_5476_98ba_dcfe,
+        outcome: Ok(1),
+        outputs: [0x0101_0101_0101_0101, 0x0101_0101_0101_0181],
+        ..ASKED
+    },
     // the halves of a byte, and the end of group A
-    01_02_01_00_000_16_0_01,
-    0x0000,
-    0x0100_0000_0000_0000,
-    0x8101_0101_0101_0101,
-    0x0101_0101_0101_0101,
-    01_02_01_00_000_16_0_01,
-    0x0000,
-    0x1000_0000_0000_0000,
-    0x0181_0101_0101_0101,
-    0x0101_0101_0101_0101,
-    01_02_01_00_000_16_0_01,
-    0x0000,
-    0x0000_0000_0010_0000,
-    0x0101_0101_0101_0101,
-    0x0101_0181_0101_0101,
-    01_02_01_00_000_16_0_01,
-    0x0000,
-    0x0000_0000_0000_0100,
-    0x0101_0101_0101_0101,
-    0x0101_0101_8101_0101,
-    01_02_01_00_000_16_0_01,
-    0x0000,
-    0x0000_0000_0000_0010,
-    0x0101_0101_0101_0101,
-    0x0101_0101_0101_0181,
+    Question {
+        name: "a duty for cell 1 alone",
+        duties: 0x0100_0000_0000_0000,
+        outcome: Ok(1),
+        outputs: [0x8101_0101_0101_0101, 0x0101_0101_0101_0101],
+        ..ASKED
+    },
+    Question {
+        name: "a duty for cell 2 alone",
+        duties: 0x1000_0000_0000_0000,
+        outcome: Ok(1),
+        outputs: [0x0181_0101_0101_0101, 0x0101_0101_0101_0101],
+        ..ASKED
+    },
+    Question {
+        name: "a duty for cell 12 alone",
+        duties: 0x0000_0000_0010_0000,
+        outcome: Ok(1),
+        outputs: [0x0101_0101_0101_0101, 0x0101_0181_0101_0101],
+        ..ASKED
+    },
+    Question {
+        name: "a duty for cell 13 alone",
+        duties: 0x0000_0000_0000_0100,
+        outcome: Ok(1),
+        outputs: [0x0101_0101_0101_0101, 0x0101_0101_8101_0101],
+        ..ASKED
+    },
+    Question {
+        name: "a duty for cell 16 alone",
+        duties: 0x0000_0000_0000_0010,
+        outcome: Ok(1),
+        outputs: [0x0101_0101_0101_0101, 0x0101_0101_0101_0181],
+        ..ASKED
+    },
     // row 4 goes by the cell's own DCC bit
-    01_02_01_00_000_16_0_01,
-    0x0100,
-    0,
-    0x8401_0101_0101_0101,
-    0x0101_0101_0101_0101,
-    01_02_01_00_000_16_0_01,
-    0x8000,
-    0,
-    0x0101_0101_0101_0184,
-    0x0101_0101_0101_0101,
-    01_02_01_00_000_16_0_01,
-    0x0001,
-    0,
-    0x0101_0101_0101_0101,
-    0x8401_0101_0101_0101,
-    01_02_01_00_000_16_0_01,
-    0x0080,
-    0,
-    0x0101_0101_0101_0101,
-    0x0101_0101_0101_0184,
-    01_02_01_00_014_16_0_15,
-    0x7fff,
-    0,
-    0x8484_8484_8484_8401,
-    0x8484_8484_8484_8484,
-    01_02_01_02_014_16_0_15,
-    0xfffe,
-    0xffff_ffff_ffff_ffff,
-    0x8484_8484_8484_8484,
-    0x0384_8484_8484_8484,
-    // the events by themselves: a row decides also where there was nothing to hold off
-    01_02_01_01_000_16_0_00,
-    0x0000,
-    0xffff_ffff_ffff_ffff,
-    0x0707_0707_0707_0707,
-    0x0707_0707_0707_0707,
-    01_02_01_04_000_16_0_00,
-    0x0000,
-    0xffff_ffff_ffff_ffff,
-    0x0505_0505_0505_0505,
-    0x0505_0505_0505_0505,
-    01_02_01_02_000_16_0_00,
-    0x0000,
-    0xffff_ffff_ffff_ffff,
-    0x0303_0303_0303_0303,
-    0x0303_0303_0303_0303,
-    01_02_01_02_000_16_0_00,
-    0x0000,
-    0,
-    0x0303_0303_0303_0303,
-    0x0303_0303_0303_0303,
-    01_02_01_08_000_16_0_00,
-    0x0000,
-    0xffff_ffff_ffff_ffff,
-    0x0202_0202_0202_0202,
-    0x0202_0202_0202_0202,
-    01_02_01_08_000_16_0_00,
-    0x0000,
-    0,
-    0x0202_0202_0202_0202,
-    0x0202_0202_0202_0202,
-    // and with DCC of cell 1, duties being 15
-    01_02_01_08_000_16_0_01,
-    0x0100,
-    0xffff_ffff_ffff_ffff,
-    0x8402_0202_0202_0202,
-    0x0202_0202_0202_0202,
-    01_02_01_02_000_16_0_01,
-    0x0100,
-    0xffff_ffff_ffff_ffff,
-    0x8403_0303_0303_0303,
-    0x0303_0303_0303_0303,
-    01_02_01_10_000_16_0_01,
-    0x0100,
-    0xffff_ffff_ffff_ffff,
-    0x8403_0303_0303_0303,
-    0x0303_0303_0303_0303,
-    01_02_01_04_000_16_0_00,
-    0x0100,
-    0xffff_ffff_ffff_ffff,
-    0x0505_0505_0505_0505,
-    0x0505_0505_0505_0505,
-    01_02_01_14_000_16_0_00,
-    0x0100,
-    0xffff_ffff_ffff_ffff,
-    0x0505_0505_0505_0505,
-    0x0505_0505_0505_0505,
-    01_02_01_01_000_16_0_00,
-    0x0100,
-    0xffff_ffff_ffff_ffff,
-    0x0707_0707_0707_0707,
-    0x0707_0707_0707_0707,
-    // monitor 2 alone is muted, then both, then neither
-    01_02_02_00_000_16_0_00,
-    0x0100,
-    0xffff_ffff_ffff_ffff,
-    0x0606_0606_0606_0606,
-    0x0606_0606_0606_0606,
-    01_02_02_14_000_16_0_00,
-    0x0100,
-    0xffff_ffff_ffff_ffff,
-    0x0606_0606_0606_0606,
-    0x0606_0606_0606_0606,
-    01_02_02_15_000_16_0_00,
-    0x0100,
-    0xffff_ffff_ffff_ffff,
-    0x0707_0707_0707_0707,
-    0x0707_0707_0707_0707,
-    01_02_01_00_007_16_0_09,
-    0x0100,
-    0x1032_5476_98ba_dcfe,
-    0x8401_0101_0101_0101,
-    0x8181_8181_8181_8181,
-    16_02_01_00_007_16_0_00,
-    0x0100,
-    0x1032_5476_98ba_dcfe,
-    0x0606_0606_0606_0606,
-    0x0606_0606_0606_0606,
-    17_02_01_00_007_16_0_09,
-    0x0100,
-    0x1032_5476_98ba_dcfe,
-    0x8401_0101_0101_0101,
-    0x8181_8181_8181_8181,
-    17_02_02_00_007_16_0_09,
-    0x0100,
-    0x1032_5476_98ba_dcfe,
-    0x8401_0101_0101_0101,
-    0x8181_8181_8181_8181,
-];
-
-fn number(k: usize) -> u64 {
-    ROWS[k % 255]
-}
-
-// Says what came: a refusal's number, or else how many outputs are on, by which the two numbers of a row are one.
-fn told(came: Discharged) -> u64 {
-    match came {
-        Discharged::Refused(refusal) => {
-            let number = refusals::number_of(refusal) as u64;
-            words(REFUSED, number, 0, 0, 0);
-            number * 100
-        }
-        Discharged::On(on) => {
-            words(ON, on as u64, 0, 0, 0);
-            on as u64
-        }
-    }
-}
-
-// What came: the number that `told` gives, and the buffer.
-#[derive(Clone, Copy)]
-struct Answer {
-    came: u64,
-    out: Bytes,
-}
-
-fn answered(table: Bytes, row: u64) -> Answer {
-    let mut out = [0xee; ROOM];
-    let events = row / 100_000_000 % 100;
-    let end = (row / 1_000_000_000_000 % 100 % 34 * RECORD) as usize;
-    let room = (row / 1000 % 100) as usize;
-    let came = discharge(
-        &table[0..end],
-        (row / 10_000_000_000 % 100) as usize,
-        Events {
-            shutdown: events & 1 != 0,
-            measurement: events & 2 != 0,
-            wrcfgb: events & 4 != 0,
-            wrpwm: events & 8 != 0,
+    Question {
+        name: "DCC of cell 1 alone",
+        dcc: 0x0100,
+        duties: 0,
+        outcome: Ok(1),
+        outputs: [0x8401_0101_0101_0101, 0x0101_0101_0101_0101],
+        ..ASKED
+    },
+    Question {
+        name: "DCC of cell 8 alone",
+        dcc: 0x8000,
+        duties: 0,
+        outcome: Ok(1),
+        outputs: [0x0101_0101_0101_0184, 0x0101_0101_0101_0101],
+        ..ASKED
+    },
+    Question {
+        name: "DCC of cell 9 alone",
+        dcc: 0x0001,
+        duties: 0,
+        outcome: Ok(1),
+        outputs: [0x0101_0101_0101_0101, 0x8401_0101_0101_0101],
+        ..ASKED
+    },
+    Question {
+        name: "DCC of cell 16 alone",
+        dcc: 0x0080,
+        duties: 0,
+        outcome: Ok(1),
+        outputs: [0x0101_0101_0101_0101, 0x0101_0101_0101_0184],
+        ..ASKED
+    },
+    Question {
+        name: "DCC of all but cell 8, phase 14",
+        phase: 14,
+        dcc: 0x7fff,
+        duties: 0,
+        outcome: Ok(15),
+        outputs: [0x8484_8484_8484_8401, 0x8484_8484_8484_8484],
+        ..ASKED
+    },
+    Question {
+        name: "DCC of all but cell 9, measurement",
+        events: Events {
+            measurement: true,
+            ..NONE
         },
-        (row / 100_000 % 1000 % 256) as u8,
-        &mut out[0..room],
-    );
-    Answer {
-        came: told(came),
-        out,
-    }
-}
-
-// The table that a case begins with, and what the monitor that is asked about holds.
-fn table_of(row: u64, dcc: u64, duties: u64) -> Bytes {
-    let own = (row / 10_000_000_000 + 99) % 100 * RECORD;
-    let begun = start(row / 100_000_000_000_000, 0, 0);
-    lay(lay(begun, own + 10, 2, dcc), own + 70, 8, duties)
-}
-
-pub(crate) fn asked(i: usize) -> bool {
-    let k = i % 51 * 5;
-    let row = number(k);
-    words(ASKED + (i % 51) as u64, 0, 0, 0, 0);
-    let answer = answered(table_of(row, number(k + 1), number(k + 2)), row);
-    let came = answer.came;
-    let out = answer.out;
-    let first = lay([0xee; ROOM], 0, 8, number(k + 3));
-    let right = (came == row % 1000) & same(out, lay(first, 8, 8, number(k + 4)), 0, ROOM);
-    if came < 100 {
-        say::bytes(out, 0, (row / 1000 % 100) as usize);
-    } else if right {
-        text(STAYS + 1);
-    }
-    right
-}
+        phase: 14,
+        dcc: 0xfffe,
+        outcome: Ok(15),
+        outputs: [0x8484_8484_8484_8484, 0x0384_8484_8484_8484],
+        ..ASKED
+    },
+    // the events by themselves: a row decides also where there was nothing to hold off
+    Question {
+        name: "shutdown",
+        events: Events {
+            shutdown: true,
+            ..NONE
+        },
+        outcome: Ok(0),
+        outputs: [0x0707_0707_0707_0707, 0x0707_0707_0707_0707],
+        ..ASKED
+    },
+    Question {
+        name: "WRCFGB",
+        events: Events {
+            wrcfgb: true,
+            ..NONE
+        },
+        outcome: Ok(0),
+        outputs: [0x0505_0505_0505_0505, 0x0505_0505_0505_0505],
+        ..ASKED
+    },
+    Question {
+        name: "measurement",
+        events: Events {
+            measurement: true,
+            ..NONE
+        },
+        outcome: Ok(0),
+        outputs: [0x0303_0303_0303_0303, 0x0303_0303_0303_0303],
+        ..ASKED
+    },
+    Question {
+        name: "measurement, duties 0",
+        events: Events {
+            measurement: true,
+            ..NONE
+        },
+        duties: 0,
+        outcome: Ok(0),
+        outputs: [0x0303_0303_0303_0303, 0x0303_0303_0303_0303],
+        ..ASKED
+    },
+    Question {
+        name: "WRPWM",
+        events: Events {
+            wrpwm: true,
+            ..NONE
+        },
+        outcome: Ok(0),
+        outputs: [0x0202_0202_0202_0202, 0x0202_0202_0202_0202],
+        ..ASKED
+    },
+    Question {
+        name: "WRPWM, duties 0",
+        events: Events {
+            wrpwm: true,
+            ..NONE
+        },
+        duties: 0,
+        outcome: Ok(0),
+        outputs: [0x0202_0202_0202_0202, 0x0202_0202_0202_0202],
+        ..ASKED
+    },
+    // and with DCC of cell 1, duties being 15
+    Question {
+        name: "DCC of cell 1, WRPWM",
+        events: Events {
+            wrpwm: true,
+            ..NONE
+        },
+        dcc: 0x0100,
+        outcome: Ok(1),
+        outputs: [0x8402_0202_0202_0202, 0x0202_0202_0202_0202],
+        ..ASKED
+    },
+    Question {
+        name: "DCC of cell 1, measurement",
+        events: Events {
+            measurement: true,
+            ..NONE
+        },
+        dcc: 0x0100,
+        outcome: Ok(1),
+        outputs: [0x8403_0303_0303_0303, 0x0303_0303_0303_0303],
+        ..ASKED
+    },
+    Question {
+        name: "DCC of cell 1, measurement, WRPWM",
+        events: Events {
+            measurement: true,
+            wrpwm: true,
+            ..NONE
+        },
+        dcc: 0x0100,
+        outcome: Ok(1),
+        outputs: [0x8403_0303_0303_0303, 0x0303_0303_0303_0303],
+        ..ASKED
+    },
+    Question {
+        name: "DCC of cell 1, WRCFGB",
+        events: Events {
+            wrcfgb: true,
+            ..NONE
+        },
+        dcc: 0x0100,
+        outcome: Ok(0),
+        outputs: [0x0505_0505_0505_0505, 0x0505_0505_0505_0505],
+        ..ASKED
+    },
+    Question {
+        name: "DCC of cell 1, WRCFGB, measurement, WRPWM",
+        events: Events {
+            measurement: true,
+            wrcfgb: true,
+            wrpwm: true,
+            ..NONE
+        },
+        dcc: 0x0100,
+        outcome: Ok(0),
+        outputs: [0x0505_0505_0505_0505, 0x0505_0505_0505_0505],
+        ..ASKED
+    },
+    Question {
+        name: "DCC of cell 1, shutdown",
+        events: Events {
+            shutdown: true,
+            ..NONE
+        },
+        dcc: 0x0100,
+        outcome: Ok(0),
+        outputs: [0x0707_0707_0707_0707, 0x0707_0707_0707_0707],
+        ..ASKED
+    },
+    // monitor 2 alone is muted, then both, then neither
+    Question {
+        name: "DCC of cell 1, muted, position 2",
+        position: 2,
+        dcc: 0x0100,
+        outcome: Ok(0),
+        outputs: [0x0606_0606_0606_0606, 0x0606_0606_0606_0606],
+        ..ASKED
+    },
+    Question {
+        name: "the same, WRCFGB, measurement, WRPWM",
+        position: 2,
+        events: Events {
+            measurement: true,
+            wrcfgb: true,
+            wrpwm: true,
+            ..NONE
+        },
+        dcc: 0x0100,
+        outcome: Ok(0),
+        outputs: [0x0606_0606_0606_0606, 0x0606_0606_0606_0606],
+        ..ASKED
+    },
+    Question {
+        name: "the same, all four",
+        position: 2,
+        events: Events {
+            shutdown: true,
+            measurement: true,
+            wrcfgb: true,
+            wrpwm: true,
+        },
+        dcc: 0x0100,
+        outcome: Ok(0),
+        outputs: [0x0707_0707_0707_0707, 0x0707_0707_0707_0707],
+        ..ASKED
+    },
+    Question {
+        name: "duties 0 to 15, phase 7, DCC of cell 1",
+        phase: 7,
+        dcc: 0x0100,
+        duties: 0x1032_5476_98ba_dcfe,
+        outcome: Ok(9),
+        outputs: [0x8401_0101_0101_0101, 0x8181_8181_8181_8181],
+        ..ASKED
+    },
+    Question {
+        name: "the same, after MUTE",
+        start: MUTED,
+        phase: 7,
+        dcc: 0x0100,
+        duties: 0x1032_5476_98ba_dcfe,
+        outcome: Ok(0),
+        outputs: [0x0606_0606_0606_0606, 0x0606_0606_0606_0606],
+        ..ASKED
+    },
+    Question {
+        name: "the same, after MUTE and UNMUTE",
+        start: MUTED_UNMUTED,
+        phase: 7,
+        dcc: 0x0100,
+        duties: 0x1032_5476_98ba_dcfe,
+        outcome: Ok(9),
+        outputs: [0x8401_0101_0101_0101, 0x8181_8181_8181_8181],
+        ..ASKED
+    },
+    Question {
+        name: "the same, position 2",
+        start: MUTED_UNMUTED,
+        position: 2,
+        phase: 7,
+        dcc: 0x0100,
+        duties: 0x1032_5476_98ba_dcfe,
+        outcome: Ok(9),
+        outputs: [0x8401_0101_0101_0101, 0x8181_8181_8181_8181],
+        ..ASKED
+    },
+];

@@ -1,90 +1,88 @@
-// What is written to standard output. A write that fails shows as output that is missing.
-use crate::bench::{Bytes, ONE, ROOM, TWO, same};
-use crate::words::{AS_BEFORE, AT, MONITOR, SPACE, words};
+// How what came is written.
+use crate::bench::RECORD;
+use chain::Answer;
+use refusals::Refusal;
+use std::fmt;
 
-// The number of standard output among the process's open files.
-const STDOUT_FILENO: i32 = 1;
+// Bytes in hexadecimal, a space before each.
+#[derive(Clone, Copy)]
+pub(crate) struct Bytes<'a>(pub &'a [u8]);
 
-// A byte of the words. In place of a # stands a number, and of a @ one of 16 hexadecimal digits: then the next one's turn has come.
-fn one(byte: u8, number: u64) -> bool {
-    if byte == b'#' {
-        io::print_decimal(STDOUT_FILENO, number);
-        return true;
-    }
-    if byte == b'@' {
-        io::print_hex(STDOUT_FILENO, number, 16);
-        return true;
-    }
-    io::write_all(STDOUT_FILENO, &[byte]);
-    false
-}
-
-pub(crate) fn words_of(all: &[u8], k: u64, a: u64, b: u64, c: u64, d: u64) {
-    let mut left = k;
-    let mut first = a;
-    let mut second = b;
-    let mut third = c;
-    let mut i = 0;
-    while i < all.len() {
-        let byte = all[i];
-        if left > 0 {
-            if byte == b'|' {
-                left -= 1;
-            }
-        } else if byte == b'|' {
-            return;
-        } else if one(byte, first) {
-            first = second;
-            second = third;
-            third = d;
+impl fmt::Display for Bytes<'_> {
+    fn fmt<W: fmt::Write>(&self, f: &mut fmt::Formatter<W>) -> fmt::Result {
+        for byte in self.0 {
+            write!(f, " {byte:02x}")?;
         }
-        i += 1;
+        Ok(())
     }
 }
 
-pub(crate) fn text(k: u64) {
-    words(k, 0, 0, 0, 0);
+// The bytes of a record that have changed, as they are now: each run of them after its place.
+#[derive(Clone, Copy)]
+struct Change<'a> {
+    before: &'a [u8],
+    after: &'a [u8],
 }
 
-pub(crate) fn byte(b: u8) {
-    text(SPACE);
-    io::print_hex(STDOUT_FILENO, b as u64, 2);
-}
-
-// The bytes from one place up to another, in hexadecimal.
-pub(crate) fn bytes(list: Bytes, from: usize, to: usize) {
-    let mut i = from;
-    while i < to {
-        byte(list[i % ROOM]);
-        i += 1;
-    }
-}
-
-// One byte of a record, where it has changed. A run of changed bytes begins with its place.
-fn change(i: usize, before: u8, after: u8, in_run: bool) -> bool {
-    if before == after {
-        return false;
-    }
-    if !in_run {
-        words(AT, i as u64, 0, 0, 0);
-    }
-    byte(after);
-    true
-}
-
-// The bytes of two records that have changed, as they are now.
-pub(crate) fn changes(before: Bytes, after: Bytes) {
-    let mut in_run = false;
-    let mut i = 0;
-    while i < TWO {
-        if i % ONE == 0 {
-            in_run = false;
-            words(MONITOR, (i / ONE) as u64 + 1, 0, 0, 0);
-            if same(before, after, i, i + ONE) {
-                text(AS_BEFORE);
+impl fmt::Display for Change<'_> {
+    fn fmt<W: fmt::Write>(&self, f: &mut fmt::Formatter<W>) -> fmt::Result {
+        let mut in_run = false;
+        for (at, (before, after)) in self.before.iter().zip(self.after).enumerate() {
+            let differs = before != after;
+            if differs && !in_run {
+                write!(f, " at {at}:")?;
             }
+            if differs {
+                write!(f, " {after:02x}")?;
+            }
+            in_run = differs;
         }
-        in_run = change(i % ONE, before[i], after[i], in_run);
-        i += 1;
+        Ok(())
+    }
+}
+
+// What has changed in the first two records of a table.
+#[derive(Clone, Copy)]
+pub(crate) struct Changes<'a> {
+    pub before: &'a [u8],
+    pub after: &'a [u8],
+}
+
+impl fmt::Display for Changes<'_> {
+    fn fmt<W: fmt::Write>(&self, f: &mut fmt::Formatter<W>) -> fmt::Result {
+        let records = self.before.chunks(RECORD).zip(self.after.chunks(RECORD));
+        for (monitor, (before, after)) in (1_u8..3).zip(records) {
+            write!(f, "; monitor {monitor}")?;
+            if before == after {
+                write!(f, " as before")?;
+            }
+            let change = Change { before, after };
+            write!(f, "{change}")?;
+        }
+        Ok(())
+    }
+}
+
+// A refusal, by its number.
+#[derive(Clone, Copy)]
+pub(crate) struct Refused(pub Refusal);
+
+impl fmt::Display for Refused {
+    fn fmt<W: fmt::Write>(&self, f: &mut fmt::Formatter<W>) -> fmt::Result {
+        let number = refusals::number_of(self.0);
+        write!(f, ": refused {number}")
+    }
+}
+
+// What came of a frame.
+#[derive(Clone, Copy)]
+pub(crate) struct Answered(pub Result<Answer, Refusal>);
+
+impl fmt::Display for Answered {
+    fn fmt<W: fmt::Write>(&self, f: &mut fmt::Formatter<W>) -> fmt::Result {
+        match self.0 {
+            Err(refusal) => write!(f, "{}", Refused(refusal)),
+            Ok(Answer { taken, reply }) => write!(f, ": taken by {taken}, reply {reply}"),
+        }
     }
 }

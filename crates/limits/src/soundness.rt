@@ -1,55 +1,159 @@
 // The sizes and the values at which a table stops being sound.
-use crate::bench::{ROOM, lay};
-use crate::say::text;
-use crate::words::{IS_SOUND, NOT_SOUND, OF_SIZE, WITH_BYTE, words};
+use crate::case::Case;
+use std::alloc::Global;
+use std::io;
 
-// The bytes of a table; a place and its value, the others being 0; 1 where the table is sound.
-const ROWS: [u64; 23] = [
-    0000_000_000_0,
-    // what a record was before, three times
-    0070_000_000_0,
-    0082_000_000_0,
-    0114_000_000_0,
-    0169_000_000_0,
-    0170_000_000_1,
-    0171_000_000_0,
-    5439_000_000_0,
-    5440_000_000_1,
-    5441_000_000_0,
-    5610_000_000_0,
+#[derive(Clone, Copy)]
+pub(crate) struct Byte {
+    at: u16,
+    value: u8,
+}
+
+// So many bytes of 0, of which one may be set.
+#[derive(Clone, Copy)]
+pub(crate) struct Soundness {
+    size: u16,
+    set: Option<Byte>,
+    sound: bool,
+}
+
+pub(crate) static CASES: [Soundness; 23] = [
+    Soundness {
+        size: 0,
+        set: None,
+        sound: false,
+    },
+    // shorter than a record, and one byte more or less than one and than 32
+    Soundness {
+        size: 70,
+        set: None,
+        sound: false,
+    },
+    Soundness {
+        size: 82,
+        set: None,
+        sound: false,
+    },
+    Soundness {
+        size: 114,
+        set: None,
+        sound: false,
+    },
+    Soundness {
+        size: 169,
+        set: None,
+        sound: false,
+    },
+    Soundness {
+        size: 170,
+        set: None,
+        sound: true,
+    },
+    Soundness {
+        size: 171,
+        set: None,
+        sound: false,
+    },
+    Soundness {
+        size: 5439,
+        set: None,
+        sound: false,
+    },
+    Soundness {
+        size: 5440,
+        set: None,
+        sound: true,
+    },
+    Soundness {
+        size: 5441,
+        set: None,
+        sound: false,
+    },
+    Soundness {
+        size: 5610,
+        set: None,
+        sound: false,
+    },
     // the counter and byte 69, in the first record and in the second
-    0340_068_063_1,
-    0340_068_064_0,
-    0340_238_063_1,
-    0340_238_064_0,
-    0340_069_001_1,
-    0340_069_002_0,
-    0340_239_001_1,
-    0340_239_002_0,
+    Soundness {
+        size: 340,
+        set: Some(Byte { at: 68, value: 63 }),
+        sound: true,
+    },
+    Soundness {
+        size: 340,
+        set: Some(Byte { at: 68, value: 64 }),
+        sound: false,
+    },
+    Soundness {
+        size: 340,
+        set: Some(Byte { at: 238, value: 63 }),
+        sound: true,
+    },
+    Soundness {
+        size: 340,
+        set: Some(Byte { at: 238, value: 64 }),
+        sound: false,
+    },
+    Soundness {
+        size: 340,
+        set: Some(Byte { at: 69, value: 1 }),
+        sound: true,
+    },
+    Soundness {
+        size: 340,
+        set: Some(Byte { at: 69, value: 2 }),
+        sound: false,
+    },
+    Soundness {
+        size: 340,
+        set: Some(Byte { at: 239, value: 1 }),
+        sound: true,
+    },
+    Soundness {
+        size: 340,
+        set: Some(Byte { at: 239, value: 2 }),
+        sound: false,
+    },
     // what lies beside them, CMF1, and the last byte of the first record
-    0340_067_255_1,
-    0340_070_255_1,
-    0340_133_255_1,
-    0340_169_255_1,
+    Soundness {
+        size: 340,
+        set: Some(Byte { at: 67, value: 255 }),
+        sound: true,
+    },
+    Soundness {
+        size: 340,
+        set: Some(Byte { at: 70, value: 255 }),
+        sound: true,
+    },
+    Soundness {
+        size: 340,
+        set: Some(Byte {
+            at: 133,
+            value: 255,
+        }),
+        sound: true,
+    },
+    Soundness {
+        size: 340,
+        set: Some(Byte {
+            at: 169,
+            value: 255,
+        }),
+        sound: true,
+    },
 ];
 
-pub(crate) fn sound(i: usize) -> bool {
-    let row = ROWS[i % 23];
-    let size = row / 10_000_000 % 6000;
-    let place = row / 10_000 % 1000;
-    let value = row / 10 % 1000;
-    let table = lay([0u8; ROOM], place, 1, value);
-    let end = size as usize;
-    let mut label = OF_SIZE;
-    if value > 0 {
-        label = WITH_BYTE;
+impl Case for Soundness {
+    fn tried<R: Print + Alloc<A = Global>>(&self, rt: &R) -> io::Result<bool> {
+        let mut table = vec![in rt.alloc(); 0; usize::from(self.size)]?;
+        print!(rt; "table, bytes {}", self.size)?;
+        if let Some(Byte { at, value }) = self.set {
+            laying::put(&mut table, usize::from(at), &[value]);
+            print!(rt; ", at {at} the value {value}")?;
+        }
+        let sound = judging::sound(&table);
+        print!(rt; "{}", if sound { ": sound" } else { ": not sound" })?;
+        Ok(sound == self.sound)
     }
-    words(label, size, place, value, 0);
-    let sound = judging::sound(&table[0..end]);
-    let mut verdict = NOT_SOUND;
-    if sound {
-        verdict = IS_SOUND;
-    }
-    text(verdict);
-    sound == (row % 10 == 1)
 }

@@ -19,55 +19,54 @@ use Rattle.judging.specs.Table.{sound}
 use Rattle.judging.specs.Places.{place_refusals, placed}
 use Rattle.refusals.proofs.Decided.{refused_so}
 use Rattle.judging.proofs.Place.{by_place, as_placed, stop_1 as not-placed}
-use Rattle.loads.specs.declared.loads.Loaded.{Loaded}
-use Rattle.loads.specs.declared.loads.Loaded.TheVariants.{Unloaded, Done}
 use Rattle.cells.specs.Cells.{is_cleared}
 use Rattle.loads.specs.Load.{count_row, cleared_row, store_refusals, stored, compare_refusals, compared, load_refusals, loaded}
+use Rattle.std.specs.Prelude.{Result, Ok, Err}
 
 -- what is done is not refused
-pub done-apart : (r : Refusal) → Done ≡ Unloaded r → ⊥
+pub done-apart : (r : Refusal) → ◌≡◌ {A = Result (Unit {0}) Refusal} (Ok tt) (Err r) → ⊥
 done-apart r e = let z : ◌≡◌ {A = ℕ} 0 1 = cc in omega arith
 
 -- ---- a compare: what has its place is done
 
 module _ (table : List ℕ) (position : ℕ) where
-  pub compared-placed : compared table position ≡ by_place Unloaded Done (placed table position)
+  pub compared-placed : compared table position ≡ by_place Err (Ok tt) (placed table position)
   unfolding compared compare_refusals place_refusals
-  compared-placed = as_placed table position Unloaded Done
+  compared-placed = as_placed table position Err (Ok tt)
 
-  pub stop_1 : sound table ≡ false → compared table position ≡ Unloaded TableNotSound
-  stop_1 e = compared-placed ∙ ap (by_place Unloaded Done) (not-placed table position e)
+  pub stop_1 : sound table ≡ false → compared table position ≡ Err TableNotSound
+  stop_1 e = compared-placed ∙ ap (by_place Err (Ok tt)) (not-placed table position e)
 
 -- ---- a store: a compare's refusals, and after them those of the codes
 
 module _ (codes : List ℤ) where
-  abbrev pub of_codes : ℕ → Loaded
-  of_codes k = decide (drop k (count_row codes ∷ cleared_row codes ∷ [])) Unloaded Done
+  abbrev pub of_codes : ℕ → Result (Unit {0}) Refusal
+  of_codes k = decide (drop k (count_row codes ∷ cleared_row codes ∷ [])) Err (Ok tt)
 
-  pub stop_3 : (length codes ≡ cell_count → ⊥) → of_codes 0 ≡ Unloaded CountWrong
-  stop_3 h = holds_here _ _ Unloaded _ (ap not (ne_eqb _ _ h))
+  pub stop_3 : (length codes ≡ cell_count → ⊥) → of_codes 0 ≡ Err CountWrong
+  stop_3 h = holds_here _ _ Err _ (ap not (ne_eqb _ _ h))
 
   pub pass_3 : length codes ≡ cell_count → of_codes 0 ≡ of_codes 1
-  pass_3 e = holds_not _ _ Unloaded _ (ap not (eq-eqb _ _ e))
+  pass_3 e = holds_not _ _ Err _ (ap not (eq-eqb _ _ e))
 
-  pub stop_4 : not (all (λ code. not (is_cleared code)) codes) ≡ true → of_codes 1 ≡ Unloaded CodeCleared
-  stop_4 e = holds_here _ _ Unloaded _ e
+  pub stop_4 : not (all (λ code. not (is_cleared code)) codes) ≡ true → of_codes 1 ≡ Err CodeCleared
+  stop_4 e = holds_here _ _ Err _ e
 
-  pub pass_4 : not (all (λ code. not (is_cleared code)) codes) ≡ false → of_codes 1 ≡ Done
-  pass_4 e = holds_not _ _ Unloaded _ e ∙ none_left Unloaded Done
+  pub pass_4 : not (all (λ code. not (is_cleared code)) codes) ≡ false → of_codes 1 ≡ (Ok tt)
+  pass_4 e = holds_not _ _ Err _ e ∙ none_left Err (Ok tt)
 
   module _ (table : List ℕ) (position : ℕ) where
-    in_turn : stored table position codes ≡ decide (compare_refusals table position) Unloaded (of_codes 0)
+    in_turn : stored table position codes ≡ decide (compare_refusals table position) Err (of_codes 0)
     unfolding stored store_refusals compare_refusals
-    in_turn = decide_append (compare_refusals table position) (count_row codes ∷ cleared_row codes ∷ []) Unloaded Done
+    in_turn = decide_append (compare_refusals table position) (count_row codes ∷ cleared_row codes ∷ []) Err (Ok tt)
 
-    pub refused-before : {r : Refusal} → compared table position ≡ Unloaded r → stored table position codes ≡ Unloaded r
+    pub refused-before : {r : Refusal} → compared table position ≡ Err r → stored table position codes ≡ Err r
     unfolding compared
-    refused-before {r} e = in_turn ∙ refused_so (compare_refusals table position) Unloaded Done (of_codes 0) r (done-apart r) e
+    refused-before {r} e = in_turn ∙ refused_so (compare_refusals table position) Err (Ok tt) (of_codes 0) r (done-apart r) e
 
-    pub goes_on : compared table position ≡ Done → stored table position codes ≡ of_codes 0
+    pub goes_on : compared table position ≡ (Ok tt) → stored table position codes ≡ of_codes 0
     unfolding compared
-    goes_on e = in_turn ∙ passes (compare_refusals table position) Unloaded (of_codes 0) (has_passed (compare_refusals table position) Unloaded Done Done done-apart e)
+    goes_on e = in_turn ∙ passes (compare_refusals table position) Err (of_codes 0) (has_passed (compare_refusals table position) Err (Ok tt) (Ok tt) done-apart e)
 
 -- ---- a load
 

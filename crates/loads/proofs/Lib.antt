@@ -4,3 +4,5 @@ pub mod Place
 pub mod Keeps
 pub mod Halves
 pub mod Bytes
+pub mod Halved
+pub mod Cleared

@@ -5,5 +5,5 @@ mod judged;
 mod loads;
 mod numbers;
 
-pub use loads::{Loaded, compare, load, store};
+pub use loads::{compare, load, store};
 pub use numbers::load_number;

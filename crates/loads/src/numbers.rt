@@ -2,14 +2,14 @@
 ghost use Rattle.std.specs.Prelude.{◌≡◌};
 ghost use Rattle.loads.specs.Numbers.{load_number};
 
-use crate::loads::Loaded;
+use refusals::Refusal;
 
 // A refusal's number, or 0.
-pub fn load_number(loaded: Loaded) -> u8
+pub fn load_number(loaded: Result<(), Refusal>) -> u8
     ensures { result ≡ load_number loaded }
 {
     match loaded {
-        Loaded::Unloaded(refusal) => refusals::number_of(refusal),
-        Loaded::Done => 0,
+        Err(refusal) => refusals::number_of(refusal),
+        Ok(()) => 0,
     }
 }

@@ -1,4 +1,3 @@
-pub mod FourBits
 pub mod Measured
 pub mod Found
 pub mod Examples

@@ -1,8 +1,9 @@
 // One monitor's measurement in LPCM: what its cells violate, and what its record then is.
 ghost use Rattle.std.specs.Prelude.{◌≡◌, cond, ◌&&◌, ◌*◌, pos};
 ghost use Rattle.records.specs.Record.{cell_count, cells, last_cells, is_record};
+ghost use Rattle.thresholds.specs.Thresholds.{codes_of};
 ghost use Rattle.cells.specs.Cells.{code_in};
-ghost use Rattle.measuring.specs.Measuring.{cdv, masked, kinds, kinds_in, pending, found, measured, passes};
+ghost use Rattle.measuring.specs.Measuring.{cuv, cov, cdv, masked, kinds, kinds_in, pending, found, measured, passes};
 
 use cells::code_in;
 use monitor::remember;
@@ -10,18 +11,58 @@ use records::{
     CELL_COUNT, CELLS_PART, LAST_CELLS_PART, LPCM_FLAGS, RDCMCELLT, RDCMCFG, RDSTATC, RECORD_SIZE,
     byte_in,
 };
-use thresholds::{ResultCode, codes_of, lower_threshold, upper_threshold};
+use thresholds::{ResultCode, lower_threshold, upper_threshold};
+
+// What a code is held against, in codes: the two limits of the cells, and the step that one may fall or rise by.
+#[derive(Clone, Copy)]
+struct Limits {
+    low: ResultCode,
+    high: ResultCode,
+    step: i64,
+}
 
 // CDV in codes, 8 of them a step.
+#[tactic(auto, unfolding(crate::specs::Measuring::cdv), using(std::proofs::lemmas::Int::ints))]
 fn delta(rec: &[u8]) -> i64
     ensures { result ≡ pos (8 * cdv rec.now) }
 {
-    let low = byte_in(rec, RDCMCELLT, 3) as u16;
-    let high = byte_in(rec, RDCMCELLT, 4) as u16;
-    (8 * (low + high % 16 * 256)) as i64
+    let low = byte_in(rec, RDCMCELLT, 3);
+    let high = byte_in(rec, RDCMCELLT, 4);
+    i64::from(8 * u16::from_le_bytes([low, high % 16]))
+}
+
+impl Limits {
+    // Those of a record: CUV, COV and CDV.
+    #[tactic(auto, unfolding(crate::specs::Measuring::cuv, crate::specs::Measuring::cov))]
+    fn of(rec: &[u8]) -> Limits
+        ensures low { result.low ≡ codes_of (cuv rec.now) }
+        ensures high { result.high ≡ codes_of (cov rec.now) }
+        ensures step { result.step ≡ pos (8 * cdv rec.now) }
+    {
+        Limits {
+            low: lower_threshold(rec, RDCMCELLT).into(),
+            high: upper_threshold(rec, RDCMCELLT).into(),
+            step: delta(rec),
+        }
+    }
+
+    // The kinds that a code violates, as bits of CMF0. Differences in 64 bits, so that none is too large.
+    #[tactic(auto, using(laws::proofs::Counts::flag_at_most_one))]
+    fn kinds(self, code: ResultCode, last: ResultCode) -> u8
+        ensures { result ≡ kinds code.0 last.0 self.low.0 self.high.0 self.step }
+    {
+        let now = i64::from(code.0);
+        let was = i64::from(last.0);
+        let below = u8::from(code < self.low);
+        let above = u8::from(self.high < code);
+        let fell = u8::from(self.step < was - now);
+        let rose = u8::from(self.step < now - was);
+        below + above * 2 + fell * 4 + rose * 8
+    }
 }
 
 // CMM_C: is the cell left out?
+#[tactic(auto, unfolding(crate::specs::Measuring::masked, laws::specs::Bits::bit_at, laws::specs::Bits::odd))]
 fn is_masked(rec: &[u8], c: usize) -> bool
     ensures { result ≡ masked rec.now c }
 {
@@ -29,32 +70,16 @@ fn is_masked(rec: &[u8], c: usize) -> bool
     (byte >> (c % 8)) % 2 == 1
 }
 
-// The kinds that a code violates, as bits of CMF0. In 64 bits, so that no difference is too large.
-fn kinds(code: ResultCode, last: ResultCode, low: ResultCode, high: ResultCode, step: i64) -> u8
-    ensures { result ≡ kinds code.0 last.0 low.0 high.0 step }
-{
-    let now = code.0 as i64;
-    let was = last.0 as i64;
-    let below = (now < low.0 as i64) as u8;
-    let above = ((high.0 as i64) < now) as u8;
-    let fell = (step < was - now) as u8;
-    let rose = (step < now - was) as u8;
-    below + above * 2 + fell * 4 + rose * 8
-}
-
-// Those of a cell: none where it is left out.
-fn kinds_of(rec: &[u8], c: usize, low: ResultCode, high: ResultCode, step: i64) -> u8
-    ensures { result ≡ cond (masked rec.now c) 0 (kinds (code_in cells rec.now c).0 (code_in last_cells rec.now c).0 low.0 high.0 step) }
+// The kinds that a cell violates: none where it is left out.
+fn kinds_of(rec: &[u8], c: usize, limits: Limits) -> u8
+    ensures { result ≡ cond (masked rec.now c) 0 (kinds (code_in cells rec.now c).0 (code_in last_cells rec.now c).0 limits.low.0 limits.high.0 limits.step) }
 {
     if is_masked(rec, c) {
         return 0;
     }
-    kinds(
+    limits.kinds(
         code_in(rec, CELLS_PART, c),
         code_in(rec, LAST_CELLS_PART, c),
-        low,
-        high,
-        step,
     )
 }
 
@@ -62,19 +87,16 @@ fn kinds_of(rec: &[u8], c: usize, low: ResultCode, high: ResultCode, step: i64) 
 fn kinds_in(rec: &[u8]) -> u8
     ensures { result ≡ kinds_in rec.now cell_count }
 {
-    let low = codes_of(lower_threshold(rec, RDCMCELLT));
-    let high = codes_of(upper_threshold(rec, RDCMCELLT));
-    let step = delta(rec);
+    let limits = Limits::of(rec);
     let mut all = 0;
-    let mut c = 0;
-    while c < CELL_COUNT {
-        all = all | kinds_of(rec, c, low, high, step);
-        c += 1;
+    for c in 0..CELL_COUNT {
+        all |= kinds_of(rec, c, limits);
     }
     all
 }
 
 // Is a diagnostic pending in status C?
+#[tactic(auto, unfolding(crate::specs::Measuring::pending))]
 fn is_pending(rec: &[u8]) -> bool
     ensures { result ≡ pending rec.now }
 {
@@ -84,6 +106,7 @@ fn is_pending(rec: &[u8]) -> bool
 }
 
 // What a measurement finds: a diagnostic that is pending makes all eight.
+#[tactic(auto, unfolding(crate::specs::Measuring::found))]
 fn found(rec: &[u8]) -> u8
     ensures { result ≡ found rec.now }
 {

@@ -9,9 +9,10 @@ use Rattle.pec.specs.Remainder.{once, step, remainder}
 use Rattle.pec.specs.Words.{two_bytes, word_at, pec15, command_check, data_pec, seal, sealed_right}
 use Rattle.refusals.specs.declared.Refusal.TheVariants.{LengthWrong}
 use Rattle.refusals.specs.Order.{decide}
-use Rattle.messages.specs.declared.verdicts.Verdict.TheVariants.{Refused, Passed, Failed, Damaged, TimedOut}
+use Rattle.messages.specs.declared.verdicts.Verdict.TheVariants.{Passed, Failed, Damaged, TimedOut}
 use Rattle.messages.specs.Messages.{message_head, message, count_in, flags_in, message_right, is_pass}
 use Rattle.messages.specs.Verdicts.{verdict_refusals, verdict_of, verdict}
+use Rattle.std.specs.Prelude.{Err, Ok}
 
 -- ---- messages
 
@@ -50,52 +51,52 @@ example_command = refl
 -- ---- verdicts
 
 -- nothing: it is late, or the length is wrong
-pub example_none-late : verdict [] true ≡ TimedOut
+pub example_none-late : verdict [] true ≡ Ok TimedOut
 unfolding verdict verdict_refusals verdict_of decide
 example_none-late = refl
 
-pub example_none : verdict [] false ≡ Refused LengthWrong
+pub example_none : verdict [] false ≡ Err LengthWrong
 unfolding verdict verdict_refusals verdict_of decide
 example_none = refl
 
 -- a byte too few, and one too many, late or not
-pub example_seven : verdict (0x00 ∷ 0x43 ∷ 0x47 ∷ 0xB2 ∷ 0x42 ∷ 0x00 ∷ 0x03 ∷ []) false ≡ Refused LengthWrong
+pub example_seven : verdict (0x00 ∷ 0x43 ∷ 0x47 ∷ 0xB2 ∷ 0x42 ∷ 0x00 ∷ 0x03 ∷ []) false ≡ Err LengthWrong
 unfolding verdict verdict_refusals verdict_of decide
 example_seven = refl
 
-pub example_seven_late : verdict (0x00 ∷ 0x43 ∷ 0x47 ∷ 0xB2 ∷ 0x42 ∷ 0x00 ∷ 0x03 ∷ []) true ≡ Refused LengthWrong
+pub example_seven_late : verdict (0x00 ∷ 0x43 ∷ 0x47 ∷ 0xB2 ∷ 0x42 ∷ 0x00 ∷ 0x03 ∷ []) true ≡ Err LengthWrong
 unfolding verdict verdict_refusals verdict_of decide
 example_seven_late = refl
 
-pub example_nine : verdict (0x00 ∷ 0x43 ∷ 0x47 ∷ 0xB2 ∷ 0x42 ∷ 0x00 ∷ 0x03 ∷ 0x94 ∷ 0x00 ∷ []) false ≡ Refused LengthWrong
+pub example_nine : verdict (0x00 ∷ 0x43 ∷ 0x47 ∷ 0xB2 ∷ 0x42 ∷ 0x00 ∷ 0x03 ∷ 0x94 ∷ 0x00 ∷ []) false ≡ Err LengthWrong
 unfolding verdict verdict_refusals verdict_of decide
 example_nine = refl
 
-pub example_nine_late : verdict (0x00 ∷ 0x43 ∷ 0x47 ∷ 0xB2 ∷ 0x42 ∷ 0x00 ∷ 0x03 ∷ 0x94 ∷ 0x00 ∷ []) true ≡ Refused LengthWrong
+pub example_nine_late : verdict (0x00 ∷ 0x43 ∷ 0x47 ∷ 0xB2 ∷ 0x42 ∷ 0x00 ∷ 0x03 ∷ 0x94 ∷ 0x00 ∷ []) true ≡ Err LengthWrong
 unfolding verdict verdict_refusals verdict_of decide
 example_nine_late = refl
 
 -- eight bytes: passed, one too many on the count, a flag, and a bit of the check turned over
-pub example_passed : verdict (0x00 ∷ 0x43 ∷ 0x47 ∷ 0xB2 ∷ 0x42 ∷ 0x00 ∷ 0x03 ∷ 0x94 ∷ []) false ≡ Passed
+pub example_passed : verdict (0x00 ∷ 0x43 ∷ 0x47 ∷ 0xB2 ∷ 0x42 ∷ 0x00 ∷ 0x03 ∷ 0x94 ∷ []) false ≡ Ok Passed
 unfolding verdict verdict_refusals verdict_of decide message_right message_head same sealed_right word_at two_bytes command_check pec15 data_pec remainder step once bits_of_bytes bits_of odd ◌⊕◌ xor is_pass count_in flags_in
 example_passed = refl
 
-pub example_failed_count : verdict (0x00 ∷ 0x43 ∷ 0x47 ∷ 0xB2 ∷ 0x43 ∷ 0x00 ∷ 0x03 ∷ 0x06 ∷ []) false ≡ Failed 0x43 0x00
+pub example_failed_count : verdict (0x00 ∷ 0x43 ∷ 0x47 ∷ 0xB2 ∷ 0x43 ∷ 0x00 ∷ 0x03 ∷ 0x06 ∷ []) false ≡ Ok (Failed 0x43 0x00)
 unfolding verdict verdict_refusals verdict_of decide message_right message_head same sealed_right word_at two_bytes command_check pec15 data_pec remainder step once bits_of_bytes bits_of odd ◌⊕◌ xor is_pass count_in flags_in
 example_failed_count = refl
 
-pub example_failed_flags : verdict (0x00 ∷ 0x43 ∷ 0x47 ∷ 0xB2 ∷ 0x42 ∷ 0x01 ∷ 0x00 ∷ 0xA3 ∷ []) false ≡ Failed 0x42 0x01
+pub example_failed_flags : verdict (0x00 ∷ 0x43 ∷ 0x47 ∷ 0xB2 ∷ 0x42 ∷ 0x01 ∷ 0x00 ∷ 0xA3 ∷ []) false ≡ Ok (Failed 0x42 0x01)
 unfolding verdict verdict_refusals verdict_of decide message_right message_head same sealed_right word_at two_bytes command_check pec15 data_pec remainder step once bits_of_bytes bits_of odd ◌⊕◌ xor is_pass count_in flags_in
 example_failed_flags = refl
 
-pub example_damaged : verdict (0x00 ∷ 0x43 ∷ 0x47 ∷ 0xB2 ∷ 0x42 ∷ 0x00 ∷ 0x03 ∷ 0x95 ∷ []) false ≡ Damaged
+pub example_damaged : verdict (0x00 ∷ 0x43 ∷ 0x47 ∷ 0xB2 ∷ 0x42 ∷ 0x00 ∷ 0x03 ∷ 0x95 ∷ []) false ≡ Ok Damaged
 unfolding verdict verdict_refusals verdict_of decide message_right message_head same sealed_right word_at two_bytes command_check pec15 data_pec remainder step once bits_of_bytes bits_of odd ◌⊕◌ xor is_pass count_in flags_in
 example_damaged = refl
 
-pub example_damaged_late : verdict (0x00 ∷ 0x43 ∷ 0x47 ∷ 0xB2 ∷ 0x42 ∷ 0x00 ∷ 0x03 ∷ 0x95 ∷ []) true ≡ TimedOut
+pub example_damaged_late : verdict (0x00 ∷ 0x43 ∷ 0x47 ∷ 0xB2 ∷ 0x42 ∷ 0x00 ∷ 0x03 ∷ 0x95 ∷ []) true ≡ Ok TimedOut
 unfolding verdict verdict_refusals verdict_of decide
 example_damaged_late = refl
 
-pub example_passed-late : verdict (0x00 ∷ 0x43 ∷ 0x47 ∷ 0xB2 ∷ 0x42 ∷ 0x00 ∷ 0x03 ∷ 0x94 ∷ []) true ≡ TimedOut
+pub example_passed-late : verdict (0x00 ∷ 0x43 ∷ 0x47 ∷ 0xB2 ∷ 0x42 ∷ 0x00 ∷ 0x03 ∷ 0x94 ∷ []) true ≡ Ok TimedOut
 unfolding verdict verdict_refusals verdict_of decide
 example_passed-late = refl

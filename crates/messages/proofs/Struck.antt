@@ -7,6 +7,7 @@ use mathlib.Core.List.{List, ◌++◌}
 use Prim.Native.Nat.{ℕ}
 use native.Mathlib.Omega.{arith}
 use lib.ListN.{length, take, drop, length-drop, take-append-drop}
+use Rattle.std.specs.Prelude.{Ok}
 use Rattle.pec.specs.Words.{sealed_right}
 use Rattle.pec.specs.Spikes.{Spike}
 use Rattle.pec.proofs.Spikes.{sealed_hit, spike-long, spike-some, spike-drop}
@@ -40,13 +41,13 @@ module _ (sent came : List ℕ) (right : message_right sent ≡ true) where
       not_both (sealed_right 2 (drop 4 came)) (right-own came still) (sealed_hit 2 struck (right-own sent right)))
 
   -- the verdict on eight such bytes. A spike on the last four leaves as many as were sent
-  pub damaged_by-command : Spike 15 (take 4 sent) (take 4 came) → length came ≡ message_size → verdict came false ≡ Damaged
-  damaged_by-command s long = said came false Damaged (refl, long, message_hit_command s)
+  pub damaged_by-command : Spike 15 (take 4 sent) (take 4 came) → length came ≡ message_size → verdict came false ≡ Ok Damaged
+  damaged_by-command s long = said came false (Ok Damaged) (refl, long, message_hit_command s)
 
-  pub damaged_by_data : Spike 10 (drop 4 sent) (drop 4 came) → verdict came false ≡ Damaged
+  pub damaged_by_data : Spike 10 (drop 4 sent) (drop 4 came) → verdict came false ≡ Ok Damaged
   damaged_by_data s =
       let long : length came ≡ message_size = omega (arith, right-long sent right, spike-long s, length-drop 4 came, length-drop 4 sent) in
-      said came false Damaged (refl, long, message_hit_data s)
+      said came false (Ok Damaged) (refl, long, message_hit_data s)
 
-  pub damaged_by-spike : Spike 10 sent came → verdict came false ≡ Damaged
-  damaged_by-spike s = said came false Damaged (refl, spike-long s ∙ right-long sent right, message_hit s)
+  pub damaged_by-spike : Spike 10 sent came → verdict came false ≡ Ok Damaged
+  damaged_by-spike s = said came false (Ok Damaged) (refl, spike-long s ∙ right-long sent right, message_hit s)

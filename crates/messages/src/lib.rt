@@ -5,4 +5,4 @@ mod messages;
 mod verdicts;
 
 pub use messages::{MESSAGE_SIZE, message, message_right};
-pub use verdicts::{Verdict, verdict_on};
+pub use verdicts::{PASS_COUNT, Verdict, verdict_on};

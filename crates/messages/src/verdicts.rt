@@ -6,10 +6,9 @@ ghost use Rattle.messages.specs.Verdicts.{verdict_of, verdict};
 use crate::messages::{MESSAGE_SIZE, message_right};
 use refusals::Refusal;
 
-// What comes of the question.
-#[derive(Clone, Copy)]
+// How a heartbeat ended.
+#[derive(Clone, Copy, Debug, PartialEq, Eq)]
 pub enum Verdict {
-    Refused(Refusal),
     Passed,
     Failed { count: u8, flags: u8 },
     Damaged,
@@ -17,9 +16,10 @@ pub enum Verdict {
 }
 
 // The final pass value: what is left of the count where all have passed, and no flag.
-const PASS_COUNT: u8 = 0x42;
+pub const PASS_COUNT: u8 = 0x42;
 
 // Of eight bytes.
+#[tactic(auto, unfolding(crate::specs::Verdicts::verdict_of, crate::specs::Messages::count_in, crate::specs::Messages::flags_in, crate::specs::Messages::is_pass))]
 fn of_eight(bytes: &[u8], ran_out: bool) -> Verdict
     requires { length bytes.now ≡ message_size }
     ensures { result ≡ verdict_of bytes.now ran_out }
@@ -32,33 +32,24 @@ fn of_eight(bytes: &[u8], ran_out: bool) -> Verdict
     }
     let count = bytes[4];
     let flags = bytes[5];
-    if count != PASS_COUNT {
-        return Verdict::Failed {
-            count: count,
-            flags: flags,
-        };
-    }
-    if flags != 0 {
-        return Verdict::Failed {
-            count: count,
-            flags: flags,
-        };
+    if count != PASS_COUNT || flags != 0 {
+        return Verdict::Failed { count, flags };
     }
     Verdict::Passed
 }
 
 // How did a heartbeat end, by the bytes that came and whether the time ran out?
-pub fn verdict_on(bytes: &[u8], ran_out: bool) -> Verdict
+pub fn verdict_on(bytes: &[u8], ran_out: bool) -> Result<Verdict, Refusal>
     ensures { result ≡ verdict bytes.now ran_out }
 {
     if bytes.len() == MESSAGE_SIZE {
-        return of_eight(bytes, ran_out);
+        return Ok(of_eight(bytes, ran_out));
     }
     if !ran_out {
-        return Verdict::Refused(Refusal::LengthWrong);
+        return Err(Refusal::LengthWrong);
     }
     if bytes.len() != 0 {
-        return Verdict::Refused(Refusal::LengthWrong);
+        return Err(Refusal::LengthWrong);
     }
-    Verdict::TimedOut
+    Ok(Verdict::TimedOut)
 }

@@ -1,5 +1,4 @@
--- What a monitor keeps of a write, by whether it accepts it, and what `act` promises, by whether the slice is a
--- record.
+-- What a monitor keeps of a write, by whether it accepts it.
 -- Assumes nothing.
 use mathlib.Core.Path.{◌≡◌, sym, ap, ◌∙◌}
 use mathlib.Core.Bool.{Bool, true, false, cond, not, ◌&&◌}
@@ -13,13 +12,11 @@ use Rattle.laws.proofs.Counts.{and-false}
 use Rattle.laws.proofs.Tests.{both_first, both_second}
 use Rattle.pec.specs.Words.{sealed_right}
 use Rattle.records.specs.declared.commands.Write.{Write}
-use Rattle.records.specs.declared.commands.Command.{Command}
 use Rattle.records.specs.declared.commands.Command.TheVariants.{Writes}
 use Rattle.records.specs.Record.{unlocked, record_size, in_lpcm, byte_of, is_record}
 use Rattle.records.specs.Commands.{data_size, width_of}
 use Rattle.writes.specs.Writes.{rules_of, by_rules, opens, written}
-use Rattle.monitor.specs.Effects.{locked, counted, good_for, accepts, takes, keeps}
-use Rattle.records.proofs.Answers.{is-record, no_record}
+use Rattle.monitor.specs.Effects.{locked, counted, good_for, accepts, keeps}
 use Rattle.writes.proofs.Written.{enough_for_record}
 
 -- ---- one's own bytes
@@ -120,21 +117,3 @@ module _ (c : Write) (own r : List ℕ) where
 
     pub kept-bad : took ≡ false → begun ≡ keeps (Writes c) own r
     kept-bad e = begun_by e ∙ sym (keeps-bad (sym by ∙ e))
-
--- ---- a slice that is a record, and one that is not
-
-module _ (command : Command) (own r : List ℕ) where
-  -- what a call of `act` promises, where it is a record
-  pub acted : {took : Bool} {after : List ℕ} → length r ≡ record_size → took ≡ takes command own r → after ≡ keeps command own r
-      → (took ≡ is_record r && takes command own r) × (after ≡ cond (is_record r) (keeps command own r) r)
-  acted h t a = (
-    t ∙ ap (λ (b : Bool). b && takes command own r) (sym (is-record r h)),
-    a ∙ ap (λ (b : Bool). cond b (keeps command own r) r) (sym (is-record r h)),
-  )
-
-  -- and where it is none
-  pub not-acted : (length r ≡ record_size → ⊥) → (false ≡ is_record r && takes command own r) × (r ≡ cond (is_record r) (keeps command own r) r)
-  not-acted h = (
-    ap (λ (b : Bool). b && takes command own r) (sym (no_record r h)),
-    ap (λ (b : Bool). cond b (keeps command own r) r) (sym (no_record r h)),
-  )

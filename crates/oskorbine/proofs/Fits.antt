@@ -20,9 +20,6 @@ use Rattle.records.specs.declared.commands.Command.{Command}
 use Rattle.records.specs.Record.{record_size}
 use Rattle.records.specs.Commands.{payload_size}
 use Rattle.monitor.specs.Effects.{takes}
-use Rattle.chain.specs.declared.frames.Answer.TheVariants.{Refused}
-use Rattle.loads.specs.declared.loads.Loaded.{Loaded}
-use Rattle.loads.specs.declared.loads.Loaded.TheVariants.{Unloaded, Done}
 use Rattle.judging.specs.Table.{monitors, sound}
 use Rattle.judging.specs.Refusals.{command_in}
 use Rattle.serving.specs.Served.{takers, payloads_in, taken_by}
@@ -31,9 +28,7 @@ use Rattle.judging.proofs.Soundness.{both, is_sound}
 use Rattle.refusals.proofs.Decided.{by-passing}
 use Rattle.priorities.specs.declared.outputs.Events.{Events}
 use Rattle.priorities.specs.Outputs.{the_cells, count_on}
-use Rattle.discharge.specs.declared.question.Discharged.TheVariants.{Refused as Unasked}
 use Rattle.discharge.specs.Question.{discharge_refusals, discharged}
-use Rattle.releasing.specs.declared.looks.Looked.TheVariants.{Refused as Unseen}
 use Rattle.clock_state.specs.declared.state.Kind.{Kind}
 use Rattle.clock_state.specs.declared.state.Kind.TheVariants.{Fills, Drains, Still}
 use Rattle.clocking.specs.Clock.{far, leaving, answered}
@@ -45,15 +40,17 @@ use Rattle.clocking.specs.Bytes.{windows_in, clock_of}
 use Rattle.clocking.proofs.Known.{reply_short}
 use Rattle.clocking.proofs.Register.{come, leaves-first, fills_at, drains_at, still_at}
 use Rattle.messages.specs.Messages.{message_size}
-use Rattle.passing.specs.declared.operations.Sent.{Sent}
-use Rattle.passing.specs.declared.operations.Sent.TheVariants.{Unsent, Nothing as NothingSent, TowardsA, TowardsB}
 use Rattle.passing.specs.declared.operations.Relayed.{Relayed}
-use Rattle.passing.specs.declared.operations.Relayed.TheVariants.{Unrelayed, Stopped, SentOn}
+use Rattle.passing.specs.declared.operations.Relayed.TheVariants.{Stopped, SentOn}
 use Rattle.passing.specs.declared.operations.TimedOut.{TimedOut as Timed}
-use Rattle.passing.specs.declared.operations.TimedOut.TheVariants.{Untimed, NoTimeoutMonitor, RanOut}
+use Rattle.passing.specs.declared.operations.TimedOut.TheVariants.{NoTimeoutMonitor, RanOut}
 use Rattle.packing.specs.Packed.{Fit, accepted}
 use Rattle.packing.proofs.Packed.{accepted-fits, refused-fits}
 use Rattle.oskorbine.specs.Answers.{frame_parts, load_parts, discharged_parts, sent_parts, relayed_parts, timed_parts, looked_parts}
+use Rattle.std.specs.Prelude.{Option, Some, None, Result, Ok, Err}
+use Rattle.refusals.specs.declared.Refusal.{Refusal}
+use Rattle.passing.specs.declared.operations.End.{End}
+use Rattle.passing.specs.declared.operations.End.TheVariants.{A, B}
 
 -- ---- a frame and a release
 
@@ -64,7 +61,7 @@ few-taken c n table frame = omega (arith, count-along_most (λ r own. takes c ow
 pub frame-fits : (table frame : List ℕ) (room : ℕ) → Fit (frame_parts (answer table frame room))
 unfolding answer frame_refusals
 frame-fits table frame room =
-    by-passing (λ x. Fit (frame_parts x)) (frame_refusals table frame room) Refused _ refused-fits
+    by-passing (λ x. Fit (frame_parts x)) (frame_refusals table frame room) Err _ refused-fits
     (λ none. let few = (is_sound table (not-false (sound table) none.0)).few in
     accepted-fits _ _ (omega (arith, few, few-taken (command_in frame) (monitors table) table frame)) (omega (arith, few, reply_short (command_in frame) (monitors table))))
 
@@ -77,7 +74,7 @@ few_on events phase r = count_most _ the_cells
 pub discharge_fits : (table : List ℕ) (position : ℕ) (events : Events) (phase room : ℕ) → Fit (discharged_parts (discharged table position events phase room))
 unfolding discharged
 discharge_fits table position events phase room =
-    by-passing (λ x. Fit (discharged_parts x)) (discharge_refusals table position phase room) Unasked _ refused-fits
+    by-passing (λ x. Fit (discharged_parts x)) (discharge_refusals table position phase room) Err _ refused-fits
     (λ none. accepted-fits _ _ (omega (arith, few_on events phase (row_at record_size (position - 1) table))) (omega arith))
 
 -- neither of the two holds
@@ -88,7 +85,7 @@ neither false b e = refl
 pub release_fits : (s table : List ℕ) → Fit (frame_parts (released (clock_of s) table))
 unfolding released release_refusals taken_of takers
 release_fits s table =
-    by-passing (λ x. Fit (frame_parts x)) (release_refusals (clock_of s) table) Refused _ refused-fits
+    by-passing (λ x. Fit (frame_parts x)) (release_refusals (clock_of s) table) Err _ refused-fits
     (λ none. let few = (is_sound table (not-false (sound table) (neither _ _ none.0))).few in
     let taken = count-along_most (λ r own. takes (command_in (clock_of s).head) own r) (rows record_size (monitors table) table) (clock_of s).windows in
     accepted-fits _ _ (omega (arith, taken, few, length-rows record_size (monitors table) table))
@@ -96,27 +93,27 @@ release_fits s table =
 
 -- ---- a load
 
-pub load_fits : (l : Loaded) → Fit (load_parts l)
-load_fits (Unloaded r) = refused-fits r
-load_fits Done = accepted-fits 0 0 (omega arith) (omega arith)
+pub load_fits : (l : Result (Unit {0}) Refusal) → Fit (load_parts l)
+load_fits (Err r) = refused-fits r
+load_fits (Ok tt) = accepted-fits 0 0 (omega arith) (omega arith)
 
 -- ---- a heartbeat
 
-pub sent_fits : (s : Sent) → Fit (sent_parts s)
-sent_fits (Unsent r) = refused-fits r
-sent_fits NothingSent = accepted-fits 0 0 (omega arith) (omega arith)
-sent_fits TowardsA = accepted-fits 1 message_size (omega arith) (omega arith)
-sent_fits TowardsB = accepted-fits 2 message_size (omega arith) (omega arith)
+pub sent_fits : (s : Result (Option End) Refusal) → Fit (sent_parts s)
+sent_fits (Err r) = refused-fits r
+sent_fits (Ok None) = accepted-fits 0 0 (omega arith) (omega arith)
+sent_fits (Ok (Some A)) = accepted-fits 1 message_size (omega arith) (omega arith)
+sent_fits (Ok (Some B)) = accepted-fits 2 message_size (omega arith) (omega arith)
 
-pub relayed-fits : (m : Relayed) → Fit (relayed_parts m)
-relayed-fits (Unrelayed r) = refused-fits r
-relayed-fits Stopped = accepted-fits 0 0 (omega arith) (omega arith)
-relayed-fits SentOn = accepted-fits 1 message_size (omega arith) (omega arith)
+pub relayed-fits : (m : Result Relayed Refusal) → Fit (relayed_parts m)
+relayed-fits (Err r) = refused-fits r
+relayed-fits (Ok Stopped) = accepted-fits 0 0 (omega arith) (omega arith)
+relayed-fits (Ok SentOn) = accepted-fits 1 message_size (omega arith) (omega arith)
 
-pub timed_fits : (t : Timed) → Fit (timed_parts t)
-timed_fits (Untimed r) = refused-fits r
-timed_fits NoTimeoutMonitor = accepted-fits 0 0 (omega arith) (omega arith)
-timed_fits RanOut = accepted-fits 1 0 (omega arith) (omega arith)
+pub timed_fits : (t : Result Timed Refusal) → Fit (timed_parts t)
+timed_fits (Err r) = refused-fits r
+timed_fits (Ok NoTimeoutMonitor) = accepted-fits 0 0 (omega arith) (omega arith)
+timed_fits (Ok RanOut) = accepted-fits 1 0 (omega arith) (omega arith)
 
 -- ---- a look
 
@@ -131,7 +128,7 @@ short Still seen n k s wide h = omega (arith, ap length (still_at seen n k (regi
 pub look_fits : (s : List ℕ) (position room : ℕ) → Fit (looked_parts (looked (clock_of s) position room))
 unfolding looked look_refusals window_of clock_of
 look_fits s position room =
-    by-passing (λ x. Fit (looked_parts x)) (look_refusals (clock_of s) position room) Unseen _ refused-fits
+    by-passing (λ x. Fit (looked_parts x)) (look_refusals (clock_of s) position room) Err _ refused-fits
     (λ none. let there = both (leb 1 position) (leb position (chained_in s)) (not-false _ none.0) in
     let first = leb-true 1 position there.0 in
     let last = leb-true position (chained_in s) there.1 in

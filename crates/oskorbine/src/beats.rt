@@ -18,39 +18,48 @@ ghost use Rattle.oskorbine.specs.Answers.{sent_parts, relayed_parts, timed_parts
 
 use messages::MESSAGE_SIZE;
 use packing::{accepted, refused};
-use passing::{Relayed, Sent, TimedOut};
+use passing::{End, Relayed, TimedOut};
+use refusals::Refusal;
 
 // 1 for port A, 2 for port B, with the bytes of a message.
-fn sent_answer(sent: Sent) -> u32
+fn sent_answer(sent: Result<Option<End>, Refusal>) -> u32
     ensures { result ≡ packed (sent_parts sent) }
 {
     match sent {
-        Sent::Unsent(refusal) => refused(refusal),
-        Sent::Nothing => accepted(0, 0),
-        Sent::TowardsA => accepted(1, MESSAGE_SIZE as u16),
-        Sent::TowardsB => accepted(2, MESSAGE_SIZE as u16),
+        Err(refusal) => refused(refusal),
+        Ok(end) => match end {
+            None => accepted(0, 0),
+            Some(end) => match end {
+                End::A => accepted(1, MESSAGE_SIZE as u16),
+                End::B => accepted(2, MESSAGE_SIZE as u16),
+            },
+        },
     }
 }
 
 // 1 where it is sent on, with the bytes of a message.
-fn relayed_answer(relayed: Relayed) -> u32
+fn relayed_answer(relayed: Result<Relayed, Refusal>) -> u32
     ensures { result ≡ packed (relayed_parts relayed) }
 {
     match relayed {
-        Relayed::Unrelayed(refusal) => refused(refusal),
-        Relayed::Stopped => accepted(0, 0),
-        Relayed::SentOn => accepted(1, MESSAGE_SIZE as u16),
+        Err(refusal) => refused(refusal),
+        Ok(relayed) => match relayed {
+            Relayed::Stopped => accepted(0, 0),
+            Relayed::SentOn => accepted(1, MESSAGE_SIZE as u16),
+        },
     }
 }
 
 // 1 at a timeout monitor in LPCM.
-fn timed_answer(timed: TimedOut) -> u32
+fn timed_answer(timed: Result<TimedOut, Refusal>) -> u32
     ensures { result ≡ packed (timed_parts timed) }
 {
     match timed {
-        TimedOut::Untimed(refusal) => refused(refusal),
-        TimedOut::NoTimeoutMonitor => accepted(0, 0),
-        TimedOut::RanOut => accepted(1, 0),
+        Err(refusal) => refused(refusal),
+        Ok(timed) => match timed {
+            TimedOut::NoTimeoutMonitor => accepted(0, 0),
+            TimedOut::RanOut => accepted(1, 0),
+        },
     }
 }
 

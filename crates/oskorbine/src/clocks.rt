@@ -11,7 +11,6 @@ ghost use Rattle.oskorbine.specs.Answers.{frame_parts, looked_parts};
 use crate::answers::frame_answer;
 use clock_state::STATE_SIZE;
 use packing::{accepted, refused};
-use releasing::Looked;
 
 // Before a frame, whatever the bytes were: a frame that had begun is given up.
 pub fn osk_clock_start(state: &mut [u8; STATE_SIZE])
@@ -35,8 +34,8 @@ pub fn osk_clock_window(state: &[u8; STATE_SIZE], position: usize, out: &mut [u8
     ensures out_after { out.new ≡ out_after (clock_of state.now) position out.old }
 {
     match releasing::look(state, position, out) {
-        Looked::Refused(refusal) => refused(refusal),
-        Looked::Holds(size) => accepted(0, size as u16),
+        Err(refusal) => refused(refusal),
+        Ok(size) => accepted(0, size as u16),
     }
 }
 

@@ -5,7 +5,7 @@ ghost use Rattle.oskorbine.specs.Events.{events_in};
 ghost use Rattle.packing.specs.Packed.{packed};
 ghost use Rattle.oskorbine.specs.Answers.{discharged_parts};
 
-use discharge::{Discharged, discharge};
+use discharge::discharge;
 use packing::{accepted, refused};
 use priorities::Events;
 
@@ -27,7 +27,7 @@ pub fn osk_discharge(table: &[u8], position: usize, events: u8, phase: u8, out: 
     ensures out_after { out.new ≡ outputs_after table.now position (events_in events) phase out.old }
 {
     match discharge(table, position, events_in(events), phase, out) {
-        Discharged::Refused(refusal) => refused(refusal),
-        Discharged::On(outputs) => accepted(outputs as u8, 0),
+        Err(refusal) => refused(refusal),
+        Ok(outputs) => accepted(outputs as u8, 0),
     }
 }

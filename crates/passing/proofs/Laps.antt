@@ -11,13 +11,13 @@ use Rattle.laws.specs.Rows.{row_at}
 use Rattle.laws.proofs.Rows.{row_fits}
 use Rattle.laws.specs.Tables.{tabulate}
 use Rattle.records.specs.Record.{record_size}
-use Rattle.records.specs.Commands.{most_monitors}
 use Rattle.messages.specs.Messages.{message}
 use Rattle.heartbeats.specs.declared.steps.Beat.{Beat}
-use Rattle.heartbeats.specs.declared.steps.Beat.TheVariants.{Silent, Sends}
 use Rattle.heartbeats.specs.Steps.{answers}
 use Rattle.passing.specs.Hops.{bytes_sent, hops, behind, way, hop_sends, hop_leaves, sent_along, left_along}
 use Rattle.passing.proofs.Silent.{none-along, length_hop, behind_within}
+use Rattle.std.specs.Prelude.{Option, None}
+use Rattle.heartbeats.specs.Steps.{sends}
 
 -- the places from i on
 abbrev rest : Bool → ℕ → ℕ → ℕ → List ℕ
@@ -64,12 +64,12 @@ module _ (toA : Bool) (n k count flags : ℕ) (table : List ℕ) where
 
     -- at the next monitor
     module _ (there : k < n) (h : i < hops toA n k) {j : ℕ} (place : j ≡ behind toA k i) where
-      pub reachable : n ≤ most_monitors → (j < most_monitors) × (j * record_size + record_size ≤ length now)
-      reachable few =
+      pub reachable : j * record_size + record_size ≤ length now
+      reachable =
           let within : j < n = subst⁻¹ (λ (x : ℕ). x < n) place (behind_within toA n k i there h) in
-          (omega arith, row_fits record_size within (omega (arith, lap.whole)))
+          row_fits record_size within (omega (arith, lap.whole))
 
-      module _ {bytes after : List ℕ} {beat : Beat} (own : bytes ≡ message c f) (e : beat ≡ answers bytes (row_at record_size j now)) (l : after ≡ hop_leaves j bytes now) where
+      module _ {bytes after : List ℕ} {beat : Option Beat} (own : bytes ≡ message c f) (e : beat ≡ answers bytes (row_at record_size j now)) (l : after ≡ hop_leaves j bytes now) where
         its-table : after ≡ hop_leaves (behind toA k i) (message c f) now
         its-table = l ∙ ap₂ (λ (x : ℕ) (b : List ℕ). hop_leaves x b now) place own
 
@@ -82,14 +82,14 @@ module _ (toA : Bool) (n k count flags : ℕ) (table : List ℕ) where
         sent-on : sent_along (rest toA n k (suc i)) (bytes_sent beat) after ≡ sent_along (way toA n k) (message count flags) table
         unfolding tabulate sent_along hop_sends
         sent-on =
-            ap₂ (λ (b : Beat) (t : List ℕ). sent_along (rest toA n k (suc i)) (bytes_sent b) t) its_beat its-table
+            ap₂ (λ (b : Option Beat) (t : List ℕ). sent_along (rest toA n k (suc i)) (bytes_sent b) t) its_beat its-table
             ∙ ap (λ (m : ℕ). sent_along (tabulate (behind toA k) i m) (message c f) now) (sym one_more_lem)
             ∙ lap.sent
 
         left-on : left_along (rest toA n k (suc i)) (bytes_sent beat) after ≡ left_along (way toA n k) (message count flags) table
         unfolding tabulate left_along hop_sends
         left-on =
-            ap₂ (λ (b : Beat) (t : List ℕ). left_along (rest toA n k (suc i)) (bytes_sent b) t) its_beat its-table
+            ap₂ (λ (b : Option Beat) (t : List ℕ). left_along (rest toA n k (suc i)) (bytes_sent b) t) its_beat its-table
             ∙ ap (λ (m : ℕ). left_along (tabulate (behind toA k) i m) (message c f) now) (sym one_more_lem)
             ∙ lap.left
 
@@ -100,21 +100,21 @@ module _ (toA : Bool) (n k count flags : ℕ) (table : List ℕ) where
             ∙ lap.whole
 
         -- nothing was sent on
-        pub stopped : beat ≡ Silent
+        pub stopped : beat ≡ None
             → ([] ≡ sent_along (way toA n k) (message count flags) table) × (after ≡ left_along (way toA n k) (message count flags) table)
         stopped s =
             let none = none-along (rest toA n k (suc i)) after in (
-              sym none.0 ∙ ap (λ (b : Beat). sent_along (rest toA n k (suc i)) (bytes_sent b) after) (sym s) ∙ sent-on,
-              sym none.1 ∙ ap (λ (b : Beat). left_along (rest toA n k (suc i)) (bytes_sent b) after) (sym s) ∙ left-on,
+              sym none.0 ∙ ap (λ (b : Option Beat). sent_along (rest toA n k (suc i)) (bytes_sent b) after) (sym s) ∙ sent-on,
+              sym none.1 ∙ ap (λ (b : Option Beat). left_along (rest toA n k (suc i)) (bytes_sent b) after) (sym s) ∙ left-on,
             )
 
         -- a message was
-        pub next_lap : {c' f' : ℕ} → beat ≡ Sends c' f' → Lap (i + 1) c' f' after
+        pub next_lap : {c' f' : ℕ} → beat ≡ sends c' f' → Lap (i + 1) c' f' after
         next_lap {c'} {f'} s =
             subst (λ (x : ℕ). Lap x c' f' after) (sym (add-one i))
             (record {
               within = omega arith;
               whole = still_whole;
-              sent = ap (λ (b : Beat). sent_along (rest toA n k (suc i)) (bytes_sent b) after) (sym s) ∙ sent-on;
-              left = ap (λ (b : Beat). left_along (rest toA n k (suc i)) (bytes_sent b) after) (sym s) ∙ left-on;
+              sent = ap (λ (b : Option Beat). sent_along (rest toA n k (suc i)) (bytes_sent b) after) (sym s) ∙ sent-on;
+              left = ap (λ (b : Option Beat). left_along (rest toA n k (suc i)) (bytes_sent b) after) (sym s) ∙ left-on;
             })

@@ -6,14 +6,13 @@ use mathlib.Core.List.{List}
 use Prim.Native.Nat.{ℕ, ◌+◌, ◌*◌, ◌≤◌}
 use lib.ListN.{length}
 use Rattle.laws.specs.Rows.{row_at}
-use Rattle.laws.proofs.LentParts.{part-lent}
 use Rattle.records.specs.Record.{record_size, is_record}
-use Rattle.judging.proofs.Lent.{lent, lent_record}
+use Rattle.judging.proofs.Lies.{part, part-row, part_record}
+use Rattle.std.specs.Prelude.{Option, None}
 
-module _ {A : Type 0} (k : ℕ) (table : List ℕ) (g : List ℕ → A) where
-  pub as_it_lies : {x : A} → x ≡ g (lent k table) → x ≡ g (row_at record_size k table)
-  as_it_lies e = e ∙ ap g (part-lent record_size k table)
+module _ (k : ℕ) (table : List ℕ) {start end : ℕ} (lies : (start ≡ k * record_size) × (end ≡ k * record_size + record_size) × (end ≤ length table)) where
+  abbrev its : List ℕ
+  its = part k table lies
 
-  pub said : k * record_size + record_size ≤ length table → (other : A) {x : A} → x ≡ cond (is_record (lent k table)) (g (lent k table)) other
-      → x ≡ g (row_at record_size k table)
-  said fits other e = as_it_lies (e ∙ ap (λ (b : Bool). cond b (g (lent k table)) other) (lent_record k table fits))
+  pub said : {A : Type 0} (g : List ℕ → Option A) {x : Option A} → x ≡ cond (is_record its) (g its) None → x ≡ g (row_at record_size k table)
+  said g e = e ∙ ap (λ (b : Bool). cond b (g its) None) (part_record k table lies) ∙ ap g (part-row k table lies)

@@ -2,20 +2,19 @@
 -- message's bytes, and none where nothing is sent: none are no right message, and so nothing changes where they come. Monitors are counted from 0 here, as
 -- their records lie.
 -- Assumes nothing.
-use Rattle.std.specs.Prelude.{Bool, cond, List, [], ◌∷◌, ℕ, suc, ◌+◌, ◌-◌}
+use Rattle.std.specs.Prelude.{Bool, cond, List, [], ◌∷◌, ℕ, suc, ◌+◌, ◌-◌, Option, Some, None}
 use Rattle.laws.specs.Rows.{row_at}
 use Rattle.laws.specs.Tables.{tabulate}
 use Rattle.records.specs.Record.{record_size}
 use Rattle.judging.specs.Table.{monitors, changed_at}
 use Rattle.messages.specs.Messages.{message}
 use Rattle.heartbeats.specs.declared.steps.Beat.{Beat}
-use Rattle.heartbeats.specs.declared.steps.Beat.TheVariants.{Silent, Sends}
 use Rattle.heartbeats.specs.Steps.{towards_a, woken, wakes, reached, answers}
 
 -- what a monitor sends, as bytes
-abbrev pub bytes_sent : Beat → List ℕ
-bytes_sent Silent = []
-bytes_sent (Sends count flags) = message count flags
+abbrev pub bytes_sent : Option Beat → List ℕ
+bytes_sent None = []
+bytes_sent (Some beat) = message beat.count beat.flags
 
 -- ---- one monitor of the table
 

@@ -2,7 +2,7 @@
 -- position wakes, a message reaches the monitor at a position, and the time runs out there. Composed: a whole heartbeat. What is sent is handed out at the
 -- start of a buffer; where nothing is sent the buffer stays. Positions count from 1.
 -- Assumes nothing.
-use Rattle.std.specs.Prelude.{not, cond, List, [], ◌∷◌, ◌++◌, ℕ, ◌-◌, eqb, ltb, length, drop}
+use Rattle.std.specs.Prelude.{not, cond, List, [], ◌∷◌, ◌++◌, ℕ, ◌-◌, eqb, ltb, length, drop, Option, Some, None, Result, Ok, Err}
 use Rattle.laws.specs.Rows.{row_at}
 use Rattle.refusals.specs.declared.Refusal.TheVariants.{LengthWrong, NoRoom}
 use Rattle.refusals.specs.Order.{Row, ◌gives◌, decide}
@@ -11,13 +11,14 @@ use Rattle.judging.specs.Table.{changed_at}
 use Rattle.judging.specs.Refusals.{table_row, position_row}
 use Rattle.messages.specs.Messages.{message_size}
 use Rattle.heartbeats.specs.Steps.{is_timeout, towards_a, late}
-use Rattle.passing.specs.declared.operations.Sent.{Sent}
-use Rattle.passing.specs.declared.operations.Sent.TheVariants.{Unsent, Nothing, TowardsA, TowardsB}
 use Rattle.passing.specs.declared.operations.Relayed.{Relayed}
-use Rattle.passing.specs.declared.operations.Relayed.TheVariants.{Unrelayed, Stopped, SentOn}
+use Rattle.passing.specs.declared.operations.Relayed.TheVariants.{Stopped, SentOn}
 use Rattle.passing.specs.declared.operations.TimedOut.{TimedOut}
-use Rattle.passing.specs.declared.operations.TimedOut.TheVariants.{Untimed, NoTimeoutMonitor, RanOut}
+use Rattle.passing.specs.declared.operations.TimedOut.TheVariants.{NoTimeoutMonitor, RanOut}
 use Rattle.passing.specs.Hops.{wake_sends, wake_leaves, hop_sends, hop_leaves, beat_sends, beat_leaves}
+use Rattle.refusals.specs.declared.Refusal.{Refusal}
+use Rattle.passing.specs.declared.operations.End.{End}
+use Rattle.passing.specs.declared.operations.End.TheVariants.{A, B}
 
 -- ---- the refusals, after 1 and 7, of the table and of the position
 
@@ -36,17 +37,17 @@ unfoldable pub handed_out : List ℕ → List ℕ → List ℕ
 handed_out bytes out = bytes ++ drop (length bytes) out
 
 -- the end of the chain that the bytes are sent towards, as the record of the manager has it
-unfoldable pub sent_towards : List ℕ → List ℕ → Sent
-sent_towards r bytes = cond (eqb (length bytes) 0) Nothing (cond (towards_a r) TowardsA TowardsB)
+unfoldable pub sent_towards : List ℕ → List ℕ → Option End
+sent_towards r bytes = cond (eqb (length bytes) 0) None (cond (towards_a r) (Some A) (Some B))
 
 -- ---- the manager at a position wakes. A monitor that is none is no refusal
 
 unfoldable pub wake_refusals : List ℕ → ℕ → ℕ → List Row
 wake_refusals table position room = table_row table ∷ position_row table position ∷ out_row room ∷ []
 
-unfoldable pub woken_at : List ℕ → ℕ → ℕ → Sent
+unfoldable pub woken_at : List ℕ → ℕ → ℕ → Result (Option End) Refusal
 woken_at table position room =
-    decide (wake_refusals table position room) Unsent (sent_towards (row_at record_size (position - 1) table) (wake_sends (position - 1) table))
+    decide (wake_refusals table position room) Err (Ok (sent_towards (row_at record_size (position - 1) table) (wake_sends (position - 1) table)))
 
 unfoldable pub table_after_wake : List ℕ → ℕ → ℕ → List ℕ
 table_after_wake table position room = decide (wake_refusals table position room) (λ r. table) (wake_leaves (position - 1) table)
@@ -62,8 +63,8 @@ relay_refusals table position bytes room = table_row table ∷ position_row tabl
 abbrev pub sent_on : List ℕ → Relayed
 sent_on bytes = cond (eqb (length bytes) 0) Stopped SentOn
 
-unfoldable pub relayed_at : List ℕ → ℕ → List ℕ → ℕ → Relayed
-relayed_at table position message room = decide (relay_refusals table position (length message) room) Unrelayed (sent_on (hop_sends (position - 1) message table))
+unfoldable pub relayed_at : List ℕ → ℕ → List ℕ → ℕ → Result Relayed Refusal
+relayed_at table position message room = decide (relay_refusals table position (length message) room) Err (Ok (sent_on (hop_sends (position - 1) message table)))
 
 unfoldable pub table_after_relay : List ℕ → ℕ → List ℕ → ℕ → List ℕ
 table_after_relay table position message room =
@@ -75,9 +76,9 @@ out_after_relay table position message out =
 
 -- ---- a whole heartbeat, from the manager at a position to the end of the chain: refused as a wake is
 
-unfoldable pub beaten : List ℕ → ℕ → ℕ → Sent
+unfoldable pub beaten : List ℕ → ℕ → ℕ → Result (Option End) Refusal
 beaten table position room =
-    decide (wake_refusals table position room) Unsent (sent_towards (row_at record_size (position - 1) table) (beat_sends (position - 1) table))
+    decide (wake_refusals table position room) Err (Ok (sent_towards (row_at record_size (position - 1) table) (beat_sends (position - 1) table)))
 
 unfoldable pub table_after_beat : List ℕ → ℕ → ℕ → List ℕ
 table_after_beat table position room = decide (wake_refusals table position room) (λ r. table) (beat_leaves (position - 1) table)
@@ -93,8 +94,8 @@ time_out_refusals table position = table_row table ∷ position_row table positi
 abbrev pub ran_out : List ℕ → TimedOut
 ran_out r = cond (is_timeout r) RanOut NoTimeoutMonitor
 
-unfoldable pub timed_out : List ℕ → ℕ → TimedOut
-timed_out table position = decide (time_out_refusals table position) Untimed (ran_out (row_at record_size (position - 1) table))
+unfoldable pub timed_out : List ℕ → ℕ → Result TimedOut Refusal
+timed_out table position = decide (time_out_refusals table position) Err (Ok (ran_out (row_at record_size (position - 1) table)))
 
 unfoldable pub table_after_time_out : List ℕ → ℕ → List ℕ
 table_after_time_out table position = decide (time_out_refusals table position) (λ r. table) (changed_at (position - 1) late table)

@@ -4,4 +4,4 @@
 mod hops;
 mod operations;
 
-pub use operations::{Relayed, Sent, TimedOut, heartbeat, relay, time_out, wake};
+pub use operations::{End, Relayed, TimedOut, heartbeat, relay, time_out, wake};

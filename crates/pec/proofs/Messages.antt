@@ -1,17 +1,17 @@
 -- What the check words are taken over, as numbers: a command is 16 bits, six bytes and the counter are 54, and the last two bytes of a
 -- string are the 16 low bits of its number.
 -- Assumes nothing.
-use mathlib.Core.Path.{◌≡◌, refl, sym, ap, ap₂, ◌∙◌}
+use mathlib.Core.Path.{◌≡◌, refl, sym, ap, ◌∙◌}
 use mathlib.Core.Bool.{Bool}
 use mathlib.Core.List.{List, [], ◌∷◌, ◌++◌}
-use Prim.Native.Nat.{ℕ, zero, suc, ◌+◌, ◌-◌, ◌*◌, ◌^◌, ◌≤◌, ◌<◌}
+use Prim.Native.Nat.{ℕ, zero, suc, ◌+◌, ◌*◌, ◌<◌}
 use native.Mathlib.Numerals.{add-one}
 use native.Mathlib.Omega.{arith}
 use lib.Dec.{lit<}
-use lib.ListN.{length, length-drop, get_or, take, drop, drop_of_length-le, take-append-drop}
-use lib.Seq.{drop-cons, get_or-drop, length-take-le, take_all}
+use lib.ListN.{length, get_or, take, drop, drop_of_length-le, take-append-drop}
+use lib.Seq.{drop-cons, get_or-drop}
 use Rattle.laws.specs.Bits.{bits_of, Bytes, number_from, number_of}
-use Rattle.laws.proofs.Numbers.{bits_join, bits_of_string, number_append, number-from}
+use Rattle.laws.proofs.Numbers.{bits_join, bits_of_string, number_append}
 use Rattle.pec.specs.Remainder.{remainder}
 use Rattle.pec.specs.Words.{two_bytes, word_at, polynomial10, polynomial15, pec15, data_pec}
 
@@ -24,32 +24,6 @@ bytes_of-take (b ∷ bs) h (suc j) (suc i) = bytes_of-take bs (λ k. h (suc k)) 
 
 pub bytes_of-drop : (bytes : List ℕ) → Bytes bytes → (j : ℕ) → Bytes (drop j bytes)
 bytes_of-drop bytes h j i = rw get_or-drop (h (j + i))
-
--- a string in two parts, the first four bytes long, as they are lent
-module _ (bytes : List ℕ) (j : ℕ) (e : length bytes ≡ 4 + j) where
-  abbrev rest : List ℕ
-  rest = take (length bytes - 4) (drop 4 bytes)
-
-  pub first-four : length (take 4 bytes) ≡ 4
-  first-four = length-take-le 4 bytes (omega arith)
-
-  whole-rest : rest ≡ drop 4 bytes
-  whole-rest =
-      let all : length (drop 4 bytes) ≤ length bytes - 4 = omega (arith, length-drop 4 bytes) in
-      take_all (length bytes - 4) (drop 4 bytes) all
-
-  pub rest-size : length rest ≡ j
-  rest-size = ap length whole-rest ∙ omega (arith, length-drop 4 bytes)
-
-  pub two_parts : {a b : ℕ} → a ≡ number_of (take 4 bytes) → b ≡ number_of rest → a * 2 ^ (8 * j) + b ≡ number_of bytes
-  unfolding number_of
-  two_parts ha hb =
-      ap₂ (λ (x y : ℕ). x * 2 ^ (8 * j) + y) ha (hb ∙ ap number_of whole-rest)
-      ∙ sym
-      (ap (number_from 0) (sym (take-append-drop 4 bytes))
-      ∙ number_append 0 (take 4 bytes) (drop 4 bytes)
-      ∙ number-from (number_from 0 (take 4 bytes)) (drop 4 bytes)
-      ∙ ap (λ (k : ℕ). number_from 0 (take 4 bytes) * 2 ^ (8 * k) + number_from 0 (drop 4 bytes)) (sym (ap length whole-rest) ∙ rest-size))
 
 pub word_below : (bytes : List ℕ) → Bytes bytes → (j : ℕ) → word_at bytes j < 65536
 unfolding word_at

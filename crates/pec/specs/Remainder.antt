@@ -24,8 +24,8 @@ remainder w g r (b ∷ bs) = remainder w g (step w g r b) bs
 unfoldable pub step_back : ℕ → ℕ → ℕ → Bool → ℕ
 step_back w g s b = (once (xor (odd s) b) (2 ^ w) + (s ⊕ once (odd s) g)) / 2
 
--- what the functions over the width ask of theirs: it leaves a word of 16 bits room for one more, and the polynomial and
--- the remainder have w bits
+-- what the functions over the width know of theirs: it leaves a word of 16 bits room for one more, and the polynomial and
+-- the start value have w bits
 pub record Fitting (w g r : ℕ) : Type 0 where
   pub width : w < 16
   pub polynomial : g < 2 ^ w

@@ -1,6 +1,7 @@
 // The two remainders by shifts alone, of a message that is one number. Where the polynomial is x^w (1 + a), with a in negative powers of
 // x, the quotient is the message times (1 + a)(1 + a^2)(1 + a^4) and so on, since 1 + 1 = 0; the remainder is the w low bits of the
-// quotient times the polynomial's terms below x^w. There is no table to copy and no byte waits for the one before it.
+// quotient times the polynomial's terms below x^w. There is no table, and no byte waits for the one before it.
+// Each width has its own function: the shifts are different numbers, and a list of them that is read as the program runs would cost what is saved.
 ghost use Rattle.std.specs.Prelude.{◌≡◌, ◌≤◌};
 ghost use Rattle.laws.specs.Bits.{bits_of};
 ghost use Rattle.pec.specs.Remainder.{remainder};

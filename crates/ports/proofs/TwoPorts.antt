@@ -14,11 +14,12 @@ use Rattle.refusals.proofs.Deciding.{decide-map, has_passed}
 use Rattle.laws.proofs.Tests.{both_first, both_second}
 use Rattle.records.specs.Record.{most_count}
 use Rattle.records.specs.Commands.{most_monitors, payload_size}
-use Rattle.ports.specs.declared.ports.Port.TheVariants.{Refused, A, B}
+use Rattle.ports.specs.declared.ports.Port.TheVariants.{A, B}
 use Rattle.ports.specs.Verdicts.{counter_row}
 use Rattle.ports.specs.Ports.{place_a, place_b, part_a, part_b, chosen, port_refusals, port_of, by_port}
 use Rattle.ports.proofs.Tests.{position-test}
 use Rattle.ports.proofs.Choosing.{either}
+use Rattle.std.specs.Prelude.{Ok, Err}
 
 -- a question that no number refuses before its parts are looked at: monitor k of n, and two whole replies
 pub record Asked (a b : List ℕ) (n k : ℕ) : Type 0 where
@@ -60,15 +61,15 @@ module _ (a b : List ℕ) (n k : ℕ) where
   module _ (expected : ℕ) where
     -- ---- down the list
 
-    pub counter_wrong : ltb most_count expected ≡ true → port_of a b n k expected ≡ Refused PositionWrong
+    pub counter_wrong : ltb most_count expected ≡ true → port_of a b n k expected ≡ Err PositionWrong
     unfolding port_of port_refusals counter_row decide
     counter_wrong c = simp c
 
-    pub position_wrong : ltb most_count expected ≡ false → position_test ≡ false → port_of a b n k expected ≡ Refused PositionWrong
+    pub position_wrong : ltb most_count expected ≡ false → position_test ≡ false → port_of a b n k expected ≡ Err PositionWrong
     unfolding port_of port_refusals counter_row decide
     position_wrong c p = simp (c, p)
 
-    pub length_wrong : ltb most_count expected ≡ false → position_test ≡ true → length_test ≡ false → port_of a b n k expected ≡ Refused LengthWrong
+    pub length_wrong : ltb most_count expected ≡ false → position_test ≡ true → length_test ≡ false → port_of a b n k expected ≡ Err LengthWrong
     unfolding port_of port_refusals counter_row decide
     length_wrong c p l = simp (c, p, l)
 
@@ -90,8 +91,8 @@ module _ (a b : List ℕ) (n k : ℕ) where
     pub none-holds : by_port false true true (port_of a b n k expected) ≡ true → Passed (port_refusals a b n k expected)
     unfolding port_of
     none-holds h =
-        has_passed (port_refusals a b n k expected) (λ r. false) (by_port false true true (chosen (part_a a n k) (part_b b n k) expected)) true (λ r. apart)
-        (sym (decide-map (by_port false true true) (port_refusals a b n k expected) Refused (chosen (part_a a n k) (part_b b n k) expected)) ∙ h)
+        has_passed (port_refusals a b n k expected) (λ r. false) (by_port false true true (Ok (chosen (part_a a n k) (part_b b n k) expected))) true (λ r. apart)
+        (sym (decide-map (by_port false true true) (port_refusals a b n k expected) Err (Ok (chosen (part_a a n k) (part_b b n k) expected))) ∙ h)
       where
         apart : true ≡ false → ⊥
         apart e = let z : ◌≡◌ {A = ℕ} 0 1 = cc in omega arith
@@ -100,8 +101,8 @@ module _ (a b : List ℕ) (n k : ℕ) where
     unfolding port_refusals
     asked_where h = let p = none-holds h in asked_by (not-false position_test p.1.0) (not-false length_test p.1.1.0)
 
-    pub asked-a : (differs : Bool) → port_of a b n k expected ≡ A differs → Asked a b n k
+    pub asked-a : (differs : Bool) → port_of a b n k expected ≡ Ok (A differs) → Asked a b n k
     asked-a differs e = asked_where (ap (by_port false true true) e)
 
-    pub asked-b : (differs : Bool) → port_of a b n k expected ≡ B differs → Asked a b n k
+    pub asked-b : (differs : Bool) → port_of a b n k expected ≡ Ok (B differs) → Asked a b n k
     asked-b differs e = asked_where (ap (by_port false true true) e)

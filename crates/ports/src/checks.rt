@@ -6,9 +6,8 @@ use records::{MOST_COUNT, PAYLOAD_SIZE};
 use refusals::Refusal;
 
 // What comes of the check of one payload: where only its counter differs, the one received.
-#[derive(Clone, Copy)]
+#[derive(Clone, Copy, Debug, PartialEq, Eq)]
 pub enum Checked {
-    Unchecked(Refusal),
     Right,
     CounterDiffers(u8),
     Damaged,
@@ -16,21 +15,21 @@ pub enum Checked {
 
 // Is one payload right, or does only its counter differ, or is it damaged? The check decides first: a wrong one tells nothing of the counter.
 #[tactic(auto, unfolding(crate::specs::Check::checked, crate::specs::Check::check_refusals, crate::specs::Verdicts::counter_row, crate::specs::Verdicts::is_damaged, crate::specs::Verdicts::counter_differs, refusals::specs::Order::decide))]
-pub fn check(payload: &[u8], expected: u8) -> Checked
+pub fn check(payload: &[u8], expected: u8) -> Result<Checked, Refusal>
     ensures { result ≡ checked payload.now expected }
 {
     if expected > MOST_COUNT {
-        return Checked::Unchecked(Refusal::PositionWrong);
+        return Err(Refusal::PositionWrong);
     }
     if payload.len() != PAYLOAD_SIZE {
-        return Checked::Unchecked(Refusal::LengthWrong);
+        return Err(Refusal::LengthWrong);
     }
     let counter = check_words::counter_in(payload);
     if !check_words::payload_right(payload) {
-        return Checked::Damaged;
+        return Ok(Checked::Damaged);
     }
     if counter != expected {
-        return Checked::CounterDiffers(counter);
+        return Ok(Checked::CounterDiffers(counter));
     }
-    Checked::Right
+    Ok(Checked::Right)
 }

@@ -22,10 +22,6 @@ module _ (events : Events) (phase : ℕ) (r : List ℕ) (c : ℕ) where
   step : (b : Bool) {v : Bool} (x y : Output) → b ≡ v → cond b x y ≡ cond v x y
   step b x y e = ap (λ (t : Bool). cond t x y) e
 
-  pub by_7 : events.shutdown ≡ true → output_of events phase r c ≡ output 7 false
-  unfolding output_of decided table27
-  by_7 e = step events.shutdown (output 7 false) (below 1) e
-
   pub past_7 : events.shutdown ≡ false → output_of events phase r c ≡ below 1
   unfolding output_of decided table27
   past_7 e = step events.shutdown (output 7 false) (below 1) e
@@ -38,10 +34,6 @@ module _ (events : Events) (phase : ℕ) (r : List ℕ) (c : ℕ) where
   unfolding decided table27
   past_6 e = step (muted r) (output 6 false) (below 2) e
 
-  pub by_5 : events.wrcfgb ≡ true → below 2 ≡ output 5 false
-  unfolding decided table27
-  by_5 e = step events.wrcfgb (output 5 false) (below 3) e
-
   pub past_5 : events.wrcfgb ≡ false → below 2 ≡ below 3
   unfolding decided table27
   past_5 e = step events.wrcfgb (output 5 false) (below 3) e
@@ -49,23 +41,3 @@ module _ (events : Events) (phase : ℕ) (r : List ℕ) (c : ℕ) where
   pub by_4 : dcc r c ≡ true → below 3 ≡ output 4 true
   unfolding decided table27
   by_4 e = step (dcc r c) (output 4 true) (below 4) e
-
-  pub past_4 : dcc r c ≡ false → below 3 ≡ below 4
-  unfolding decided table27
-  past_4 e = step (dcc r c) (output 4 true) (below 4) e
-
-  pub by_3 : events.measurement ≡ true → below 4 ≡ output 3 false
-  unfolding decided table27
-  by_3 e = step events.measurement (output 3 false) (below 5) e
-
-  pub past_3 : events.measurement ≡ false → below 4 ≡ below 5
-  unfolding decided table27
-  past_3 e = step events.measurement (output 3 false) (below 5) e
-
-  pub by_2 : events.wrpwm ≡ true → below 5 ≡ output 2 false
-  unfolding decided table27
-  by_2 e = step events.wrpwm (output 2 false) (below 6) e
-
-  pub by_1 : events.wrpwm ≡ false → below 5 ≡ output 1 (ltb phase (duty r c))
-  unfolding decided table27
-  by_1 e = step events.wrpwm (output 2 false) (below 6) e

@@ -4,7 +4,7 @@ ghost use Rattle.records.specs.Record.{cell_count};
 ghost use Rattle.priorities.specs.Table27.{output_of};
 ghost use Rattle.priorities.specs.Outputs.{shown, outputs, count_on};
 
-use crate::switches::{duty_of, has_dcc, is_muted};
+use crate::switches::{Cell, is_muted};
 use records::CELL_COUNT;
 
 // What goes on at a monitor while its outputs are asked for.
@@ -20,17 +20,18 @@ pub struct Events {
     pub wrpwm: bool,
 }
 
-// The row of Table 27 that decides an output, and whether it is on.
+// The row of Table 27 that decides an output, and whether it is on. A row goes by its number in the table, as in `decided`
+// (specs/Table27.antt), and that number is what a byte shows.
 #[derive(Clone, Copy)]
 pub struct Output {
     pub row: u8,
     pub on: bool,
 }
 
-// The output of a cell, counted from 1: the rows from the top.
-fn output_of(rec: &[u8], cell: usize, events: Events, phase: u8) -> Output
-    requires { (1 ≤ cell) × (cell ≤ cell_count) }
-    ensures { result ≡ output_of events phase rec.now cell }
+// The output of a cell: the rows from the top.
+#[tactic(auto, unfolding(crate::specs::Table27::output_of, crate::specs::Table27::decided, crate::specs::Table27::table27))]
+fn output_of(rec: &[u8], cell: Cell, events: Events, phase: u8) -> Output
+    ensures { result ≡ output_of events phase rec.now cell.number }
 {
     if events.shutdown {
         return Output { row: 7, on: false };
@@ -41,7 +42,7 @@ fn output_of(rec: &[u8], cell: usize, events: Events, phase: u8) -> Output
     if events.wrcfgb {
         return Output { row: 5, on: false };
     }
-    if has_dcc(rec, cell) {
+    if cell.has_dcc(rec) {
         return Output { row: 4, on: true };
     }
     if events.measurement {
@@ -52,11 +53,12 @@ fn output_of(rec: &[u8], cell: usize, events: Events, phase: u8) -> Output
     }
     Output {
         row: 1,
-        on: phase < duty_of(rec, cell),
+        on: phase < cell.duty(rec),
     }
 }
 
 // An output as a byte: its row, and 0x80 added where it is on.
+#[tactic(auto, unfolding(crate::specs::Outputs::shown))]
 fn shown(output: Output) -> u8
     requires { output.row ≤ 7 }
     ensures { result ≡ shown output }
@@ -78,12 +80,10 @@ pub fn put_outputs(rec: &[u8], events: Events, phase: u8, out: &mut [u8]) -> usi
         return 0;
     }
     let mut on = 0;
-    let mut i = 0;
-    while i < CELL_COUNT {
-        let output = output_of(rec, i + 1, events, phase);
+    for i in 0..CELL_COUNT {
+        let output = output_of(rec, Cell::after(i), events, phase);
         out[i] = shown(output);
-        on += output.on as usize;
-        i += 1;
+        on += usize::from(output.on);
     }
     on
 }

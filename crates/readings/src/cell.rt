@@ -5,22 +5,21 @@ ghost use Rattle.std.specs.Float.Ieee.{in_float};
 ghost use Rattle.cells.specs.Cells.{is_cleared};
 ghost use Rattle.readings.specs.Readings.{microvolts, volts, reading_of};
 
+use cells::CLEARED;
 use thresholds::ResultCode;
 
-// The code of a cell that was cleared.
-const CLEARED: i32 = -32768;
-
-// A voltage in volts, or no voltage: the cell was cleared.
-#[derive(Clone, Copy)]
+// A voltage in volts, or no voltage: the cell was cleared. An enum of its own and no Option, since the paper names these two cases.
+#[derive(Clone, Copy, Debug, PartialEq)]
 pub enum Reading {
     Volts(f64),
     Cleared,
 }
 
+#[tactic(auto, using(cells::proofs::Flags::cleared_is))]
 pub(crate) fn is_cleared(code: ResultCode) -> bool
     ensures { result ≡ is_cleared code.0 }
 {
-    code.0 == CLEARED
+    code == CLEARED
 }
 
 // The whole microvolts of a code: an i64 holds those of every i32.
@@ -28,7 +27,7 @@ pub(crate) fn is_cleared(code: ResultCode) -> bool
 pub fn microvolts_of(code: ResultCode) -> i64
     ensures { result ≡ microvolts code }
 {
-    1_500_000 + 150 * (code.0 as i64)
+    1_500_000 + 150 * i64::from(code.0)
 }
 
 // Microvolts in volts: they go to f64 with nothing lost, so that the one division is the only rounding.

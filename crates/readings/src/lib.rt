@@ -6,4 +6,4 @@ mod gathering;
 mod pack_summary;
 
 pub use cell::{Reading, microvolts_of, reading_of};
-pub use pack_summary::{Pack, Summary, summary_of};
+pub use pack_summary::{Summary, summary_of};

@@ -1,14 +1,14 @@
 -- A byte that a register shows: the record's, where the part and the slice reach, and FF past either end. And the six of a
 -- register whose part and slice reach that far, and the length of a reply.
 -- Assumes nothing.
-use mathlib.Core.Path.{◌≡◌, refl, sym, ◌∙◌}
-use mathlib.Core.List.{List, [], ◌∷◌}
+use mathlib.Core.Path.{◌≡◌, refl, sym, ap₂, ◌∙◌}
+use mathlib.Core.List.{List}
 use Prim.Native.Nat.{ℕ, ◌+◌, ◌-◌, ◌≤◌, ◌<◌}
 use native.Mathlib.Omega.{arith}
-use lib.Dec.{lit<}
 use lib.ListN.{length, length-take, length-drop, take, drop, get_or, get_or-eq_default}
-use lib.Seq.{get_or-take, get_or-drop}
+use lib.Seq.{ext_get_or, get_or-take, get_or-drop}
 use Rattle.laws.specs.Tables.{tabulate}
+use Rattle.laws.proofs.Tables.{length-tabulate, at_each}
 use Rattle.laws.proofs.Lists.{get_d_any}
 use Rattle.pec.specs.Words.{two_bytes, seal}
 use Rattle.records.specs.declared.record.Part.{Part}
@@ -32,21 +32,19 @@ module _ (part : Part) (r : List ℕ) (i : ℕ) where
   past_slice h = omega (arith, length-take part.size (drop part.at r), length-drop part.at r)
 
 -- where the part has six bytes and the slice has all of them: the slice's own, from where the part begins
-pub shows_whole : (part : Part) (r : List ℕ) → 6 ≤ part.size → part.at + 6 ≤ length r
-    → tabulate (λ i. get_or (take (length r - part.at) (drop part.at r)) i 0) 0 6 ≡ six_bytes part r
-unfolding six_bytes tabulate
-shows_whole part r h k =
-    let from = drop part.at r in
-    let room = length r - part.at in
-    let one : (i : ℕ) → i < 6 → get_or (take room from) i 0 ≡ get_or (bytes_of part r) i 0xFF =
-    λ i b. get_or-take room from i 0 (omega arith) ∙ get_or-drop part.at r i 0 ∙ shows part r i (omega arith) (omega arith) in
-    λ j. one 0 (lit< tt) j
-    ∷ one 1 (lit< tt) j
-    ∷ one 2 (lit< tt) j
-    ∷ one 3 (lit< tt) j
-    ∷ one 4 (lit< tt) j
-    ∷ one 5 (lit< tt) j
-    ∷ []
+module _ (part : Part) (r : List ℕ) where
+  abbrev shown : ℕ → ℕ
+  shown i = get_or (bytes_of part r) i 0xFF
+
+  pub shows_whole : {at n : ℕ} → n ≡ 6 → at ≡ part.at → 6 ≤ part.size → at + 6 ≤ length r → take n (drop at r) ≡ six_bytes part r
+  unfolding six_bytes
+  shows_whole {at} {n} six e h k =
+      let own = take 6 (drop part.at r) in
+      let long : length own ≡ 6 = omega (arith, length-take 6 (drop part.at r), length-drop part.at r) in
+      ap₂ (λ (m a : ℕ). take m (drop a r)) six e
+      ∙ ext_get_or 0 own (tabulate shown 0 6) (long ∙ sym (length-tabulate shown 0 6))
+      (λ i b. get_or-take 6 (drop part.at r) i 0 (omega (arith, long)) ∙ get_or-drop part.at r i 0
+      ∙ shows part r i (omega (arith, long)) (omega (arith, long)) ∙ sym (at_each shown 6 i (omega (arith, long))))
 
 pub length-reply : (part : Part) (r : List ℕ) → length (reply part r) ≡ 8
 unfolding reply register six_bytes tabulate seal two_bytes

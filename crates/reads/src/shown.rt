@@ -8,13 +8,8 @@ use records::{CELLS, CELLS_SIZE, Part, SNAPSHOT};
 pub(crate) fn of_cells(part: Part) -> bool
     ensures { result ≡ of_cells part }
 {
-    let at = part.at as usize;
-    let size = part.size as usize;
-    if CELLS <= at {
-        at + size <= CELLS + CELLS_SIZE
-    } else {
-        false
-    }
+    let at = usize::from(part.at);
+    CELLS <= at && at + usize::from(part.size) <= CELLS + CELLS_SIZE
 }
 
 // The same part of the copy.
@@ -24,6 +19,6 @@ pub(crate) fn copy_of(part: Part) -> Part
 {
     Part {
         at: SNAPSHOT as u8 + (part.at - CELLS as u8),
-        size: part.size,
+        ..part
     }
 }

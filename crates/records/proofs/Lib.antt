@@ -5,3 +5,4 @@ pub mod CommandList
 pub mod Widths
 pub mod Parts
 pub mod Modes
+pub mod Pasted

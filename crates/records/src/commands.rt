@@ -93,15 +93,19 @@ pub fn command_of(code: u16) -> Command
     }
 }
 
+// The same by its type. The `match` stands in `command_of`, which the theorems of `story` name and the engines call.
+impl From<u16> for Command {
+    ghost from_gives = { λ code command. command ≡ command_of code commands };
+
+    fn from(code: u16) -> Command {
+        command_of(code)
+    }
+}
+
 pub fn is_listed(command: Command) -> bool
     ensures { result ≡ is_listed command }
 {
-    match command {
-        Command::Reads(_) => true,
-        Command::Writes(_) => true,
-        Command::Bares(_) => true,
-        Command::Unlisted => false,
-    }
+    !matches!(command, Command::Unlisted)
 }
 
 pub const MOST_MONITORS: usize = 32;
@@ -111,23 +115,14 @@ pub const PAYLOAD_SIZE: usize = 8;
 // The two bytes that seal data: the counter, and the check.
 pub const SEAL_SIZE: usize = 2;
 
-// The data bytes that a write sends to each monitor.
+// The data bytes that a write sends to each monitor: two of CLRCMFLAG, six of each other.
 pub fn data_size(what: Write) -> usize
     ensures value { result ≡ data_size what }
     ensures upper_bound { result ≤ 6 }
 {
     match what {
-        Write::Wrcfga => 6,
-        Write::Wrcfgb => 6,
-        Write::Wrrr => 6,
-        Write::Clrflag => 6,
-        Write::Clovuv => 6,
-        Write::Wrpwma => 6,
-        Write::Wrpwmb => 6,
-        Write::Wrcmcfg => 6,
-        Write::Wrcmcellt => 6,
-        Write::Wrcmgpiot => 6,
         Write::Clrcmflag => 2,
+        _ => 6,
     }
 }
 
@@ -137,13 +132,8 @@ pub fn width_of(command: Command) -> usize
     ensures upper_bound { result ≤ payload_size }
 {
     match command {
-        Command::Reads(_) => PAYLOAD_SIZE,
-        Command::Writes(what) => {
-            let data = data_size(what);
-            data + SEAL_SIZE
-        }
-        Command::Bares(_) => PAYLOAD_SIZE,
-        Command::Unlisted => PAYLOAD_SIZE,
+        Command::Writes(what) => data_size(what) + SEAL_SIZE,
+        _ => PAYLOAD_SIZE,
     }
 }
 
@@ -155,13 +145,8 @@ pub fn frame_length(command: Command, n: usize) -> usize
         return 0;
     }
     match command {
-        Command::Reads(_) => 4 + PAYLOAD_SIZE * n,
-        Command::Writes(_) => {
-            let width = width_of(command);
-            4 + width * n
-        }
-        Command::Bares(_) => 4,
-        Command::Unlisted => 4,
+        Command::Reads(_) | Command::Writes(_) => 4 + width_of(command) * n,
+        Command::Bares(_) | Command::Unlisted => 4,
     }
 }
 
@@ -174,8 +159,6 @@ pub fn reply_size(command: Command, n: usize) -> usize
     }
     match command {
         Command::Reads(_) => PAYLOAD_SIZE * n,
-        Command::Writes(_) => 0,
-        Command::Bares(_) => 0,
-        Command::Unlisted => 0,
+        _ => 0,
     }
 }

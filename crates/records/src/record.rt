@@ -72,114 +72,64 @@ pub struct Part {
     pub size: u8,
 }
 
-// The cells, and those of the last measurement in LPCM.
-pub const CELLS_PART: Part = Part {
-    at: CELLS as u8,
-    size: CELLS_SIZE as u8,
-};
+// So many bytes from a place on. A constant's value holds no call, so it is a macro.
+macro_rules! part {
+    ($at:expr, $size:expr) => {
+        Part {
+            at: ($at) as u8,
+            size: ($size) as u8,
+        }
+    };
+}
 
-pub const LAST_CELLS_PART: Part = Part {
-    at: LAST_CELLS as u8,
-    size: CELLS_SIZE as u8,
-};
+// The cells, and those of the last measurement in LPCM. The offsets stand beside them as `usize`, which an index is.
+pub const CELLS_PART: Part = part!(CELLS, CELLS_SIZE);
+
+pub const LAST_CELLS_PART: Part = part!(LAST_CELLS, CELLS_SIZE);
 
 // The part that each read names: it shows that part, or of the cells, while a snapshot is on, the same part of their copy. The cells' registers A
 // to E have three cells each, and F has cell 16.
-pub(crate) const RDCFGA: Part = Part {
-    at: CONFIGURATION_A as u8,
-    size: 6,
-};
+pub(crate) const RDCFGA: Part = part!(CONFIGURATION_A, 6);
 
-pub const RDCFGB: Part = Part {
-    at: CONFIGURATION_B as u8,
-    size: 6,
-};
+pub const RDCFGB: Part = part!(CONFIGURATION_B, 6);
 
-pub(crate) const RDCVA: Part = Part {
-    at: CELLS as u8,
-    size: 6,
-};
+pub(crate) const RDCVA: Part = part!(CELLS, 6);
 
-pub(crate) const RDCVB: Part = Part {
-    at: (CELLS + 6) as u8,
-    size: 6,
-};
+pub(crate) const RDCVB: Part = part!(CELLS + 6, 6);
 
-pub(crate) const RDCVC: Part = Part {
-    at: (CELLS + 12) as u8,
-    size: 6,
-};
+pub(crate) const RDCVC: Part = part!(CELLS + 12, 6);
 
-pub(crate) const RDCVD: Part = Part {
-    at: (CELLS + 18) as u8,
-    size: 6,
-};
+pub(crate) const RDCVD: Part = part!(CELLS + 18, 6);
 
-pub(crate) const RDCVE: Part = Part {
-    at: (CELLS + 24) as u8,
-    size: 6,
-};
+pub(crate) const RDCVE: Part = part!(CELLS + 24, 6);
 
-pub(crate) const RDCVF: Part = Part {
-    at: (CELLS + 30) as u8,
-    size: 2,
-};
+pub(crate) const RDCVF: Part = part!(CELLS + 30, 2);
 
-pub const RDSTATC: Part = Part {
-    at: STATUS_C as u8,
-    size: 6,
-};
+pub const RDSTATC: Part = part!(STATUS_C, 6);
 
-pub(crate) const RDSTATD: Part = Part {
-    at: STATUS_D as u8,
-    size: 6,
-};
+pub(crate) const RDSTATD: Part = part!(STATUS_D, 6);
 
-pub(crate) const RDSID: Part = Part {
-    at: SERIAL_ID as u8,
-    size: 6,
-};
+pub(crate) const RDSID: Part = part!(SERIAL_ID, 6);
 
-pub(crate) const RDRR: Part = Part {
-    at: RETENTION as u8,
-    size: 6,
-};
+pub(crate) const RDRR: Part = part!(RETENTION, 6);
 
-pub(crate) const RDPWMA: Part = Part {
-    at: PWM_A as u8,
-    size: 6,
-};
+pub(crate) const RDPWMA: Part = part!(PWM_A, 6);
 
-pub(crate) const RDPWMB: Part = Part {
-    at: PWM_B as u8,
-    size: 6,
-};
+pub(crate) const RDPWMB: Part = part!(PWM_B, 6);
 
-pub const RDCMCFG: Part = Part {
-    at: LPCM_CONFIGURATION as u8,
-    size: 6,
-};
+pub const RDCMCFG: Part = part!(LPCM_CONFIGURATION, 6);
 
-pub const RDCMCELLT: Part = Part {
-    at: LPCM_CELL_THRESHOLDS as u8,
-    size: 6,
-};
+pub const RDCMCELLT: Part = part!(LPCM_CELL_THRESHOLDS, 6);
 
-pub(crate) const RDCMGPIOT: Part = Part {
-    at: LPCM_GPIO_THRESHOLDS as u8,
-    size: 6,
-};
+pub(crate) const RDCMGPIOT: Part = part!(LPCM_GPIO_THRESHOLDS, 6);
 
-pub(crate) const RDCMFLAG: Part = Part {
-    at: LPCM_FLAGS as u8,
-    size: 6,
-};
+pub(crate) const RDCMFLAG: Part = part!(LPCM_FLAGS, 6);
 
 // A byte of a slice, and 0 past its end.
 pub fn byte_at(bytes: &[u8], i: usize) -> u8
     ensures { result ≡ get_or bytes.now i 0 }
 {
-    if i < bytes.len() { bytes[i] } else { 0 }
+    bytes.get(i).copied().unwrap_or(0)
 }
 
 // A byte of a part, and 0 past its end.
@@ -194,6 +144,7 @@ pub fn byte_in(rec: &[u8], part: Part, i: usize) -> u8
 }
 
 // SNAP_ST: is a snapshot on?
+#[tactic(auto, unfolding(crate::specs::Record::snapped, crate::specs::Record::byte_of, laws::specs::Bits::bit_at, laws::specs::Bits::odd))]
 pub fn is_snapped(rec: &[u8]) -> bool
     ensures { result ≡ snapped rec.now }
 {
@@ -201,6 +152,7 @@ pub fn is_snapped(rec: &[u8]) -> bool
 }
 
 // CMC_EN: is the monitor in LPCM?
+#[tactic(auto, unfolding(crate::specs::Record::in_lpcm, crate::specs::Record::byte_of, laws::specs::Bits::bit_at, laws::specs::Bits::odd))]
 pub fn in_lpcm(rec: &[u8]) -> bool
     ensures { result ≡ in_lpcm rec.now }
 {
@@ -208,14 +160,9 @@ pub fn in_lpcm(rec: &[u8]) -> bool
 }
 
 // Is it a record, with a counter of 0 to 63 and a retention byte of 0 or 1?
+#[tactic(auto, unfolding(crate::specs::Record::is_record, crate::specs::Record::record_sound, crate::specs::Record::byte_of))]
 pub fn record_sound(rec: &[u8]) -> bool
     ensures { result ≡ (is_record rec.now && record_sound rec.now) }
 {
-    if rec.len() != RECORD_SIZE {
-        return false;
-    }
-    if rec[COUNTER] > MOST_COUNT {
-        return false;
-    }
-    rec[UNLOCKED] <= 1
+    rec.len() == RECORD_SIZE && rec[COUNTER] <= MOST_COUNT && rec[UNLOCKED] <= 1
 }

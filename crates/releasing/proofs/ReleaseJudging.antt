@@ -18,16 +18,18 @@ use Rattle.refusals.proofs.Deciding.{holds_here, has_passed}
 use Rattle.records.specs.declared.commands.Command.{Command}
 use Rattle.records.specs.Record.{record_size}
 use Rattle.records.specs.Commands.{most_monitors}
-use Rattle.judging.specs.declared.heads.Judged.TheVariants.{Bad, Good}
 use Rattle.judging.specs.Table.{monitors, sound}
 use Rattle.judging.specs.Refusals.{command_in, short_row, command_row, listed_row, length_row}
 use Rattle.judging.specs.Heads.{head_judged}
+use Rattle.judging.proofs.Judging.{good_monitors}
 use Rattle.judging.proofs.Soundness.{is_sound}
 use Rattle.refusals.proofs.Decided.{is_accepted}
 use Rattle.judging.proofs.Judging.{count_is, by_engine, by-head}
 use Rattle.clocking.specs.Clock.{Clock}
 use Rattle.releasing.specs.Release.{another_count, another, release_refusals}
 use Rattle.releasing.specs.Judged.{judged}
+use Rattle.std.specs.Prelude.{Err}
+use Rattle.judging.specs.Heads.{good}
 
 module _ (c : Clock) (table : List ℕ) (four : length c.head ≡ 4) {n : ℕ} (counted : n ≡ cond (sound table) (monitors table) 0) where
   -- the release's refusals are those of the head, behind a first that holds where b
@@ -35,7 +37,7 @@ module _ (c : Clock) (table : List ℕ) (four : length c.head ≡ 4) {n : ℕ} (
   unfolding judged release_refusals
   by_first e =
       let all : take 4 c.head ≡ c.head = take_all 4 c.head (omega (arith, four)) in
-      ap₂ (λ (b : Bool) (h : List ℕ). decide ((b gives TableNotSound) ∷ short_row c.seen ∷ command_row h ∷ listed_row c.head ∷ length_row c.seen (command_in c.head) (monitors table) ∷ []) Bad (Good (command_in c.head) (monitors table))) e (sym all)
+      ap₂ (λ (b : Bool) (h : List ℕ). decide ((b gives TableNotSound) ∷ short_row c.seen ∷ command_row h ∷ listed_row c.head ∷ length_row c.seen (command_in c.head) (monitors table) ∷ []) Err (good (command_in c.head) (monitors table))) e (sym all)
 
   -- by the table: the first refusal
   first_of : (b : Bool) → another_count c n ≡ b → not (sound table) || another_count c (monitors table) ≡ not (sound table) || b
@@ -46,8 +48,8 @@ module _ (c : Clock) (table : List ℕ) (four : length c.head ≡ 4) {n : ℕ} (
       go false s = ap (λ (x : Bool). not x || another_count c (monitors table)) s ∙ sym (ap (λ (x : Bool). not x || b) s)
 
   -- another count at byte four
-  pub stop_another : another_count c n ≡ true → judged c table ≡ Bad TableNotSound
-  stop_another e = by_first (first_of true e ∙ either (not (sound table))) ∙ holds_here _ _ Bad _ refl
+  pub stop_another : another_count c n ≡ true → judged c table ≡ Err TableNotSound
+  stop_another e = by_first (first_of true e ∙ either (not (sound table))) ∙ holds_here _ _ Err _ refl
     where
       either : (x : Bool) → x || true ≡ true
       either true = refl
@@ -69,17 +71,17 @@ neither : (a b : Bool) → a || b ≡ false → (a ≡ false) × (b ≡ false)
 neither true b h = absurd (false≢true (sym h))
 neither false b h = (refl, h)
 
-module _ (c : Clock) (table : List ℕ) {command : Command} {n : ℕ} (e : judged c table ≡ Good command n) where
-  apart : (r : Refusal) → Good command n ≡ Bad r → ⊥
+module _ (c : Clock) (table : List ℕ) {command : Command} {n : ℕ} (e : judged c table ≡ good command n) where
+  apart : (r : Refusal) → good command n ≡ Err r → ⊥
   apart r e = let z : ◌≡◌ {A = ℕ} 0 1 = cc in omega arith
 
   passed : Passed (release_refusals c table)
   unfolding judged
-  passed = has_passed (release_refusals c table) Bad _ (Good command n) apart e
+  passed = has_passed (release_refusals c table) Err _ (good command n) apart e
 
   its-count : n ≡ monitors table
   unfolding judged
-  its-count = let good = is_accepted (release_refusals c table) Bad _ (Good command n) apart e in cc
+  its-count = sym (good_monitors (is_accepted (release_refusals c table) Err _ (good command n) apart e))
 
   pub ready : Ready n c table
   unfolding release_refusals another_count

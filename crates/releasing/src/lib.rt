@@ -4,5 +4,5 @@
 mod looks;
 mod releases;
 
-pub use looks::{Looked, look};
+pub use looks::look;
 pub use releases::{judge, release};

@@ -18,25 +18,22 @@ use records::Command;
 use refusals::Refusal;
 
 // Was the table that was lent with byte four one of another count?
+#[tactic(auto, unfolding(crate::specs::Release::another_count, clocking::specs::Bytes::clock_of))]
 fn another_count(state: &[u8], n: usize) -> bool
     ensures { result ≡ another_count (clock_of state.now) n }
 {
-    if seen_in(state) < 4 {
-        return false;
-    }
-    chained_in(state) != n
+    seen_in(state) >= 4 && chained_in(state) != n
 }
 
 // What a release is judged: the refusals in the paper's order, the table's, and then those of the first four bytes.
-pub fn judge(state: &[u8; STATE_SIZE], table: &[u8]) -> Judged
+pub fn judge(state: &[u8; STATE_SIZE], table: &[u8]) -> Result<Judged, Refusal>
     ensures { result ≡ judged (clock_of state.now) table.now }
 {
     let n = judging::sound_count(table);
     if another_count(state, n) {
-        return Judged::Bad(Refusal::TableNotSound);
+        return Err(Refusal::TableNotSound);
     }
-    let bytes = &state[..];
-    judging::judge_head(&bytes[HEAD..WINDOWS], seen_in(bytes), n)
+    judging::judge_head(&state[HEAD..WINDOWS], seen_in(state), n)
 }
 
 // Every monitor acts on its own window, and those that took the command are counted.
@@ -46,34 +43,28 @@ fn act_all(table: &mut [u8], command: Command, state: &[u8; STATE_SIZE], n: usiz
     ensures table_after { table.new ≡ joined (along (λ r window. keeps command window r) (rows record_size n table.old) (clock_of state.now).windows) }
 {
     let mut taken = 0;
-    let mut k = 0;
-    while k < n {
+    for k in 0..n {
         let window = window_in(state, n, k);
         if serving::serve_at(table, command, k, window) {
             taken += 1;
         }
-        k += 1;
     }
     taken
 }
 
 // What comes of a release: each monitor acts on its own window as the state holds it, also where no frame leads to such a state.
-fn finish(state: &[u8; STATE_SIZE], table: &mut [u8]) -> Answer
+fn finish(state: &[u8; STATE_SIZE], table: &mut [u8]) -> Result<Answer, Refusal>
     ensures value { result ≡ released (clock_of state.now) table.old }
     ensures table_after { table.new ≡ table_released (clock_of state.now) table.old }
 {
-    match judge(state, table) {
-        Judged::Bad(refusal) => Answer::Refused(refusal),
-        Judged::Good(command, n) => {
-            let taken = act_all(table, command, state, n);
-            let reply = records::reply_size(command, n);
-            Answer::Accepted { taken, reply }
-        }
-    }
+    let judged = judge(state, table)?;
+    let taken = act_all(table, judged.command, state, judged.monitors);
+    let reply = records::reply_size(judged.command, judged.monitors);
+    Ok(Answer { taken, reply })
 }
 
 // Ends a frame: the table becomes what the rules say, and the next frame starts empty. A refusal leaves the table as it is.
-pub fn release(state: &mut [u8; STATE_SIZE], table: &mut [u8]) -> Answer
+pub fn release(state: &mut [u8; STATE_SIZE], table: &mut [u8]) -> Result<Answer, Refusal>
     ensures value { result ≡ released (clock_of state.old) table.old }
     ensures state_after { state.new ≡ idle }
     ensures table_after { table.new ≡ table_released (clock_of state.old) table.old }

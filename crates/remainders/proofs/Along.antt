@@ -1,7 +1,7 @@
 -- The invariant of a loop along a byte string, bit by bit or through a table: the bytes from i on lead from the remainder
 -- so far to the result.
 -- Assumes nothing.
-use mathlib.Core.Path.{◌≡◌, refl, ap, ◌∙◌, subst⁻¹}
+use mathlib.Core.Path.{◌≡◌, ap, ◌∙◌, subst⁻¹}
 use mathlib.Core.List.{List}
 use Prim.Native.Nat.{ℕ, ◌+◌, ◌^◌, ◌≤◌, ◌<◌}
 use native.Mathlib.Omega.{arith}
@@ -16,9 +16,6 @@ pub record Along (w g start : ℕ) (bytes : List ℕ) (r i : ℕ) : Type 0 where
   pub leads : remainder w g r (bits_of_bytes (drop i bytes)) ≡ remainder w g start (bits_of_bytes bytes)
 
 module _ (w g start : ℕ) (bytes : List ℕ) where
-  pub along-start : start < 2 ^ w → Along w g start bytes start 0
-  along-start h = record { within = omega arith; below = h; leads = refl }
-
   pub along_more : {r s i : ℕ} → Along w g start bytes r i → i < length bytes → g < 2 ^ w
       → s ≡ remainder w g r (bits_of 8 (get_or bytes i 0)) → Along w g start bytes s (i + 1)
   along_more {r} {s} {i} a h hg e =

@@ -1,47 +1,45 @@
-// The remainder bit by bit. Written once over the width: w is the width, g the polynomial below x^w.
-ghost use Rattle.std.specs.Prelude.{◌≡◌};
+// The remainder bit by bit, of any check word. A remainder is a number that a `requires` keeps below 2^w: a struct with that as its ghost field
+// would want a PhantomData for the check word, and its number named at every step.
+ghost use Rattle.std.specs.Prelude.{◌≡◌, ◌^◌, ◌<◌};
 ghost use Rattle.laws.specs.Bits.{odd, bits_of, bits_of_bytes};
-ghost use Rattle.pec.specs.Remainder.{step, remainder, Fitting};
+ghost use Rattle.pec.specs.Remainder.{step, remainder};
+
+use crate::check_word::{CheckWord, START};
 
 // One bit more: the last bit of x.
-pub(crate) fn step_bit(w: u16, g: u16, r: u16, x: u16) -> u16
-    requires { Fitting w g r }
-    ensures { result ≡ step w g r (odd x) }
+fn step_bit<W: CheckWord>(r: u16, x: u16) -> u16
+    requires { r < 2 ^ W.WIDTH }
+    ensures { result ≡ step W.WIDTH W.POLYNOMIAL r (odd x) }
 {
     let up = r * 2;
-    let low = up % (1 << w);
-    if ((up >> w) ^ x) % 2 == 1 {
-        low ^ g
+    let low = up % (1 << W::WIDTH);
+    if ((up >> W::WIDTH) ^ x) % 2 == 1 {
+        low ^ W::POLYNOMIAL
     } else {
         low
     }
 }
 
 // The eight bits of a byte, the most significant first.
-pub(crate) fn step_byte(w: u16, g: u16, start: u16, b: u8) -> u16
-    requires { Fitting w g start }
-    ensures { result ≡ remainder w g start (bits_of 8 b) }
+fn step_byte<W: CheckWord>(start: u16, byte: u8) -> u16
+    requires { start < 2 ^ W.WIDTH }
+    ensures { result ≡ remainder W.WIDTH W.POLYNOMIAL start (bits_of 8 byte) }
 {
-    let x = b as u16;
+    let x = u16::from(byte);
     let mut r = start;
-    let mut k: u16 = 8;
-    while 0 < k {
-        k -= 1;
-        r = step_bit(w, g, r, x >> k);
+    for place in (0..8u16).rev() {
+        r = step_bit::<W>(r, x >> place);
     }
     r
 }
 
 // A byte string of any length.
-pub(crate) fn over_bytes(w: u16, g: u16, start: u16, bytes: &[u8]) -> u16
-    requires { Fitting w g start }
-    ensures { result ≡ remainder w g start (bits_of_bytes bytes.now) }
+pub(crate) fn over_bytes<W: CheckWord>(bytes: &[u8]) -> u16
+    ensures { result ≡ remainder W.WIDTH W.POLYNOMIAL 16 (bits_of_bytes bytes.now) }
 {
-    let mut r = start;
-    let mut i = 0;
-    while i < bytes.len() {
-        r = step_byte(w, g, r, bytes[i]);
-        i += 1;
+    let mut r = START;
+    for &byte in bytes {
+        r = step_byte::<W>(r, byte);
     }
     r
 }

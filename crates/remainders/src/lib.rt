@@ -2,6 +2,7 @@
 #![tactic(auto)]
 
 mod bit_by_bit;
+mod check_word;
 mod strings;
 mod tables;
 mod through_table;

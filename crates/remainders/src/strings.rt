@@ -4,46 +4,41 @@ ghost use Rattle.laws.specs.Bits.{bits_of, bits_of_bytes};
 ghost use Rattle.pec.specs.Remainder.{remainder};
 ghost use Rattle.pec.specs.Words.{pec15, polynomial10, pec10, data_pec, seal};
 
-use crate::tables::{PEC10, PEC15};
+use crate::check_word::{Pec10, Pec15};
 use crate::{bit_by_bit, through_table};
 use check_words::two_bytes;
 
-const POLYNOMIAL_15: u16 = 0x4599;
-
-const POLYNOMIAL_10: u16 = 0x08f;
-
-const START: u16 = 16;
-
 // The 15-bit remainder of a byte string, bit by bit.
+#[tactic(auto, unfolding(pec::specs::Words::pec15))]
 pub fn pec15_bitwise(bytes: &[u8]) -> u16
     ensures { result ≡ pec15 bytes.now }
 {
-    bit_by_bit::over_bytes(15, POLYNOMIAL_15, START, bytes)
+    bit_by_bit::over_bytes::<Pec15>(bytes)
 }
 
 // The 15-bit remainder of a byte string, through the table.
+#[tactic(auto, unfolding(pec::specs::Words::pec15))]
 pub fn pec15_by_table(bytes: &[u8]) -> u16
     ensures { result ≡ pec15 bytes.now }
 {
-    through_table::over_bytes(15, POLYNOMIAL_15, &PEC15, START, bytes)
+    through_table::over_bytes::<Pec15>(bytes)
 }
 
 // The 10-bit remainder of a byte string, bit by bit.
+#[tactic(auto, unfolding(pec::specs::Words::pec10))]
 pub fn pec10_bitwise(bytes: &[u8]) -> u16
     ensures { result ≡ pec10 bytes.now }
 {
-    bit_by_bit::over_bytes(10, POLYNOMIAL_10, START, bytes)
+    bit_by_bit::over_bytes::<Pec10>(bytes)
 }
 
-// The 10-bit remainder of a byte string and then of k bits x, through the table. A table is copied where it is named,
-// so it is named once and lent to both steps.
+// The 10-bit remainder of a byte string and then of k bits x, through the table.
 fn pec10_and_bits(bytes: &[u8], k: u16, x: u16) -> u16
     requires { (k ≤ 8) × (x < 2 ^ k) }
     ensures { result ≡ remainder 10 polynomial10 16 (bits_of_bytes bytes.now ++ bits_of k x) }
 {
-    let table = &PEC10;
-    let r = through_table::over_bytes(10, POLYNOMIAL_10, table, START, bytes);
-    through_table::step_bits(10, POLYNOMIAL_10, table, k, r, x)
+    let r = through_table::over_bytes::<Pec10>(bytes);
+    through_table::step_bits::<Pec10>(k, r, x)
 }
 
 // The 10-bit remainder of a byte string, through the table.
@@ -57,8 +52,7 @@ pub fn pec10_by_table(bytes: &[u8]) -> u16
 pub fn data_pec(bytes: &[u8], counter: u8) -> u16
     ensures { result ≡ data_pec bytes.now counter }
 {
-    let bits = counter % 64;
-    pec10_and_bits(bytes, 6, bits as u16)
+    pec10_and_bits(bytes, 6, u16::from(counter % 64))
 }
 
 // Bytes seven and eight of a payload.
@@ -66,5 +60,5 @@ pub fn seal(bytes: &[u8], counter: u8) -> [u8; 2]
     ensures { result ≡ seal bytes.now counter }
 {
     let check = data_pec(bytes, counter);
-    two_bytes((counter % 64) as u16 * 1024 + check)
+    two_bytes(u16::from(counter % 64) * 1024 + check)
 }

@@ -1,5 +1,5 @@
 // A remainder for each byte value, for each of the two check words. The rule of a table, that entry j is the remainder
-// of the eight bits of j alone, is proved at every entry (proofs/tables).
+// of the eight bits of j alone, is proved at every entry (proofs/check_word).
 
 pub(crate) const PEC15: [u16; 256] = [
     0x0000, 0x4599, 0x4eab, 0x0b32, 0x58cf, 0x1d56, 0x1664, 0x53fd, 0x7407, 0x319e, 0x3aac, 0x7f35,

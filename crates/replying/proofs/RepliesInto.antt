@@ -10,6 +10,7 @@ use lib.ListN.{length}
 use borrow.Author.Tests.{le-leb, lt-leb}
 use Rattle.records.specs.declared.commands.Command.{Command}
 use Rattle.records.specs.declared.commands.Command.TheVariants.{Reads, Writes, Bares, Unlisted}
+use Rattle.records.specs.declared.record.Part.{Part}
 use Rattle.records.specs.Commands.{reply_length}
 use Rattle.judging.specs.Table.{monitors, whole_table, sound}
 use Rattle.replying.specs.Replied.{replied, replies_fit, replies_into}
@@ -69,7 +70,15 @@ either : {A : Type 0} (b : Bool) (x : A) → x ≡ cond b x x
 either true x = refl
 either false x = refl
 
--- a command that is no read has no reply, whatever the table and the room
+-- a command that is no read leaves the buffer
+pub no_read : (c : Command) (n : ℕ) (table buffer : List ℕ) → ((part : Part) → c ≡ Reads part → ⊥) → replied c n table buffer ≡ buffer
+unfolding replied
+no_read (Reads part) n table buffer h = absurd (h part refl)
+no_read (Writes what) n table buffer h = refl
+no_read (Bares what) n table buffer h = refl
+no_read Unlisted n table buffer h = refl
+
+-- and has no reply, whatever the table and the room
 pub no_reply : (c : Command) (table buffer : List ℕ) → reply_length c 1 ≡ 0
     → (0 ≡ cond (replies_into c table (length buffer)) (reply_length c (monitors table)) 0)
     × (buffer ≡ cond (replies_into c table (length buffer)) (replied c (monitors table) table buffer) buffer)

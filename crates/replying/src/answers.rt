@@ -11,35 +11,14 @@ ghost use Rattle.replying.specs.Replied.{replied, replies_fit, replies_into};
 use judging::{sound_count, whole_table};
 use records::{Command, PAYLOAD_SIZE, Part, RECORD_SIZE};
 
-// The replies of n monitors to a read, nearest monitor first.
-fn write_replies(part: Part, table: &[u8], n: usize, buffer: &mut [u8])
-    requires { (length table.now ≡ n * record_size) × (n ≤ most_monitors) × (payload_size * n ≤ length buffer.old) }
-    ensures { buffer.new ≡ reply_data (map (reply part) (rows record_size n table.now)) ++ drop (payload_size * n) buffer.old }
+// The replies of all monitors of a table to a read, nearest monitor first.
+fn write_replies(part: Part, table: &[u8], buffer: &mut [u8])
+    requires { payload_size * monitors table.now ≤ length buffer.old }
+    ensures { buffer.new ≡ reply_data (map (reply part) (rows record_size (monitors table.now) table.now)) ++ drop (payload_size * monitors table.now) buffer.old }
 {
-    let mut k = 0;
-    while k < n {
-        let at = k * RECORD_SIZE;
-        let end = at + RECORD_SIZE;
-        let eight = reads::reply_of(part, &table[at..end]);
+    for (k, rec) in table.chunks_exact(RECORD_SIZE).enumerate() {
+        let eight = reads::reply_of(part, rec);
         laying::put(buffer, k * PAYLOAD_SIZE, &eight);
-        k += 1;
-    }
-}
-
-// The reply to a command, and its length: only a read has one.
-fn write_reply(command: Command, table: &[u8], n: usize, buffer: &mut [u8]) -> usize
-    requires { (length table.now ≡ n * record_size) × (n ≤ most_monitors) × (reply_length command n ≤ length buffer.old) }
-    ensures value { result ≡ reply_length command n }
-    ensures buffer_after { buffer.new ≡ replied command n table.now buffer.old }
-{
-    match command {
-        Command::Reads(part) => {
-            write_replies(part, table, n, buffer);
-            PAYLOAD_SIZE * n
-        }
-        Command::Writes(_) => 0,
-        Command::Bares(_) => 0,
-        Command::Unlisted => 0,
     }
 }
 
@@ -52,10 +31,14 @@ pub fn replies_of(table: &[u8], command: Command, n: usize, buffer: &mut [u8]) -
     if !whole_table(table, n) {
         return 0;
     }
-    if buffer.len() < records::reply_size(command, n) {
+    let size = records::reply_size(command, n);
+    if buffer.len() < size {
         return 0;
     }
-    write_reply(command, table, n, buffer)
+    if let Command::Reads(part) = command {
+        write_replies(part, table, buffer);
+    }
+    size
 }
 
 // The reply of a sound table to a command, at the start of a buffer, and its length. Where the table is not sound or the reply

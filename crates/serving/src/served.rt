@@ -8,8 +8,8 @@ ghost use Rattle.monitor.specs.Effects.{keeps};
 ghost use Rattle.judging.specs.Table.{whole_table};
 ghost use Rattle.serving.specs.Served.{has_record, served_at, takes_at, takers};
 
-use judging::whole_table;
-use records::{Command, RECORD_SIZE, width_of};
+use judging::{record_at, whole_table};
+use records::{Command, width_of};
 
 // The monitor at k of a table, counted from 0, acts on its own record and its own bytes, and whether it took the command
 // comes back. A table with no whole record there stays, and none took it.
@@ -17,15 +17,14 @@ fn act_at(table: &mut [u8], command: Command, k: usize, own: &[u8]) -> bool
     ensures value { result ≡ (has_record k table.old && takes_at k command own.now table.old) }
     ensures table_after { table.new ≡ cond (has_record k table.old) (served_at k command own.now table.old) table.old }
 {
-    if table.len() / RECORD_SIZE <= k {
+    let Some(lies) = record_at(table, k) else {
         return false;
-    }
-    let at = k * RECORD_SIZE;
-    let end = at + RECORD_SIZE;
-    acting::act(command, &mut table[at..end], own)
+    };
+    acting::act(command, &mut table[lies], own)
 }
 
 // The own bytes of the monitor at k, counted from 0, so many for each; nothing in a bare frame.
+#[tactic(auto, using(crate::proofs::Payloads::ends_within, crate::proofs::Payloads::few_in_all))]
 fn payload_in(payloads: &[u8], n: usize, k: usize, width: usize) -> &[u8]
     requires { (k < n) × (n ≤ most_monitors) × (width ≤ payload_size) }
     ensures { result.now ≡ row_at width (n - suc k) payloads.now }
@@ -36,17 +35,13 @@ fn payload_in(payloads: &[u8], n: usize, k: usize, width: usize) -> &[u8]
     if n * width <= payloads.len() {
         return &payloads[at..end];
     }
-    if end <= payloads.len() {
-        return &payloads[at..end];
-    }
-    if at < payloads.len() {
-        return &payloads[at..];
-    }
-    &payloads[..0]
+    let len = payloads.len();
+    &payloads[at.min(len)..end.min(len)]
 }
 
 // Every monitor acts on its own of the payloads, and those that took the command are counted. Nothing else reaches a monitor's act, so that
-// the compiler keeps all of it in this loop.
+// the compiler keeps all of it in this loop. The table and its count are no struct: C lends the bytes alone, and each public function would make
+// it and take it apart.
 fn serve_whole(table: &mut [u8], command: Command, n: usize, payloads: &[u8]) -> usize
     requires { (length table.old ≡ n * record_size) × (n ≤ most_monitors) }
     ensures value { result ≡ takers command (rows record_size n table.old) (write_payloads (width_of command) n payloads.now) }
@@ -54,13 +49,11 @@ fn serve_whole(table: &mut [u8], command: Command, n: usize, payloads: &[u8]) ->
 {
     let width = width_of(command);
     let mut taken = 0;
-    let mut k = 0;
-    while k < n {
+    for k in 0..n {
         let own = payload_in(payloads, n, k, width);
         if act_at(table, command, k, own) {
             taken += 1;
         }
-        k += 1;
     }
     taken
 }
@@ -80,10 +73,7 @@ pub fn serve(table: &mut [u8], command: Command, n: usize, payloads: &[u8]) -> u
 fn own_of(own: &[u8], width: usize) -> &[u8]
     ensures { result.now ≡ cond (leb (length own.now) width) own.now [] }
 {
-    if width < own.len() {
-        return &own[..0];
-    }
-    own
+    if own.len() <= width { own } else { &[] }
 }
 
 // The monitor at k acts by itself, as a chain of one.
@@ -91,11 +81,9 @@ pub fn serve_at(table: &mut [u8], command: Command, k: usize, own: &[u8]) -> boo
     ensures value { result ≡ (has_record k table.old && takes_at k command own.now table.old) }
     ensures table_after { table.new ≡ cond (has_record k table.old) (served_at k command own.now table.old) table.old }
 {
-    if k >= table.len() / RECORD_SIZE {
+    let Some(lies) = record_at(table, k) else {
         return false;
-    }
-    let start = k * RECORD_SIZE;
-    let end = start + RECORD_SIZE;
+    };
     let handed = own_of(own, width_of(command));
-    serve_whole(&mut table[start..end], command, 1, handed) == 1
+    serve_whole(&mut table[lies], command, 1, handed) == 1
 }

@@ -1,73 +1,108 @@
 // What the paper says of a frame.
-use crate::bench::{Frame, NUMBER, Outcome, TAKEN};
-use crate::bursts::{AT_A_PLACE, last_place};
-use records::{COUNTER, RECORD_SIZE, STATUS_BITS, UNLOCKED};
-use std::num::wrapping_add_u8;
+ghost use Rattle.std.specs.Prelude.{◌≡◌, length};
 
-// A write: what is there before, the frame as our host wrote it, where a monitor keeps its six bytes, and the hits that are to be told by a
-// check.
-#[derive(Clone, Copy)]
+use crate::bench::{Frame, Outcome, Table};
+use crate::spike::Spike;
+use chain::Answer;
+use records::{COUNTER, RECORD_SIZE, STATUS_BITS, UNLOCKED};
+use refusals::Refusal;
+
+// A write: what is there before, the frame as our host wrote it, where a monitor keeps its six bytes, and whether it keeps none that do not fit
+// their check.
+#[derive(Drop)]
 pub(crate) struct Trial {
-    pub before: Outcome,
+    pub before: Table,
     pub sent: Frame,
     pub at: usize,
-    pub told: u64,
+    pub needs_check: bool,
 }
 
-// Hits add up: the far payload, the near payload, the command with its check.
-pub(crate) const FAR: u64 = 1;
-
-pub(crate) const NEAR: u64 = 2;
-
-pub(crate) const COMMAND: u64 = 4;
-
-// What a spike hits, by its first bit and its last. The command has the first 32 places, and each payload the next 64.
-pub(crate) fn hits_of(spike: usize) -> u64 {
-    if spike / AT_A_PLACE < 32 {
-        return COMMAND;
-    }
-    if last_place(spike) < 96 {
-        return FAR;
-    }
-    if spike / AT_A_PLACE < 96 {
-        return FAR | NEAR;
-    }
-    NEAR
+// What a spike hits: the command with its check, the far payload, the near payload, or both payloads.
+#[derive(Clone, Copy, PartialEq, Eq)]
+pub(crate) enum Hit {
+    Command,
+    Far,
+    Near,
+    Both,
 }
 
-// A monitor, counted from 0, after an accepted frame: it is locked. Where it takes the frame it keeps bytes at a place of its record, and
-// counts.
-fn served(before: Outcome, monitor: usize, takes: bool, at: usize, kept: &[u8]) -> Outcome {
-    let mut all = before;
-    let record = monitor % 2 * RECORD_SIZE;
-    all[record + UNLOCKED] = 0;
-    if takes {
-        laying::put(&mut all, record + at % RECORD_SIZE, kept);
-        all[record + COUNTER] = all[record + COUNTER] % 63 + 1;
-        all[TAKEN] = wrapping_add_u8(all[TAKEN], 1);
+impl Hit {
+    // By the spike's first bit and its last. The command has the first 32 places, and each payload the next 64.
+    pub(crate) fn of(spike: Spike) -> Hit {
+        if spike.place < 32 {
+            Hit::Command
+        } else if spike.end() <= 96 {
+            Hit::Far
+        } else if spike.place < 96 {
+            Hit::Both
+        } else {
+            Hit::Near
+        }
     }
-    all
+
+    pub(crate) fn is_on_near(self) -> bool {
+        self == Hit::Near || self == Hit::Both
+    }
+
+    pub(crate) fn is_on_far(self) -> bool {
+        self == Hit::Far || self == Hit::Both
+    }
 }
 
-// A write is refused where the command was hit; otherwise each monitor takes it, but for one whose check tells that its payload was hit.
-pub(crate) fn due(trial: Trial, came: Frame, hits: u64) -> Outcome {
-    let mut all = trial.before;
-    let told = hits & trial.told;
-    if told & COMMAND != 0 {
-        all[NUMBER] = 3;
-        return all;
+// A monitor after an accepted frame: it is locked. Where it takes the frame it keeps bytes at a place of its record, and counts.
+fn serve(record: &mut [u8], at: usize, taken: Option<&[u8]>)
+    requires { length record.old ≡ RECORD_SIZE }
+{
+    record[UNLOCKED] = 0;
+    if let Some(bytes) = taken {
+        laying::put(record, at, bytes);
+        record[COUNTER] = record[COUNTER] % 63 + 1;
     }
-    all = served(all, 0, told & NEAR == 0, trial.at, &came[12..18]);
-    served(all, 1, told & FAR == 0, trial.at, &came[4..10])
+}
+
+// An accepted frame. Each monitor that takes it keeps bytes at a place of its record.
+fn served(before: &Table, at: usize, near: Option<&[u8]>, far: Option<&[u8]>) -> Outcome {
+    let mut table = *before;
+    let (near_record, far_record) = table.split_at_mut(RECORD_SIZE);
+    serve(near_record, at, near);
+    serve(far_record, at, far);
+    let taken = usize::from(near.is_some()) + usize::from(far.is_some());
+    Outcome::without_reply(table, Ok(Answer { taken, reply: 0 }))
+}
+
+impl Trial {
+    // The frame as our host wrote it.
+    pub(crate) fn due_as_sent(&self) -> Outcome {
+        self.due_untold(&self.sent)
+    }
+
+    // A frame whose checks tell of no spike: each monitor takes it.
+    pub(crate) fn due_untold(&self, came: &Frame) -> Outcome {
+        served(
+            &self.before,
+            self.at,
+            Some(&came[12..18]),
+            Some(&came[4..10]),
+        )
+    }
+
+    // A write is refused where the command was hit; otherwise each monitor takes it, but for one whose check tells that its payload was hit.
+    pub(crate) fn due(&self, came: &Frame, hit: Hit) -> Outcome {
+        if hit == Hit::Command {
+            return Outcome::without_reply(self.before, Err(Refusal::CommandWrong));
+        }
+        let near_told = self.needs_check && hit.is_on_near();
+        let far_told = self.needs_check && hit.is_on_far();
+        let near = (!near_told).then_some(&came[12..18]);
+        let far = (!far_told).then_some(&came[4..10]);
+        served(&self.before, self.at, near, far)
+    }
 }
 
 // After MUTE, and after UNMUTE.
-pub(crate) fn due_of_mute(before: Outcome, muted: bool) -> Outcome {
-    let mut all = before;
-    all[TAKEN] = 0;
+pub(crate) fn due_of_mute(before: &Table, muted: bool) -> Outcome {
     let bit = if muted { 0x10 } else { 0 };
-    let near = all[STATUS_BITS] & 0xef | bit;
-    let far = all[RECORD_SIZE + STATUS_BITS] & 0xef | bit;
-    all = served(all, 0, true, STATUS_BITS, &[near]);
-    served(all, 1, true, STATUS_BITS, &[far])
+    let near = before[STATUS_BITS] & 0xef | bit;
+    let far = before[RECORD_SIZE + STATUS_BITS] & 0xef | bit;
+    served(before, STATUS_BITS, Some(&[near]), Some(&[far]))
 }

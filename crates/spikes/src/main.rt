@@ -4,23 +4,18 @@
 #![tactic(auto)]
 
 mod bench;
-mod bursts;
 mod due;
-mod say;
+mod shown;
+mod spike;
 mod tally;
-mod words;
 
-use crate::bench::{Outcome, TAKEN, built, through};
-use crate::bursts::{AT_A_PLACE, FIFTEEN_PLACES, TEN_PLACES, struck};
-use crate::due::{COMMAND, FAR, NEAR, Trial, due, due_of_mute};
-use crate::say::{bytes, text, words};
-use crate::tally::{is_wrong, try_all};
-use crate::words::{
-    AS_IT_SHOULD, AS_SENT, BEFORE, BEHIND, ELEVEN, IN_THE_COMMAND, MUTE_STRUCK, MUTED, NOT_SO,
-    OVER, RETENTION, SIXTEEN, STRUCK, TAKEN_BY, WRCFGB, WRRR,
-};
-use records::{CELLS, CONFIGURATION_B, COUNTER, RECORD_SIZE, STATUS_BITS};
-use std::num::wrapping_add_u64;
+use crate::bench::{Engine, Frame, Outcome, Table, built, muted_in, start};
+use crate::due::{Trial, due_of_mute};
+use crate::shown::{NearMonitor, OnTheWire};
+use crate::spike::Spike;
+use crate::tally::{Tally, is_wrong};
+use records::{CONFIGURATION_B, RETENTION};
+use std::io;
 
 // The thresholds of the near monitor and of the far one, and a DCC bit of the latter.
 const THRESHOLDS: [u8; 12] = *b"\xfa\xb0\x36\x00\x00\x00\xf4\x51\x46\x00\x00\x10";
@@ -29,110 +24,183 @@ const THRESHOLDS: [u8; 12] = *b"\xfa\xb0\x36\x00\x00\x00\xf4\x51\x46\x00\x00\x10
 const LICENCES: [u8; 12] = *b"L40117L40118";
 
 // The polynomial of a data check, 100 1000 1111, from the second bit on of the upper byte of the near monitor's over-voltage threshold.
-const ELEVEN_PLACES: usize = (14 * 8 + 1) * AT_A_PLACE + 0b001_0001_1110_0000;
+const ELEVEN_PLACES: Spike = Spike {
+    place: 14 * 8 + 1,
+    bits: 0b1001_0001_1110_0000,
+};
 
 // The polynomial of a command check, 1100 0101 1001 1001, over the last sixteen of the 31 bits of a command and its check.
-const SIXTEEN_PLACES: usize = 15 * AT_A_PLACE + 0b100_0101_1001_1001;
+const SIXTEEN_PLACES: Spike = Spike {
+    place: 15,
+    bits: 0b1100_0101_1001_1001,
+};
 
-// A frame as it came, and how many took it; after a bare command how many are muted. 1 is answered where that is not as expected.
-fn shown(k: u64, before: Outcome, frame: &[u8], due: Outcome) -> u64 {
-    text(k);
-    bytes(frame);
-    let after = through(false, before, frame);
-    words(TAKEN_BY, &[after[TAKEN] as u64]);
-    if frame.len() == 4 {
-        let near = after[STATUS_BITS] / 16 % 2;
-        let far = after[RECORD_SIZE + STATUS_BITS] / 16 % 2;
-        words(MUTED, &[(near + far) as u64]);
-    }
-    is_wrong(before, frame, after, due) as u64
+// A frame as it came, and how many took it. How many outcomes are not as expected?
+fn show(
+    rt: &impl Print,
+    name: &str,
+    before: &Table,
+    frame: &[u8],
+    due: &Outcome,
+) -> io::Result<u64> {
+    let after = Engine::WholeFrame.handle(before, frame);
+    let wire = OnTheWire(frame);
+    print!(rt; "  {name}{wire} | taken by {} of 2 monitors", after.taken())?;
+    Ok(u64::from(is_wrong(before, frame, &after, due)))
 }
 
-// The write that is carried out whatever the check of a payload.
-fn retention(before: Outcome) -> u64 {
-    let values = LICENCES;
-    let sent = built(0x0039, &values);
-    let trial = Trial {
-        before,
-        sent,
-        at: records::RETENTION,
-        told: COMMAND,
-    };
-    let due = due(trial, sent, 0);
-    let wrong = shown(WRRR, before, &sent, due);
-    wrapping_add_u64(wrong, try_all(RETENTION, trial, 32, 160, TEN_PLACES))
+// Spikes on the write of configuration B, whose checks tell.
+fn configuration_b(rt: &impl Print, trial: &Trial) -> io::Result<u64> {
+    println!(rt; "Our host writes configuration B, the far monitor's payload first.")?;
+    let wrong = show(
+        rt,
+        "WRCFGB",
+        &trial.before,
+        &trial.sent,
+        &trial.due_as_sent(),
+    )?;
+    let tally = Tally::of(trial, 32, 160, 10);
+    println!(rt;
+        "\n\nBehind the command, within 10 places: {} spikes",
+        tally.spikes
+    )?;
+    println!(rt; "  far payload alone: {}", tally.far_alone)?;
+    println!(rt; "  near payload alone: {}", tally.near_alone)?;
+    println!(rt; "  both, over the border: {}", tally.both)?;
+    println!(rt;
+        "  payloads hit: {}, of which {} were taken",
+        tally.payloads, tally.payloads_taken
+    )?;
+    println!(rt;
+        "  not as expected: {}\n\
+        Expected: a monitor whose payload was hit keeps its record, counter included, and only locks its retention again;\n\
+        one whose payload was not hit does as without the spike.\n",
+        tally.wrong
+    )?;
+    Ok(wrong.saturating_add(tally.wrong))
 }
 
-// What the near monitor holds of configuration B: its bytes, and the over-voltage threshold in volts. That is 12 bits in two's complement, of
-// which a step is 2.4 mV and 0 is 1.5 V; none here lies below 0 V. And its counter.
-fn near(k: u64, after: Outcome) {
-    text(k);
-    bytes(&after[CONFIGURATION_B..CELLS]);
-    let low = after[CONFIGURATION_B + 1] as u64 >> 4;
-    let over = (after[CONFIGURATION_B + 2] as u64) << 4 | low;
-    let above_lowest = (over % 4096 + 2048) % 4096 * 24;
-    let n = if above_lowest < 34152 {
-        0
-    } else {
-        above_lowest - 34152
-    };
-    let counter = after[COUNTER] as u64;
-    words(
-        OVER,
-        &[
-            n / 10_000,
-            n / 1000 % 10,
-            n / 100 % 10,
-            n / 10 % 10,
-            n % 10,
-            counter,
-        ],
-    );
+// Spikes on the same frame's command.
+fn command(rt: &impl Print, trial: &Trial) -> io::Result<u64> {
+    let tally = Tally::of(trial, 0, 32, 15);
+    println!(rt;
+        "In the command, its check and the 0 after that, within 15 places: {} spikes",
+        tally.spikes
+    )?;
+    println!(rt; "  refused with 3: {}", tally.refused_with_3)?;
+    println!(rt;
+        "  not as expected: {}\n\
+        Expected: refused with 3, command PEC wrong, and nothing changes, not even a lock.\n",
+        tally.wrong
+    )?;
+    Ok(tally.wrong)
+}
+
+// Spikes on the write that is carried out whatever the check of a payload.
+fn retention(rt: &impl Print, trial: &Trial) -> io::Result<u64> {
+    println!(rt; "Our host writes the retention, which both monitors have unlocked.")?;
+    let wrong = show(rt, "WRRR", &trial.before, &trial.sent, &trial.due_as_sent())?;
+    let tally = Tally::of(trial, 32, 160, 10);
+    println!(rt;
+        "\n\nBehind the command, within 10 places: {} spikes",
+        tally.spikes
+    )?;
+    println!(rt; "  taken by 2 of 2 monitors: {}", tally.taken_by_both)?;
+    println!(rt;
+        "  six bytes stored that were not sent: {}",
+        tally.not_as_sent
+    )?;
+    println!(rt;
+        "  not as expected: {}\n\
+        Expected: WRRR is carried out whatever its check says, so each monitor stores its six bytes as they came, and counts.\n\
+        Neither the answer nor the counter tells: read the retention back by RDRR, and compare it with what was written.\n",
+        tally.wrong
+    )?;
+    Ok(wrong.saturating_add(tally.wrong))
 }
 
 // The spike that the check of a payload does not tell, beside the frame as it was sent.
-fn eleven(trial: Trial) -> u64 {
-    let before = trial.before;
-    let sent = trial.sent;
-    let came = struck(sent, ELEVEN_PLACES);
-    let due = due(trial, came, 0);
-    let wrong = shown(ELEVEN, before, &came, due);
-    near(BEFORE, before);
-    near(AS_SENT, through(false, before, &sent));
-    near(STRUCK, through(false, before, &came));
-    wrong
+fn eleven(rt: &impl Print, trial: &Trial) -> io::Result<u64> {
+    let came = ELEVEN_PLACES.strike(&trial.sent);
+    println!(rt;
+        "One place more, and a spike may get through untold: read back what matters.\n\
+        11 places, on the near payload: its over-voltage threshold moves."
+    )?;
+    let wrong = show(rt, "WRCFGB", &trial.before, &came, &trial.due_untold(&came))?;
+    let as_sent = Engine::WholeFrame.handle(&trial.before, &trial.sent);
+    let struck = Engine::WholeFrame.handle(&trial.before, &came);
+    println!(rt; "\n  near monitor before:  {}", NearMonitor(&trial.before))?;
+    println!(rt; "  near monitor, as sent:{}", NearMonitor(&as_sent.table))?;
+    println!(rt; "  near monitor, struck: {}", NearMonitor(&struck.table))?;
+    Ok(wrong)
+}
+
+// A bare command as it came, and how many monitors are muted after it.
+fn show_bare(
+    rt: &impl Print,
+    name: &str,
+    before: &Table,
+    frame: &Frame,
+    due: &Outcome,
+) -> io::Result<u64> {
+    let bare = &frame[..4];
+    let wrong = show(rt, name, before, bare, due)?;
+    let muted = muted_in(&Engine::WholeFrame.handle(before, bare).table);
+    println!(rt; " | muted: {muted} of 2")?;
+    Ok(wrong)
 }
 
 // The spike that the check of a command does not tell, after MUTE as it was sent.
-fn sixteen(before: Outcome) -> u64 {
+fn sixteen(rt: &impl Print, before: &Table) -> io::Result<u64> {
+    println!(rt; "16 places, on a command: a MUTE comes as UNMUTE.")?;
     let mute = built(0x0028, b"");
-    let came = struck(mute, SIXTEEN_PLACES);
+    let came = SIXTEEN_PLACES.strike(&mute);
     let muted = due_of_mute(before, true);
-    let unmuted = due_of_mute(muted, false);
-    let wrong = shown(SIXTEEN, before, &mute[0..4], muted);
-    wrapping_add_u64(wrong, shown(MUTE_STRUCK, muted, &came[0..4], unmuted))
+    let unmuted = due_of_mute(&muted.table, false);
+    let wrong = show_bare(rt, "MUTE        ", before, &mute, &muted)?;
+    let again = show_bare(rt, "MUTE, struck", &muted.table, &came, &unmuted)?;
+    Ok(wrong.saturating_add(again))
 }
 
-fn main() {
-    let before = bench::start();
-    let values = THRESHOLDS;
-    let sent = built(0x0024, &values);
-    let trial = Trial {
+fn head(rt: &impl Print) -> io::Result<()> {
+    println!(rt;
+        "Spikes on the wire: how far the check words go, on a chain of two monitors.\n\
+        A spike turns over at least one bit of a frame, and all that it turns over lie within so many places in a row.\n\
+        Each is tried once, from the same two records, by the engine that takes a frame whole and by the one that clocks it a byte at a time.\n"
+    )
+}
+
+fn run(rt: &impl Print) -> io::Result<()> {
+    let before = start();
+    let thresholds = Trial {
         before,
-        sent,
+        sent: built(0x0024, &THRESHOLDS),
         at: CONFIGURATION_B,
-        told: FAR | NEAR | COMMAND,
+        needs_check: true,
     };
-    let due = due(trial, sent, 0);
-    let mut wrong = shown(WRCFGB, before, &sent, due);
-    wrong = wrapping_add_u64(wrong, try_all(BEHIND, trial, 32, 160, TEN_PLACES));
-    wrong = wrapping_add_u64(wrong, try_all(IN_THE_COMMAND, trial, 0, 32, FIFTEEN_PLACES));
-    wrong = wrapping_add_u64(wrong, retention(before));
-    wrong = wrapping_add_u64(wrong, eleven(trial));
-    wrong = wrapping_add_u64(wrong, sixteen(before));
+    let licences = Trial {
+        before,
+        sent: built(0x0039, &LICENCES),
+        at: RETENTION,
+        needs_check: false,
+    };
+    head(rt)?;
+    let wrong = [
+        configuration_b(rt, &thresholds)?,
+        command(rt, &thresholds)?,
+        retention(rt, &licences)?,
+        eleven(rt, &thresholds)?,
+        sixteen(rt, &before)?,
+    ];
+    let wrong = wrong.into_iter().fold(0, u64::saturating_add);
     if wrong == 0 {
-        words(AS_IT_SHOULD, &[wrong]);
+        println!(rt; "\nAll as it should be: {wrong} outcomes were not as expected.")
     } else {
-        words(NOT_SO, &[wrong]);
+        println!(rt; "\nNOT as it should be: {wrong} outcomes were not as expected, see above.")
     }
+}
+
+// The status is 0 also where a line could not be written.
+fn main(rt: HostRuntime) {
+    let _ = run(&rt);
 }

@@ -1,97 +1,88 @@
 // Spikes tried, and counted by what came of them in the whole-frame engine. Where the clocked engine does otherwise, that is not as expected.
 ghost use Rattle.std.specs.Prelude.{◌<◌, ◌≤◌};
 
-use crate::bench::{NUMBER, Outcome, TAKEN, through};
-use crate::bursts::{AT_A_PLACE, last_place, struck};
-use crate::due::{FAR, NEAR, Trial, due, hits_of};
-use crate::say::words;
+use crate::bench::{Engine, Outcome, Table};
+use crate::due::{Hit, Trial};
+use crate::spike::{FIRST_PLACE, Spike};
 use records::{COUNTER, RECORD_SIZE};
-use std::num::wrapping_add_u64;
 
-const FAR_COUNTER: usize = RECORD_SIZE + COUNTER;
-
-const COUNTS: usize = 11;
-
-// At each place a count. The spikes by what they hit are at their hits, which are never 0.
-type Tally = [u64; COUNTS];
-
-const SPIKES: usize = 0;
-
-// Payloads that were hit, and those of them that were taken.
-const PAYLOADS: usize = 5;
-
-const PAYLOADS_TAKEN: usize = 6;
-
-// Of spikes again: not as expected.
-const WRONG: usize = 7;
-
-// Refused with 3.
-const REFUSED: usize = 8;
-
-const TAKEN_BY_BOTH: usize = 9;
-
-// Taken by both, and not as if the frame had come as it was sent.
-const NOT_AS_SENT: usize = 10;
+#[derive(Clone, Copy, Default)]
+pub(crate) struct Tally {
+    pub spikes: u64,
+    pub far_alone: u64,
+    pub near_alone: u64,
+    pub both: u64,
+    pub payloads: u64,
+    pub payloads_taken: u64,
+    pub wrong: u64,
+    pub refused_with_3: u64,
+    pub taken_by_both: u64,
+    pub not_as_sent: u64,
+}
 
 // Does either engine do otherwise than is due? What comes of the whole-frame engine is given.
-pub(crate) fn is_wrong(before: Outcome, frame: &[u8], after: Outcome, due: Outcome) -> bool {
-    let clocked = through(true, before, frame);
-    !(check::same(&after, &due) & check::same(&clocked, &due))
+pub(crate) fn is_wrong(before: &Table, frame: &[u8], after: &Outcome, due: &Outcome) -> bool {
+    let clocked = Engine::Clocked.handle(before, frame);
+    *after != *due || clocked != *due
 }
 
-// No count here comes near the largest number.
-fn count(tally: &mut Tally, place: usize, more: u64) {
-    let at = place % COUNTS;
-    tally[at] = wrapping_add_u64(tally[at], more);
+// One more where it is so. No count here comes near the largest number.
+fn count(n: &mut u64, so: bool) {
+    *n = n.saturating_add(u64::from(so));
 }
 
-// What came of a spike. A monitor that took the frame has another counter.
-fn note(tally: &mut Tally, hits: u64, before: Outcome, after: Outcome, unstruck: Outcome) {
-    let near = hits / NEAR % 2;
-    let far = hits / FAR % 2;
-    let near_taken = near & (before[COUNTER] != after[COUNTER]) as u64;
-    let far_taken = far & (before[FAR_COUNTER] != after[FAR_COUNTER]) as u64;
-    let by_both = after[TAKEN] == 2;
-    let not_as_sent = by_both & !check::same(&after, &unstruck);
-    count(tally, PAYLOADS, near + far);
-    count(tally, PAYLOADS_TAKEN, near_taken % 2 + far_taken % 2);
-    count(tally, REFUSED, (after[NUMBER] == 3) as u64);
-    count(tally, TAKEN_BY_BOTH, by_both as u64);
-    count(tally, NOT_AS_SENT, not_as_sent as u64);
-}
-
-fn tried(tally: &mut Tally, trial: Trial, spike: usize) {
-    let before = trial.before;
-    let sent = trial.sent;
-    let hits = hits_of(spike);
-    let came = struck(sent, spike);
-    let unstruck = due(trial, sent, 0);
-    let due = due(trial, came, hits);
-    let after = through(false, before, &came);
-    let wrong = is_wrong(before, &came, after, due);
-    count(tally, SPIKES, 1);
-    count(tally, hits as usize, 1);
-    count(tally, WRONG, wrong as u64);
-    note(tally, hits, before, after, unstruck);
-}
-
-// The counts in words; those that were not as expected are answered.
-fn said(k: u64, tally: Tally) -> u64 {
-    words(k, &tally);
-    tally[WRONG]
-}
-
-// Every spike from one place up to another, each once: within so many places in a row, as bursts.rt has it.
-pub(crate) fn try_all(k: u64, trial: Trial, from: usize, to: usize, places: usize) -> u64
-    requires { (from ≤ 160) × (to ≤ 160) × (0 < places) × (places ≤ 64) }
-{
-    let mut tally = [0; COUNTS];
-    let mut spike = from * AT_A_PLACE;
-    while spike < to * AT_A_PLACE {
-        if last_place(spike) < to {
-            tried(&mut tally, trial, spike);
-        }
-        spike += places;
+impl Tally {
+    fn note_hit(&mut self, hit: Hit) {
+        count(&mut self.spikes, true);
+        count(&mut self.far_alone, hit == Hit::Far);
+        count(&mut self.near_alone, hit == Hit::Near);
+        count(&mut self.both, hit == Hit::Both);
+        count(&mut self.payloads, hit.is_on_near());
+        count(&mut self.payloads, hit.is_on_far());
     }
-    said(k, tally)
+
+    // What came of it. A monitor that took the frame has another counter.
+    fn note(&mut self, hit: Hit, before: &Table, after: &Outcome, as_sent: &Outcome) {
+        let far = RECORD_SIZE + COUNTER;
+        let near_taken = before[COUNTER] != after.table[COUNTER];
+        let far_taken = before[far] != after.table[far];
+        let by_both = after.taken() == 2;
+        let refused = after.answer.err().map(refusals::number_of);
+        count(&mut self.payloads_taken, hit.is_on_near() && near_taken);
+        count(&mut self.payloads_taken, hit.is_on_far() && far_taken);
+        count(&mut self.refused_with_3, refused == Some(3));
+        count(&mut self.taken_by_both, by_both);
+        count(&mut self.not_as_sent, by_both && *after != *as_sent);
+    }
+
+    fn try_one(&mut self, trial: &Trial, as_sent: &Outcome, spike: Spike) {
+        let hit = Hit::of(spike);
+        let came = spike.strike(&trial.sent);
+        let after = Engine::WholeFrame.handle(&trial.before, &came);
+        let due = trial.due(&came, hit);
+        self.note_hit(hit);
+        self.note(hit, &trial.before, &after, as_sent);
+        count(
+            &mut self.wrong,
+            is_wrong(&trial.before, &came, &after, &due),
+        );
+    }
+
+    // Every spike from one place up to another, each once: within so many places in a row.
+    pub(crate) fn of(trial: &Trial, from: u8, to: u8, places: u32) -> Tally
+        requires { (0 < places) × (places ≤ 16) }
+    {
+        let as_sent = trial.due_as_sent();
+        let mut tally = Tally::default();
+        for place in from..to {
+            for later in 0..1u16 << (places - 1) {
+                let bits = FIRST_PLACE | later << (16 - places);
+                let spike = Spike { place, bits };
+                if spike.end() <= u32::from(to) {
+                    tally.try_one(trial, &as_sent, spike);
+                }
+            }
+        }
+        tally
+    }
 }

@@ -32,7 +32,6 @@ use Rattle.writes.proofs.Written.{needs_but_wrrr}
 use Rattle.monitor.specs.Effects.{accepts, keeps}
 use Rattle.monitor.proofs.Keeping.{good-checked}
 use Rattle.reads.specs.Reply.{reply}
-use Rattle.chain.specs.declared.frames.Answer.TheVariants.{Refused, Accepted}
 use Rattle.judging.specs.Table.{monitors, sound, changed_at}
 use Rattle.judging.specs.Refusals.{command_in}
 use Rattle.serving.specs.Served.{Awake, awake_of, payloads_in, taken_by, kept}
@@ -45,7 +44,6 @@ use Rattle.judging.proofs.Keeps.{Keeps}
 use Rattle.judging.proofs.Lent.{lent_length}
 use Rattle.judging.proofs.Soundness.{is_sound}
 use Rattle.chain.proofs.FrameKeeps.{frame-keeps}
-use Rattle.loads.specs.declared.loads.Loaded.TheVariants.{Unloaded, Done}
 use Rattle.cells.specs.Cells.{store, compare, load}
 use Rattle.cells.proofs.Loaded.{length-store, length-compare, length-load}
 use Rattle.judging.proofs.Changed.{changed_record, other_record}
@@ -54,19 +52,19 @@ use Rattle.judging.proofs.Place.{Place, there, fits}
 use Rattle.loads.proofs.Place.{compare_place, store_place}
 use Rattle.priorities.specs.declared.outputs.Events.{Events}
 use Rattle.priorities.specs.Outputs.{outputs, count_on}
-use Rattle.discharge.specs.declared.question.Discharged.TheVariants.{Refused as Unasked, On}
 use Rattle.discharge.specs.Question.{discharge_refusals, discharged, outputs_after}
-use Rattle.host.specs.declared.frames.Built.TheVariants.{Unbuilt, Length}
 use Rattle.host.specs.Frames.{frame_for, build_refusals, built, buffer_after}
 use Rattle.host.proofs.FrameFor.{length-frame}
 use Rattle.story.specs.Numbers.{First}
 use Rattle.story.proofs.Numbers.{first_refuses}
+use Rattle.std.specs.Prelude.{Ok, Err}
+use Rattle.chain.specs.Frame.{took}
 
 -- ---- a frame
 
-pub frame_refused : (table frame : List ℕ) (room : ℕ) (r : Refusal) → First (frame_refusals table frame room) r → answer table frame room ≡ Refused r
+pub frame_refused : (table frame : List ℕ) (room : ℕ) (r : Refusal) → First (frame_refusals table frame room) r → answer table frame room ≡ Err r
 unfolding answer
-frame_refused table frame room r first = first_refuses (frame_refusals table frame room) Refused _ r first
+frame_refused table frame room r first = first_refuses (frame_refusals table frame room) Err _ r first
 
 module _ (table frame : List ℕ) (room : ℕ) (none : Passed (frame_refusals table frame room)) where
   abbrev n : ℕ
@@ -89,11 +87,11 @@ module _ (table frame : List ℕ) (room : ℕ) (none : Passed (frame_refusals ta
   frame-whole its =
       eqb-true (length frame) (frame_length (command_in frame) n) (not-false _ none.1.1.1.1.0) ∙ ap (λ (x : Command). frame_length x n) its
 
-  answer-by : {c : Command} → command_in frame ≡ c → answer table frame room ≡ Accepted (taken_by c n table frame) (reply_length c n)
+  answer-by : {c : Command} → command_in frame ≡ c → answer table frame room ≡ took (taken_by c n table frame) (reply_length c n)
   unfolding answer
   answer-by its =
-      passes (frame_refusals table frame room) Refused _ none
-      ∙ ap (λ (x : Command). Accepted (taken_by x n table frame) (reply_length x n)) its
+      passes (frame_refusals table frame room) Err _ none
+      ∙ ap (λ (x : Command). took (taken_by x n table frame) (reply_length x n)) its
 
   -- the own bytes of the monitor at k
   abbrev pub own_at : Command → ℕ → List ℕ
@@ -102,26 +100,26 @@ module _ (table frame : List ℕ) (room : ℕ) (none : Passed (frame_refusals ta
   -- a write other than WRRR: of any chain the monitors that are not in LPCM and whose own bytes are right; of one with none in LPCM, those last
   pub write_answer : (c : Write) → (c ≡ Wrrr → ⊥) → command_in frame ≡ Writes c
       → answer table frame room
-      ≡ Accepted (count (λ k. not (in_lpcm (row_at record_size k table)) && sealed_right (data_size c) (own_at (Writes c) k)) (tabulate (λ k. k) 0 n)) 0
+      ≡ took (count (λ k. not (in_lpcm (row_at record_size k table)) && sealed_right (data_size c) (own_at (Writes c) k)) (tabulate (λ k. k) 0 n)) 0
   write_answer c other its =
-      answer-by its ∙ ap (λ (taken : ℕ). Accepted taken 0) (taken_places c n table frame ∙ λ j. count (λ k. by_check k j) (tabulate (λ k. k) 0 n))
+      answer-by its ∙ ap (λ (taken : ℕ). took taken 0) (taken_places c n table frame ∙ λ j. count (λ k. by_check k j) (tabulate (λ k. k) 0 n))
     where
       by_check : (k : ℕ) → accepts c (own_at (Writes c) k) (row_at record_size k table) ≡ not (in_lpcm (row_at record_size k table)) && sealed_right (data_size c) (own_at (Writes c) k)
       by_check k = unfold accepts in ap (λ (b : Bool). not (in_lpcm (row_at record_size k table)) && b) (good-checked c (own_at (Writes c) k) (needs_but_wrrr c other))
 
   pub write_answer_awake : (c : Write) → (c ≡ Wrrr → ⊥) → command_in frame ≡ Writes c → Awake n table
-      → answer table frame room ≡ Accepted (count (sealed_right (data_size c)) (payloads_in (Writes c) frame n)) 0
-  write_answer_awake c other its awake = answer-by its ∙ ap (λ (taken : ℕ). Accepted taken 0) (taken-checked c n table frame (needs_but_wrrr c other) awake)
+      → answer table frame room ≡ took (count (sealed_right (data_size c)) (payloads_in (Writes c) frame n)) 0
+  write_answer_awake c other its awake = answer-by its ∙ ap (λ (taken : ℕ). took taken 0) (taken-checked c n table frame (needs_but_wrrr c other) awake)
 
   -- WRRR: those that are not in LPCM
-  pub wrrr_answer : command_in frame ≡ Writes Wrrr → answer table frame room ≡ Accepted (awake_of n table) 0
-  wrrr_answer its = answer-by its ∙ ap (λ (taken : ℕ). Accepted taken 0) (taken_unchecked Wrrr n table frame refl (frame-whole its))
+  pub wrrr_answer : command_in frame ≡ Writes Wrrr → answer table frame room ≡ took (awake_of n table) 0
+  wrrr_answer its = answer-by its ∙ ap (λ (taken : ℕ). took taken 0) (taken_unchecked Wrrr n table frame refl (frame-whole its))
 
-  pub read_answer : (part : Part) → command_in frame ≡ Reads part → answer table frame room ≡ Accepted n (payload_size * n)
-  read_answer part its = answer-by its ∙ ap (λ (taken : ℕ). Accepted taken (payload_size * n)) (taken_read part n table frame)
+  pub read_answer : (part : Part) → command_in frame ≡ Reads part → answer table frame room ≡ took n (payload_size * n)
+  read_answer part its = answer-by its ∙ ap (λ (taken : ℕ). took taken (payload_size * n)) (taken_read part n table frame)
 
-  pub bare_answer : (c : Bare) → command_in frame ≡ Bares c → answer table frame room ≡ Accepted n 0
-  bare_answer c its = answer-by its ∙ ap (λ (taken : ℕ). Accepted taken 0) (taken_bare c n table frame)
+  pub bare_answer : (c : Bare) → command_in frame ≡ Bares c → answer table frame room ≡ took n 0
+  bare_answer c its = answer-by its ∙ ap (λ (taken : ℕ). took taken 0) (taken_bare c n table frame)
 
   pub record_after : (k : ℕ) → k < n
       → row_at record_size k (table_after table frame room) ≡ keeps (command_in frame) (own_at (command_in frame) k) (row_at record_size k table)
@@ -187,9 +185,9 @@ module _ (rows : List Row) (table : List ℕ) (position : ℕ) (f : List ℕ →
       ∙ other_record (position - 1) f as_long (monitors table) table (there table position place) (is_sound table place.its-sound).whole j h apart
 
 module _ (table : List ℕ) (position : ℕ) (none : Passed (compare_refusals table position)) where
-  pub compare-done : compared table position ≡ Done
+  pub compare-done : compared table position ≡ (Ok tt)
   unfolding compared
-  compare-done = passes (compare_refusals table position) Unloaded Done none
+  compare-done = passes (compare_refusals table position) Err (Ok tt) none
 
   pub compare-own : row_at record_size (position - 1) (table_after_compare table position) ≡ compare (row_at record_size (position - 1) table)
   unfolding table_after_compare
@@ -200,9 +198,9 @@ module _ (table : List ℕ) (position : ℕ) (none : Passed (compare_refusals ta
   compare-others = others (compare_refusals table position) table position compare length-compare (compare_place table position none) none
 
 module _ (table : List ℕ) (position : ℕ) (codes : List ℤ) (none : Passed (store_refusals table position codes)) where
-  pub store-done : stored table position codes ≡ Done
+  pub store-done : stored table position codes ≡ (Ok tt)
   unfolding stored
-  store-done = passes (store_refusals table position codes) Unloaded Done none
+  store-done = passes (store_refusals table position codes) Err (Ok tt) none
 
   pub store-own : row_at record_size (position - 1) (table_after_store table position codes) ≡ store codes (row_at record_size (position - 1) table)
   unfolding table_after_store
@@ -217,9 +215,9 @@ module _ (table : List ℕ) (position : ℕ) (codes : List ℤ) (none : Passed (
   unfolding load_refusals store_refusals
   its_place = store_place table position codes none
 
-  pub load-done : loaded table position codes ≡ Done
+  pub load-done : loaded table position codes ≡ (Ok tt)
   unfolding loaded
-  load-done = passes (load_refusals table position codes) Unloaded Done none
+  load-done = passes (load_refusals table position codes) Err (Ok tt) none
 
   pub load-own : row_at record_size (position - 1) (table_after_load table position codes) ≡ load codes (row_at record_size (position - 1) table)
   unfolding table_after_load
@@ -232,22 +230,22 @@ module _ (table : List ℕ) (position : ℕ) (codes : List ℤ) (none : Passed (
 -- ---- the discharge outputs
 
 pub discharge_answer : (table : List ℕ) (position : ℕ) (events : Events) (phase : ℕ) (out : List ℕ) → Passed (discharge_refusals table position phase (length out))
-    → (discharged table position events phase (length out) ≡ On (count_on events phase (row_at record_size (position - 1) table)))
+    → (discharged table position events phase (length out) ≡ Ok (count_on events phase (row_at record_size (position - 1) table)))
     × (outputs_after table position events phase out ≡ outputs events phase (row_at record_size (position - 1) table) ++ drop cell_count out)
 unfolding discharged outputs_after
 discharge_answer table position events phase out none = (
-  passes (discharge_refusals table position phase (length out)) Unasked _ none,
+  passes (discharge_refusals table position phase (length out)) Err _ none,
   passes (discharge_refusals table position phase (length out)) (λ r. out) _ none,
 )
 
 -- ---- a host's frame
 
 pub host_writes : (code n : ℕ) (values buffer : List ℕ) → Passed (build_refusals code n values (length buffer))
-    → (built code n values (length buffer) ≡ Length (length (frame_for code n values)))
+    → (built code n values (length buffer) ≡ Ok (length (frame_for code n values)))
     × (buffer_after code n values buffer ≡ frame_for code n values ++ drop (length (frame_for code n values)) buffer)
 unfolding built buffer_after build_refusals
 host_writes code n values buffer none =
     let long = sym (length-frame code n values (eqb-true _ _ (not-false _ none.1.1.0))) in (
-      passes (build_refusals code n values (length buffer)) Unbuilt _ none ∙ ap Length long,
+      passes (build_refusals code n values (length buffer)) Err _ none ∙ ap Ok long,
       passes (build_refusals code n values (length buffer)) (λ r. buffer) _ none ∙ ap (λ (m : ℕ). frame_for code n values ++ drop m buffer) long,
     )

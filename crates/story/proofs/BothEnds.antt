@@ -10,6 +10,7 @@ use native.Mathlib.Omega.{arith}
 use lib.Dec.{eqb}
 use lib.ListN.{length, length-map, length-reverse, get_or, drop_of_length-le}
 use borrow.Author.Tests.{eq-eqb, ne_eqb, le-ltb, not-true}
+use Rattle.std.specs.Prelude.{Ok}
 use Rattle.laws.specs.Rows.{rows, row_at}
 use Rattle.laws.proofs.Lists.{get_d_map}
 use Rattle.laws.proofs.Rows.{Every, every_image, every_reverse, length-rows, length-joined, row-at}
@@ -57,25 +58,25 @@ module _ (part : Part) (r : List ℕ) where
     unfolding is_right
     reply-is_right = ap₂ (λ (right : Bool) (c : ℕ). right && eqb c expected) (reply-right part r) reply-counter
 
-    pub reply-verdict : checked (reply part r) expected ≡ cond (eqb (byte_of counter r) expected) Right (CounterDiffers (byte_of counter r))
+    pub reply-verdict : checked (reply part r) expected ≡ Ok (cond (eqb (byte_of counter r) expected) Right (CounterDiffers (byte_of counter r)))
     reply-verdict =
         checked-told (reply part r) expected reply-passes
         ∙ ap₂ (λ (right : Bool) (c : ℕ). told c right (eqb c expected)) (reply-right part r) reply-counter
         ∙ by (eqb (byte_of counter r) expected)
       where
-        by : (same : Bool) → told (byte_of counter r) true same ≡ cond same Right (CounterDiffers (byte_of counter r))
+        by : (same : Bool) → told (byte_of counter r) true same ≡ Ok (cond same Right (CounterDiffers (byte_of counter r)))
         by true = refl
         by false = refl
 
-    pub reply_differs : (expected ≡ byte_of counter r → ⊥) → checked (reply part r) expected ≡ CounterDiffers (byte_of counter r)
+    pub reply_differs : (expected ≡ byte_of counter r → ⊥) → checked (reply part r) expected ≡ Ok (CounterDiffers (byte_of counter r))
     reply_differs apart =
         reply-verdict
-        ∙ ap (λ (same : Bool). cond same Right (CounterDiffers (byte_of counter r))) (ne_eqb (byte_of counter r) expected (λ e. apart (sym e)))
+        ∙ ap (λ (same : Bool). Ok (cond same Right (CounterDiffers (byte_of counter r)))) (ne_eqb (byte_of counter r) expected (λ e. apart (sym e)))
 
-  pub reply-same : byte_of counter r ≤ most_count → checked (reply part r) (byte_of counter r) ≡ Right
+  pub reply-same : byte_of counter r ≤ most_count → checked (reply part r) (byte_of counter r) ≡ Ok Right
   reply-same fine =
       reply-verdict (byte_of counter r) fine fine
-      ∙ ap (λ (same : Bool). cond same Right (CounterDiffers (byte_of counter r))) (eq-eqb (byte_of counter r) (byte_of counter r) refl)
+      ∙ ap (λ (same : Bool). Ok (cond same Right (CounterDiffers (byte_of counter r)))) (eq-eqb (byte_of counter r) (byte_of counter r) refl)
 
 -- ---- from both ends
 
@@ -129,7 +130,7 @@ module _ (part : Part) (n : ℕ) (table : List ℕ) (k : ℕ) (first : 1 ≤ k) 
 
     -- where port A's reply came whole: its own, if port B's part is not right or its own is
     from-a : (b : List ℕ) → length b ≡ payload_size * n → (is_right (part_b b n k) expected ≡ true → is_right (reply part its_record) expected ≡ true)
-        → port_of (from_a part n table) b n k expected ≡ A (not (is_right (reply part its_record) expected))
+        → port_of (from_a part n table) b n k expected ≡ Ok (A (not (is_right (reply part its_record) expected)))
     from-a b l no-better =
         answered (from_a part n table) b n k expected (asked length-from_a l) small
         ∙ ap (λ (in_a : List ℕ). either in_a (part_b b n k) expected) own-from_a
@@ -141,24 +142,24 @@ module _ (part : Part) (n : ℕ) (table : List ℕ) (k : ℕ) (first : 1 ≤ k) 
         answered a (from_b part n table) n k expected (asked l length-from_b) small ∙ ap (λ (in_b : List ℕ). either (part_a a n k) in_b expected) own-from_b
 
     -- what is handed over with the port
-    bytes-a : (b : List ℕ) {differs : Bool} → port_of (from_a part n table) b n k expected ≡ A differs → bytes_of (from_a part n table) b n k expected ≡ reply part its_record
+    bytes-a : (b : List ℕ) {differs : Bool} → port_of (from_a part n table) b n k expected ≡ Ok (A differs) → bytes_of (from_a part n table) b n k expected ≡ reply part its_record
     unfolding bytes_of
     bytes-a b e = ap (by_port [] (part_a (from_a part n table) n k) (part_b b n k)) e ∙ own-from_a
 
-    bytes-b : (a : List ℕ) {differs : Bool} → port_of a (from_b part n table) n k expected ≡ B differs → bytes_of a (from_b part n table) n k expected ≡ reply part its_record
+    bytes-b : (a : List ℕ) {differs : Bool} → port_of a (from_b part n table) n k expected ≡ Ok (B differs) → bytes_of a (from_b part n table) n k expected ≡ reply part its_record
     unfolding bytes_of
     bytes-b a e = ap (by_port [] (part_a a n k) (part_b (from_b part n table) n k)) e ∙ own-from_b
 
     -- asked for monitor k, our host hands over what monitor k replied: from port A, where its reply came whole and port B's part is not right
     pub any_from_a : (b : List ℕ) → length b ≡ payload_size * n → is_right (part_b b n k) expected ≡ false
-        → (port_of (from_a part n table) b n k expected ≡ A (not (is_right (reply part its_record) expected)))
+        → (port_of (from_a part n table) b n k expected ≡ Ok (A (not (is_right (reply part its_record) expected))))
         × (bytes_of (from_a part n table) b n k expected ≡ reply part its_record)
     any_from_a b l not_right =
         let e = from-a b l (λ right. absurd (false≢true (sym not_right ∙ right))) in (e, bytes-a b e)
 
     -- and from port B, where its reply came whole and port A's part is damaged
     pub any_from_b : (a : List ℕ) → length a ≡ payload_size * n → is_damaged (part_a a n k) ≡ true
-        → (port_of a (from_b part n table) n k expected ≡ B (not (is_right (reply part its_record) expected)))
+        → (port_of a (from_b part n table) n k expected ≡ Ok (B (not (is_right (reply part its_record) expected))))
         × (bytes_of a (from_b part n table) n k expected ≡ reply part its_record)
     unfolding is_damaged
     any_from_b a l damaged =
@@ -170,17 +171,17 @@ module _ (part : Part) (n : ℕ) (table : List ℕ) (k : ℕ) (first : 1 ≤ k) 
       right_here = reply-is_right part its_record expected small (omega arith) ∙ eq-eqb (byte_of counter its_record) expected (sym own)
 
       pub handed-from_a : (b : List ℕ) → length b ≡ payload_size * n
-          → (port_of (from_a part n table) b n k expected ≡ A false) × (bytes_of (from_a part n table) b n k expected ≡ reply part its_record)
+          → (port_of (from_a part n table) b n k expected ≡ Ok (A false)) × (bytes_of (from_a part n table) b n k expected ≡ reply part its_record)
       handed-from_a b l =
-          let e = from-a b l (λ right. right_here) ∙ ap (λ (right : Bool). A (not right)) right_here in (e, bytes-a b e)
+          let e = from-a b l (λ right. right_here) ∙ ap (λ (right : Bool). Ok (A (not right))) right_here in (e, bytes-a b e)
 
       pub handed-from_b : (a : List ℕ) → length a ≡ payload_size * n → is_right (part_a a n k) expected ≡ false
-          → (port_of a (from_b part n table) n k expected ≡ B false) × (bytes_of a (from_b part n table) n k expected ≡ reply part its_record)
+          → (port_of a (from_b part n table) n k expected ≡ Ok (B false)) × (bytes_of a (from_b part n table) n k expected ≡ reply part its_record)
       handed-from_b a l not_right =
           let e = from-b a l ∙ either-b (part_a a n k) (reply part its_record) expected not_right right_here in (e, bytes-b a e)
 
     -- so both ports show it as it is
-    pub seen : {right : Bool} {received : ℕ} → checked (reply part its_record) expected ≡ cond right Right (CounterDiffers received) → is_right (reply part its_record) expected ≡ right
+    pub seen : {right : Bool} {received : ℕ} → checked (reply part its_record) expected ≡ Ok (cond right Right (CounterDiffers received)) → is_right (reply part its_record) expected ≡ right
         → SeenAs part n table k expected right received
     seen verdict e =
         record {
@@ -188,9 +189,9 @@ module _ (part : Part) (n : ℕ) (table : List ℕ) (k : ℕ) (first : 1 ≤ k) 
           at_b = ap (λ (eight : List ℕ). checked eight expected) own-from_b ∙ verdict;
           from_both =
               from-a (from_b part n table) length-from_b (λ right. ap (λ (eight : List ℕ). is_right eight expected) (sym own-from_b) ∙ right)
-              ∙ ap (λ (right : Bool). A (not right)) e;
-          a_damaged = λ a l damaged. (any_from_b a l damaged).0 ∙ ap (λ (right : Bool). B (not right)) e;
-          b_damaged = λ b l damaged. from-a b l (λ right. absurd (not_both (part_b b n k) damaged right)) ∙ ap (λ (right : Bool). A (not right)) e;
+              ∙ ap (λ (right : Bool). Ok (A (not right))) e;
+          a_damaged = λ a l damaged. (any_from_b a l damaged).0 ∙ ap (λ (right : Bool). Ok (B (not right))) e;
+          b_damaged = λ b l damaged. from-a b l (λ right. absurd (not_both (part_b b n k) damaged right)) ∙ ap (λ (right : Bool). Ok (A (not right))) e;
         }
       where
         not_both : (eight : List ℕ) → is_damaged eight ≡ true → is_right eight expected ≡ true → ⊥

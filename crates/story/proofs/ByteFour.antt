@@ -11,10 +11,10 @@ use lib.Dec.{eqb, ltb}
 use borrow.Author.Tests.{ne_eqb, eq-eqb, le-leb, le-ltb}
 use Rattle.refusals.specs.declared.Refusal.TheVariants.{TableNotSound}
 use Rattle.refusals.proofs.Deciding.{holds_here}
-use Rattle.chain.specs.declared.frames.Answer.TheVariants.{Refused}
 use Rattle.judging.specs.Table.{monitors, sound}
 use Rattle.clocking.specs.Clock.{Clock, chained_by, fourth, early, later, clocked}
 use Rattle.releasing.specs.Release.{another_count, release_refusals, released}
+use Rattle.std.specs.Prelude.{Err}
 
 -- a byte that is not the fourth does the same with any table
 pub only_byte_four : (table other : List ℕ) (byte : ℕ) (c : Clock) → (c.seen ≡ 3 → ⊥) → clocked table byte c ≡ clocked other byte c
@@ -40,10 +40,10 @@ noted_stays table byte c h = by (ltb c.seen 3) (eqb c.seen 3) (ne_eqb c.seen 3 h
     by false b e = ap (λ (x : Bool). (cond x (fourth table byte c) (later byte c)).chained) e
 
 -- a release with another N than was noted
-pub another-n : (c : Clock) (table : List ℕ) → 4 ≤ c.seen → (c.chained ≡ monitors table → ⊥) → released c table ≡ Refused TableNotSound
+pub another-n : (c : Clock) (table : List ℕ) → 4 ≤ c.seen → (c.chained ≡ monitors table → ⊥) → released c table ≡ Err TableNotSound
 unfolding released release_refusals another_count
 another-n c table came h =
-    holds_here _ _ Refused _
+    holds_here _ _ Err _
     (ap₂ (λ (a b : Bool). not (sound table) || a && not b) (le-leb 4 c.seen came) (ne_eqb c.chained (monitors table) h) ∙ either (not (sound table)))
   where
     either : (x : Bool) → x || true ≡ true

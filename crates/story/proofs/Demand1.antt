@@ -30,7 +30,6 @@ use Rattle.writing.proofs as writing
 use Rattle.reads.proofs as reads
 use Rattle.monitor.proofs as monitor
 use Rattle.acting.proofs as acting
-use Rattle.chain.specs.declared.frames.Answer.TheVariants.{Refused}
 use Rattle.judging.specs.Refusals.{room_row}
 use Rattle.chain.specs.Frame.{frame_refusals, answer, table_after, reply_after}
 use Rattle.chain.specs.Numbers.{numbers_of}
@@ -39,9 +38,7 @@ use Rattle.serving.proofs as serving
 use Rattle.replying.proofs as replying
 use Rattle.chain.proofs as chain
 use Rattle.chain.proofs.Refused.{refused-table, refused-reply}
-use Rattle.loads.specs.declared.loads.Loaded.TheVariants.{Unloaded}
 use Rattle.priorities.specs.declared.outputs.Events.{Events}
-use Rattle.discharge.specs.declared.question.Discharged.TheVariants.{Refused as Unasked}
 use Rattle.discharge.specs.Question.{discharge_refusals, discharged, outputs_after}
 use Rattle.loads.specs.Load.{store_refusals, stored, table_after_store, compare_refusals, compared, table_after_compare, load_refusals, loaded, table_after_load}
 use Rattle.loads.specs.Numbers.{load_number}
@@ -49,16 +46,12 @@ use Rattle.thresholds.proofs as thresholds
 use Rattle.cells.proofs as cells
 use Rattle.measuring.proofs as measuring
 use Rattle.heartbeats.proofs as heartbeats
-use Rattle.passing.specs.declared.operations.Sent.TheVariants.{Unsent}
-use Rattle.passing.specs.declared.operations.Relayed.TheVariants.{Unrelayed}
-use Rattle.passing.specs.declared.operations.TimedOut.TheVariants.{Untimed}
 use Rattle.passing.specs.Operations.{wake_refusals, woken_at, table_after_wake, out_after_wake, relay_refusals, relayed_at, table_after_relay, out_after_relay, beaten, table_after_beat, out_after_beat, time_out_refusals, timed_out, table_after_time_out}
 use Rattle.passing.proofs as passing
 use Rattle.loads.proofs as loads
 use Rattle.priorities.proofs as priorities
 use Rattle.discharge.proofs as discharge
 use Rattle.loads.proofs.Refused.{refused-store, refused-compare, refused-load}
-use Rattle.releasing.specs.declared.looks.Looked.TheVariants.{Refused as Unseen}
 use Rattle.clocking.specs.Clock.{Clock, start}
 use Rattle.releasing.specs.Release.{release_refusals, released, table_released}
 use Rattle.releasing.specs.Look.{look_refusals, looked, out_after}
@@ -69,8 +62,6 @@ use Rattle.clocking.proofs as clocking
 use Rattle.releasing.proofs as releasing
 use Rattle.clocked.proofs as clocked
 use Rattle.clocking.proofs.View.{view_idle}
-use Rattle.host.specs.declared.frames.Built.TheVariants.{Unbuilt}
-use Rattle.ports.specs.declared.ports.Port.TheVariants.{Refused as Unported}
 use Rattle.host.specs.Frames.{build_refusals, built, buffer_after}
 use Rattle.ports.specs.Verdicts.{counter_row}
 use Rattle.ports.specs.Check.{check_refusals, checked}
@@ -86,6 +77,7 @@ use Rattle.story.specs.Numbers.{discharged_numbers, sent_numbers, relayed_number
 use Rattle.story.proofs.OneOutcome.{OneOutcome, one_outcomes}
 use Rattle.story.proofs.Numbers.{number_exactly, zero_exactly, frame-number, store-number, compare-number, load-number, discharge_number, wake_number, beat_number, relay_number, time_number, release_number, look_number, built-number, checked-number, port_number, verdict-number, summary_number}
 use Rattle.story.proofs.Stays.{refused_discharge, refused_wake, refused_beat, refused_relay, refused_time, refused_release, refused_look, refused_build, refused-part}
+use Rattle.std.specs.Prelude.{Err}
 
 -- ---- every public function of every library
 
@@ -153,6 +145,7 @@ pub record Promises : Type 2 where
   sound : Promised judging.sound.Statement.statement judging.sound.Reads.Asked
   sound-count : Promised judging.sound_count.Statement.statement judging.sound_count.Reads.Asked
   whole-table : Promised judging.whole_table.Statement.statement judging.whole_table.Reads.Asked
+  record_at : Promised judging.record_at.Statement.statement judging.record_at.Reads.Asked
   command-in : Promised judging.command_in.Statement.statement judging.command_in.Reads.Asked
   numbers-of : Promised chain.numbers_of.Statement.statement chain.numbers_of.Reads.Asked
   serve : Promised serving.serve.Statement.statement serving.serve.Reads.Asked
@@ -186,6 +179,7 @@ pub record Promises : Type 2 where
   -- the clocked engine
   start : Promised clock_state.start.Statement.statement clock_state.start.Reads.Asked
   seen-in : Promised clock_state.seen_in.Statement.statement clock_state.seen_in.Reads.Asked
+  kind-byte : Promised clock_state.byte_of.Statement.statement clock_state.byte_of.Reads.Asked
   kind-in : Promised clock_state.kind_in.Statement.statement clock_state.kind_in.Reads.Asked
   chained-in : Promised clock_state.chained_in.Statement.statement clock_state.chained_in.Reads.Asked
   clock : Promised clocking.clock.Statement.statement clocking.clock.Reads.Asked
@@ -221,46 +215,46 @@ pub record Demand1 : Type 2 where
   frame-order : (table frame : List ℕ) (room : ℕ) → order (frame_refusals table frame room) ≡ 1 ∷ 2 ∷ 3 ∷ 4 ∷ 5 ∷ 6 ∷ []
   no_6_for_a_write : (room : ℕ) (c : Write) (n : ℕ) → (room_row room (Writes c) n).holds ≡ false
   no_6_for_a_bare : (room : ℕ) (c : Bare) (n : ℕ) → (room_row room (Bares c) n).holds ≡ false
-  frame_stays : (table frame buffer : List ℕ) (r : Refusal) → answer table frame (length buffer) ≡ Refused r
+  frame_stays : (table frame buffer : List ℕ) (r : Refusal) → answer table frame (length buffer) ≡ Err r
       → (table_after table frame (length buffer) ≡ table) × (reply_after table frame buffer ≡ buffer)
   -- a store, a compare and a load: `loads::store`, `loads::compare` and `loads::load`
   store : (table : List ℕ) (position : ℕ) (codes : List ℤ) → load_number (stored table position codes) ≡ first_number (store_refusals table position codes)
   store-order : (table : List ℕ) (position : ℕ) (codes : List ℤ) → order (store_refusals table position codes) ≡ 1 ∷ 7 ∷ 8 ∷ 9 ∷ []
-  store_stays : (table : List ℕ) (position : ℕ) (codes : List ℤ) (r : Refusal) → stored table position codes ≡ Unloaded r
+  store_stays : (table : List ℕ) (position : ℕ) (codes : List ℤ) (r : Refusal) → stored table position codes ≡ Err r
       → table_after_store table position codes ≡ table
   compare : (table : List ℕ) (position : ℕ) → load_number (compared table position) ≡ first_number (compare_refusals table position)
   compare-order : (table : List ℕ) (position : ℕ) → order (compare_refusals table position) ≡ 1 ∷ 7 ∷ []
-  compare_stays : (table : List ℕ) (position : ℕ) (r : Refusal) → compared table position ≡ Unloaded r → table_after_compare table position ≡ table
+  compare_stays : (table : List ℕ) (position : ℕ) (r : Refusal) → compared table position ≡ Err r → table_after_compare table position ≡ table
   load : (table : List ℕ) (position : ℕ) (codes : List ℤ) → load_number (loaded table position codes) ≡ first_number (load_refusals table position codes)
   load-order : (table : List ℕ) (position : ℕ) (codes : List ℤ) → order (load_refusals table position codes) ≡ 1 ∷ 7 ∷ 8 ∷ 9 ∷ []
-  load_stays : (table : List ℕ) (position : ℕ) (codes : List ℤ) (r : Refusal) → loaded table position codes ≡ Unloaded r
+  load_stays : (table : List ℕ) (position : ℕ) (codes : List ℤ) (r : Refusal) → loaded table position codes ≡ Err r
       → table_after_load table position codes ≡ table
   -- the discharge outputs: `discharge::discharge`. The table is only read
   discharge : (table : List ℕ) (position : ℕ) (events : Events) (phase room : ℕ)
       → (discharged_numbers (discharged table position events phase room)).number ≡ first_number (discharge_refusals table position phase room)
   discharge_order : (table : List ℕ) (position phase room : ℕ) → order (discharge_refusals table position phase room) ≡ 1 ∷ 7 ∷ 7 ∷ 6 ∷ []
   discharge_stays : (table : List ℕ) (position : ℕ) (events : Events) (phase : ℕ) (out : List ℕ) (r : Refusal)
-      → discharged table position events phase (length out) ≡ Unasked r → outputs_after table position events phase out ≡ out
+      → discharged table position events phase (length out) ≡ Err r → outputs_after table position events phase out ≡ out
   -- a heartbeat in a table: `passing::wake`, `passing::relay`, `passing::heartbeat` and `passing::time_out`. 6 also where nothing would be sent
   wake : (table : List ℕ) (position room : ℕ) → (sent_numbers (woken_at table position room)).number ≡ first_number (wake_refusals table position room)
   wake_order : (table : List ℕ) (position room : ℕ) → order (wake_refusals table position room) ≡ 1 ∷ 7 ∷ 6 ∷ []
-  wake_stays : (table : List ℕ) (position : ℕ) (out : List ℕ) (r : Refusal) → woken_at table position (length out) ≡ Unsent r
+  wake_stays : (table : List ℕ) (position : ℕ) (out : List ℕ) (r : Refusal) → woken_at table position (length out) ≡ Err r
       → (table_after_wake table position (length out) ≡ table) × (out_after_wake table position out ≡ out)
   relay : (table : List ℕ) (position : ℕ) (message : List ℕ) (room : ℕ)
       → (relayed_numbers (relayed_at table position message room)).number ≡ first_number (relay_refusals table position (length message) room)
   relay_order : (table : List ℕ) (position bytes room : ℕ) → order (relay_refusals table position bytes room) ≡ 1 ∷ 7 ∷ 5 ∷ 6 ∷ []
-  relay_stays : (table : List ℕ) (position : ℕ) (out : List ℕ) (r : Refusal) (message : List ℕ) → relayed_at table position message (length out) ≡ Unrelayed r
+  relay_stays : (table : List ℕ) (position : ℕ) (out : List ℕ) (r : Refusal) (message : List ℕ) → relayed_at table position message (length out) ≡ Err r
       → (table_after_relay table position message (length out) ≡ table) × (out_after_relay table position message out ≡ out)
   heartbeat : (table : List ℕ) (position room : ℕ) → (sent_numbers (beaten table position room)).number ≡ first_number (wake_refusals table position room)
-  heartbeat_stays : (table : List ℕ) (position : ℕ) (out : List ℕ) (r : Refusal) → beaten table position (length out) ≡ Unsent r
+  heartbeat_stays : (table : List ℕ) (position : ℕ) (out : List ℕ) (r : Refusal) → beaten table position (length out) ≡ Err r
       → (table_after_beat table position (length out) ≡ table) × (out_after_beat table position out ≡ out)
   time_out : (table : List ℕ) (position : ℕ) → (timed_numbers (timed_out table position)).number ≡ first_number (time_out_refusals table position)
   time_out_order : (table : List ℕ) (position : ℕ) → order (time_out_refusals table position) ≡ 1 ∷ 7 ∷ []
-  time_out_stays : (table : List ℕ) (position : ℕ) (r : Refusal) → timed_out table position ≡ Untimed r → table_after_time_out table position ≡ table
+  time_out_stays : (table : List ℕ) (position : ℕ) (r : Refusal) → timed_out table position ≡ Err r → table_after_time_out table position ≡ table
   -- a host's frame: `host::build`
   build : (code n : ℕ) (values : List ℕ) (room : ℕ) → (built_numbers (built code n values room)).number ≡ first_number (build_refusals code n values room)
   build_order : (code n : ℕ) (values : List ℕ) (room : ℕ) → order (build_refusals code n values room) ≡ 4 ∷ 7 ∷ 8 ∷ 6 ∷ []
-  build_stays : (code n : ℕ) (values buffer : List ℕ) (r : Refusal) → built code n values (length buffer) ≡ Unbuilt r
+  build_stays : (code n : ℕ) (values buffer : List ℕ) (r : Refusal) → built code n values (length buffer) ≡ Err r
       → buffer_after code n values buffer ≡ buffer
   -- the check of one payload: `ports::check`. Nothing is lent to be changed
   check : (payload : List ℕ) (expected : ℕ) → (checked_numbers (checked payload expected)).number ≡ first_number (check_refusals payload expected)
@@ -268,19 +262,19 @@ pub record Demand1 : Type 2 where
   -- two ports: `ports::port_of`, and `ports::part_of` beside it, which then hands back an empty part
   ports : (a b : List ℕ) (n k expected : ℕ) → (port_numbers (port_of a b n k expected)).number ≡ first_number (port_refusals a b n k expected)
   ports_order : (a b : List ℕ) (n k expected : ℕ) → order (port_refusals a b n k expected) ≡ 7 ∷ 7 ∷ 5 ∷ 10 ∷ []
-  no_part : (a b : List ℕ) (n k expected : ℕ) (r : Refusal) → port_of a b n k expected ≡ Unported r → bytes_of a b n k expected ≡ []
+  no_part : (a b : List ℕ) (n k expected : ℕ) (r : Refusal) → port_of a b n k expected ≡ Err r → bytes_of a b n k expected ≡ []
   -- the verdict on a heartbeat: `messages::verdict_on`. Nothing is lent to be changed
   verdict : (bytes : List ℕ) (late : Bool) → (verdict_numbers (verdict bytes late)).number ≡ first_number (verdict_refusals bytes late)
   verdict-order : (bytes : List ℕ) (late : Bool) → order (verdict_refusals bytes late) ≡ 5 ∷ []
   -- a release: `clocked::release`, of any state. The table stays; the state goes back to its start, refused or not
   release : (c : Clock) (table : List ℕ) → (numbers_of (released c table)).number ≡ first_number (release_refusals c table)
   release_order : (c : Clock) (table : List ℕ) → order (release_refusals c table) ≡ 1 ∷ 2 ∷ 3 ∷ 4 ∷ 5 ∷ []
-  release_stays : (c : Clock) (table : List ℕ) (r : Refusal) → released c table ≡ Refused r → table_released c table ≡ table
+  release_stays : (c : Clock) (table : List ℕ) (r : Refusal) → released c table ≡ Err r → table_released c table ≡ table
   release_starts : clock_of idle ≡ start
   -- a look at a window: `clocked::look`
   look : (c : Clock) (position room : ℕ) → (looked_numbers (looked c position room)).number ≡ first_number (look_refusals c position room)
   look_order : (c : Clock) (position room : ℕ) → order (look_refusals c position room) ≡ 7 ∷ 6 ∷ []
-  look_stays : (c : Clock) (position : ℕ) (out : List ℕ) (r : Refusal) → looked c position (length out) ≡ Unseen r → out_after c position out ≡ out
+  look_stays : (c : Clock) (position : ℕ) (out : List ℕ) (r : Refusal) → looked c position (length out) ≡ Err r → out_after c position out ≡ out
   -- a summary: `readings::summary_of`. Nothing is lent to be changed
   summary : (codes : List ℤ) → (pack_numbers (summary_of codes)).number ≡ first_number (summary_refusals codes)
   summary_order : (codes : List ℤ) → order (summary_refusals codes) ≡ 8 ∷ []
@@ -342,6 +336,7 @@ proved =
       sound = (λ M. judging.sound.Met.met, λ κ a. tt);
       sound-count = (λ M. judging.sound_count.Met.met, λ κ a. tt);
       whole-table = (λ M. judging.whole_table.Met.met, λ κ a. tt);
+      record_at = (λ M. judging.record_at.Met.met, λ κ a. tt);
       command-in = (λ M. judging.command_in.Met.met, λ κ a. tt);
       numbers-of = (λ M. chain.numbers_of.Met.met, λ κ a. tt);
       serve = (λ M. serving.serve.Met.met, λ κ a. tt);
@@ -371,6 +366,7 @@ proved =
       discharge_outputs = (λ M. discharge.discharge.Met.met, λ κ a. tt);
       start = (λ M. clock_state.start.Met.met, λ κ a. tt);
       seen-in = (λ M. clock_state.seen_in.Met.met, λ κ a. tt);
+      kind-byte = (λ M. clock_state.byte_of.Met.met, λ κ a. tt);
       kind-in = (λ M. clock_state.kind_in.Met.met, λ κ a. tt);
       chained-in = (λ M. clock_state.chained_in.Met.met, λ κ a. tt);
       clock = (λ M. clocking.clock.Met.met, λ κ a. tt);

@@ -40,7 +40,6 @@ use Rattle.monitor.specs.Effects.{locked, next_count, counted, done, accepts, ke
 use Rattle.reads.specs.Shown.{cell_reads, of_cells, shown_cells}
 use Rattle.reads.specs.Reply.{six_bytes, register, reply}
 use Rattle.monitor.proofs.Keeping.{keeps-right, keeps_wrong, keeps-none}
-use Rattle.chain.specs.declared.frames.Answer.TheVariants.{Refused, Accepted}
 use Rattle.judging.specs.Table.{monitors, sound, Beside}
 use Rattle.judging.specs.Refusals.{command_in}
 use Rattle.serving.specs.Served.{Awake, awake_of, payloads_in}
@@ -56,7 +55,6 @@ use Rattle.measuring.specs.Measuring.{cuv, cov, cdv, masked, pending, measured, 
 use Rattle.measuring.proofs.Measured.{length-measured, sound-measured, measured_spares, last-measured, flags_stay}
 use Rattle.measuring.proofs.Found.{violation_shows, pending_shows, nothing_else, passes_where, passed_clear, passed_nothing_pending, passed_nothing_violated}
 use Rattle.measuring.proofs.Examples.{Measurements, measurements}
-use Rattle.loads.specs.declared.loads.Loaded.TheVariants.{Done}
 use Rattle.loads.specs.Load.{store_refusals, stored, table_after_store, compare_refusals, compared, table_after_compare, load_refusals, loaded, table_after_load}
 use Rattle.loads.proofs.Keeps.{store_keeps, compare-keeps, load-keeps}
 use Rattle.loads.proofs.Bytes.{store-as_long, store_only_cells, compare-as_long, compare_only_flags, compare_only_sets}
@@ -74,9 +72,7 @@ use Rattle.priorities.proofs.Deciding.{its-row, one_decides, row_range, on-by_4_
 use Rattle.priorities.proofs.OwnBits.{dcc-at, duty-at, no_other_bit}
 use Rattle.priorities.proofs.Vectors.{SheetBits, sheet_bits}
 use Rattle.priorities.proofs.Shown.{row-shown, on-shown, own-output, count-shown, shutdown_none, mute_none, wrcfgb_none}
-use Rattle.discharge.specs.declared.question.Discharged.TheVariants.{On}
 use Rattle.discharge.specs.Question.{discharge_refusals, discharged, outputs_after}
-use Rattle.host.specs.declared.frames.Built.TheVariants.{Length}
 use Rattle.host.specs.Frames.{head_size, sealed, value_count, frame_for, build_refusals, built, buffer_after}
 use Rattle.ports.specs.declared.checks.Checked.TheVariants.{Right, CounterDiffers, Damaged as PayloadDamaged}
 use Rattle.ports.specs.declared.ports.Port.TheVariants.{A, B}
@@ -84,10 +80,9 @@ use Rattle.ports.specs.Verdicts.{is_damaged, is_right, counter_differs, counter_
 use Rattle.ports.specs.Check.{check_refusals, checked}
 use Rattle.ports.specs.Ports.{part_a, part_b, port_refusals, chosen, port_of, by_port}
 use Rattle.ports.specs.Parts.{bytes_of}
-use Rattle.messages.specs.declared.verdicts.Verdict.TheVariants.{Refused as Unjudged, Passed as Good, Failed, Damaged, TimedOut}
+use Rattle.messages.specs.declared.verdicts.Verdict.TheVariants.{Passed as Good, Failed, Damaged, TimedOut}
 use Rattle.messages.specs.Messages.{message, count_in, flags_in as flagsByte, message_right, is_pass}
 use Rattle.messages.specs.Verdicts.{verdict_refusals, verdict}
-use Rattle.heartbeats.specs.declared.steps.Beat.TheVariants.{Silent, Sends}
 use Rattle.heartbeats.specs.Steps.{manages, is_manager, is_timeout, ndev, towards_a, woken, wakes, reached, answers, late}
 use Rattle.heartbeats.proofs.Kept.{woken_spares, woken_lpcm, late_spares, late_lpcm, reached_spares, reached_lpcm, manager-left, awake_left, wrong_left}
 use Rattle.heartbeats.proofs.Examples.{Turns, turns}
@@ -108,7 +103,6 @@ use Rattle.story.proofs.Retention.{wrrr_unlocked, wrrr_locked, ulrr_unlocks, ret
 use Rattle.story.proofs.AsBefore.{as_before, front_awake, cmf0_stays, last_stays, reply_as_before, pwm_stays, a_stays, b_stays, copy_stays}
 use Rattle.story.proofs.Snapshot.{snap_takes, snap_again, snap_again_shows, snap_st, snap_copies, store_snap_st, store_copy, compare_snap_st, compare_copy, shows_the_cells, shows_as_it_lies}
 use Rattle.story.proofs.Lpcm.{cmen_enables, cmen_again, enabled-after, last-cells, clrcmflag_clears}
-use Rattle.passing.specs.declared.operations.Sent.TheVariants.{Nothing as NotSent, TowardsA, TowardsB}
 use Rattle.passing.specs.declared.operations.Relayed.TheVariants.{Stopped, SentOn}
 use Rattle.passing.specs.declared.operations.TimedOut.TheVariants.{NoTimeoutMonitor, RanOut}
 use Rattle.passing.specs.Hops.{bytes_sent, wake_sends, wake_leaves, hops, behind, way, way_from, sent_along, left_along, beat_sends, beat_leaves}
@@ -137,6 +131,10 @@ use Rattle.story.proofs.Missed.{own-counter-right, other_counter_differs, counte
 use Rattle.story.proofs.Sharp.{Sharp, sharp}
 use Rattle.story.proofs.OneMissed.{OneMissed, one_missed}
 use Rattle.story.proofs.EitherSide.{EitherSide, either_side}
+use Rattle.std.specs.Prelude.{Some, None, Ok, Err}
+use Rattle.chain.specs.Frame.{took}
+use Rattle.heartbeats.specs.Steps.{sends}
+use Rattle.passing.specs.declared.operations.End.TheVariants.{A, B}
 
 pub record Demand2 : Type 0 where
   -- ---- a frame: `chain::handle`, and `clocked::handle`, which promises the same
@@ -150,21 +148,21 @@ pub record Demand2 : Type 0 where
       ∷ (not (eqb (length frame) (frame_length (command_in frame) (monitors table))) gives LengthWrong)
       ∷ (ltb room (reply_length (command_in frame) (monitors table)) gives NoRoom)
       ∷ []
-  refused : (table frame : List ℕ) (room : ℕ) (r : Refusal) → First (frame_refusals table frame room) r → answer table frame room ≡ Refused r
+  refused : (table frame : List ℕ) (room : ℕ) (r : Refusal) → First (frame_refusals table frame room) r → answer table frame room ≡ Err r
   -- none holds: a write other than WRRR is taken by as many monitors as are not in LPCM and find their own bytes right, in a chain with none in LPCM by as many as
   -- find them right; a WRRR, which is executed whatever its check, by all that are not in LPCM; a read and a bare command by all N
   write_answer : (table frame : List ℕ) (room : ℕ) → Passed (frame_refusals table frame room) → (c : Write) → (c ≡ Wrrr → ⊥) → command_in frame ≡ Writes c
       → answer table frame room
-      ≡ Accepted (count (λ k. not (in_lpcm (row_at record_size k table)) && sealed_right (data_size c) (own_in (Writes c) (monitors table) frame k)) (tabulate (λ k. k) 0 (monitors table))) 0
+      ≡ took (count (λ k. not (in_lpcm (row_at record_size k table)) && sealed_right (data_size c) (own_in (Writes c) (monitors table) frame k)) (tabulate (λ k. k) 0 (monitors table))) 0
   write_answer_awake : (table frame : List ℕ) (room : ℕ) → Passed (frame_refusals table frame room) → (c : Write) → (c ≡ Wrrr → ⊥) → command_in frame ≡ Writes c
-      → Awake (monitors table) table → answer table frame room ≡ Accepted (count (sealed_right (data_size c)) (payloads_in (Writes c) frame (monitors table))) 0
+      → Awake (monitors table) table → answer table frame room ≡ took (count (sealed_right (data_size c)) (payloads_in (Writes c) frame (monitors table))) 0
   wrrr_answer : (table frame : List ℕ) (room : ℕ) → Passed (frame_refusals table frame room) → command_in frame ≡ Writes Wrrr
-      → answer table frame room ≡ Accepted (awake_of (monitors table) table) 0
+      → answer table frame room ≡ took (awake_of (monitors table) table) 0
   awake_all : (n : ℕ) (table : List ℕ) → Awake n table → awake_of n table ≡ n
   read_answer : (table frame : List ℕ) (room : ℕ) → Passed (frame_refusals table frame room) → (part : Part) → command_in frame ≡ Reads part
-      → answer table frame room ≡ Accepted (monitors table) (payload_size * monitors table)
+      → answer table frame room ≡ took (monitors table) (payload_size * monitors table)
   bare_answer : (table frame : List ℕ) (room : ℕ) → Passed (frame_refusals table frame room) → (c : Bare) → command_in frame ≡ Bares c
-      → answer table frame room ≡ Accepted (monitors table) 0
+      → answer table frame room ≡ took (monitors table) 0
   -- every monitor keeps what the command makes of its own record and its own bytes: monitor k's are the k-th from the end, of the command's width
   own_record : (table frame : List ℕ) (room : ℕ) → Passed (frame_refusals table frame room) → (k : ℕ) → k < monitors table
       → row_at record_size k (table_after table frame room)
@@ -325,17 +323,17 @@ pub record Demand2 : Type 0 where
   load-refusals : (table : List ℕ) (position : ℕ) (codes : List ℤ) → load_refusals table position codes ≡ store_refusals table position codes
   -- none holds: it is done. The record of the monitor at the position becomes what `cells::store` or `cells::compare` makes of it, and every
   -- other stays
-  store-done : (table : List ℕ) (position : ℕ) (codes : List ℤ) → Passed (store_refusals table position codes) → stored table position codes ≡ Done
+  store-done : (table : List ℕ) (position : ℕ) (codes : List ℤ) → Passed (store_refusals table position codes) → stored table position codes ≡ (Ok tt)
   own-store : (table : List ℕ) (position : ℕ) (codes : List ℤ) → Passed (store_refusals table position codes)
       → row_at record_size (position - 1) (table_after_store table position codes) ≡ store codes (row_at record_size (position - 1) table)
   store-others : (table : List ℕ) (position : ℕ) (codes : List ℤ) → Passed (store_refusals table position codes)
       → (j : ℕ) → j < monitors table → (j ≡ position - 1 → ⊥) → row_at record_size j (table_after_store table position codes) ≡ row_at record_size j table
-  compare-done : (table : List ℕ) (position : ℕ) → Passed (compare_refusals table position) → compared table position ≡ Done
+  compare-done : (table : List ℕ) (position : ℕ) → Passed (compare_refusals table position) → compared table position ≡ (Ok tt)
   own-compare : (table : List ℕ) (position : ℕ) → Passed (compare_refusals table position)
       → row_at record_size (position - 1) (table_after_compare table position) ≡ compare (row_at record_size (position - 1) table)
   compare-others : (table : List ℕ) (position : ℕ) → Passed (compare_refusals table position)
       → (j : ℕ) → j < monitors table → (j ≡ position - 1 → ⊥) → row_at record_size j (table_after_compare table position) ≡ row_at record_size j table
-  load-done : (table : List ℕ) (position : ℕ) (codes : List ℤ) → Passed (load_refusals table position codes) → loaded table position codes ≡ Done
+  load-done : (table : List ℕ) (position : ℕ) (codes : List ℤ) → Passed (load_refusals table position codes) → loaded table position codes ≡ (Ok tt)
   own-load : (table : List ℕ) (position : ℕ) (codes : List ℤ) → Passed (load_refusals table position codes)
       → row_at record_size (position - 1) (table_after_load table position codes) ≡ load codes (row_at record_size (position - 1) table)
   others_stay : (table : List ℕ) (position : ℕ) (codes : List ℤ) → Passed (load_refusals table position codes)
@@ -368,14 +366,14 @@ pub record Demand2 : Type 0 where
   second-compared : (table : List ℕ) (position : ℕ) → compared (table_after_compare table position) position ≡ compared table position
   second-judged : (table : List ℕ) (position : ℕ) (first second : List ℤ)
       → stored (table_after_store table position first) position second ≡ stored table position second
-  second_counts : (table : List ℕ) (position : ℕ) (first second : List ℤ) → stored table position second ≡ Done
+  second_counts : (table : List ℕ) (position : ℕ) (first second : List ℤ) → stored table position second ≡ (Ok tt)
       → table_after_store (table_after_store table position first) position second ≡ table_after_store table position second
   -- a load is a store and a compare: it is answered as its store is, refused by the same number or done; where the store is done so is the
   -- compare after it, and both leave the load's table
   load_as_store : (table : List ℕ) (position : ℕ) (codes : List ℤ) → loaded table position codes ≡ stored table position codes
-  compare-after-store : (table : List ℕ) (position : ℕ) (codes : List ℤ) → stored table position codes ≡ Done
-      → compared (table_after_store table position codes) position ≡ Done
-  store_and_compare : (table : List ℕ) (position : ℕ) (codes : List ℤ) → stored table position codes ≡ Done
+  compare-after-store : (table : List ℕ) (position : ℕ) (codes : List ℤ) → stored table position codes ≡ (Ok tt)
+      → compared (table_after_store table position codes) position ≡ (Ok tt)
+  store_and_compare : (table : List ℕ) (position : ℕ) (codes : List ℤ) → stored table position codes ≡ (Ok tt)
       → table_after_compare (table_after_store table position codes) position ≡ table_after_load table position codes
   -- and document 01's load, which skips nothing: a cell's flags become what they were with those of the code given for it raised
   load-flags : (codes : List ℤ) (r : List ℕ) → length r ≡ record_size → (c : ℕ) → c < cell_count → SFits w16 (get_or codes c (pos 0))
@@ -392,7 +390,7 @@ pub record Demand2 : Type 0 where
       ∷ []
   -- none holds: how many are on of the monitor at the position, and the bytes of the sixteen at the start of the buffer; bytes past them stay
   discharge_answer : (table : List ℕ) (position : ℕ) (events : Events) (phase : ℕ) (out : List ℕ) → Passed (discharge_refusals table position phase (length out))
-      → (discharged table position events phase (length out) ≡ On (count_on events phase (row_at record_size (position - 1) table)))
+      → (discharged table position events phase (length out) ≡ Ok (count_on events phase (row_at record_size (position - 1) table)))
       × (outputs_after table position events phase out ≡ outputs events phase (row_at record_size (position - 1) table) ++ drop cell_count out)
   -- there are sixteen bytes; cell c's is its own, and tells its row and whether it is on; as many say on as are counted
   sixteen : (events : Events) (phase : ℕ) (r : List ℕ) → length (outputs events phase r) ≡ 16
@@ -440,7 +438,7 @@ pub record Demand2 : Type 0 where
   mute_answers : (table frame : List ℕ) (room : ℕ) → Passed (frame_refusals table frame room) → command_in frame ≡ Bares Mute
       → (position : ℕ) (events : Events) (phase : ℕ) (out : List ℕ) → events.shutdown ≡ false
       → Passed (discharge_refusals (table_after table frame room) position phase (length out))
-      → (discharged (table_after table frame room) position events phase (length out) ≡ On 0)
+      → (discharged (table_after table frame room) position events phase (length out) ≡ Ok 0)
       × (outputs_after (table_after table frame room) position events phase out ≡ replicate cell_count 6 ++ drop cell_count out)
   -- after a MUTE and an UNMUTE every answer is as it was, of a monitor whose MUTE_ST was clear
   unmute_answers : (table mute unmute : List ℕ) (room other : ℕ) → Passed (frame_refusals table mute room) → command_in mute ≡ Bares Mute
@@ -452,7 +450,7 @@ pub record Demand2 : Type 0 where
 
   -- the frame goes to the start of the buffer, and the bytes past it stay
   host_writes : (code n : ℕ) (values buffer : List ℕ) → Passed (build_refusals code n values (length buffer))
-      → (built code n values (length buffer) ≡ Length (length (frame_for code n values)))
+      → (built code n values (length buffer) ≡ Ok (length (frame_for code n values)))
       × (buffer_after code n values buffer ≡ frame_for code n values ++ drop (length (frame_for code n values)) buffer)
   -- monitor k's own bytes, the k-th from the end of the frame, are the k-th data of our list with their check
   own_data : (code n : ℕ) (values : List ℕ) (c : Write) → command_of code commands ≡ Writes c → length values ≡ data_size c * n → (k : ℕ) → k < n
@@ -460,21 +458,21 @@ pub record Demand2 : Type 0 where
   -- the chain accepts the write, all monitors take it that are not in LPCM, all N where none is, and each keeps what the command makes of its own data
   awake_take : (table values buffer : List ℕ) (code : ℕ) (c : Write) → command_of code commands ≡ Writes c → sound table ≡ true
       → length values ≡ data_size c * monitors table
-      → answer table (frame_for code (monitors table) values) (length buffer) ≡ Accepted (awake_of (monitors table) table) 0
+      → answer table (frame_for code (monitors table) values) (length buffer) ≡ took (awake_of (monitors table) table) 0
   all_take : (table values buffer : List ℕ) (code : ℕ) (c : Write) → command_of code commands ≡ Writes c → sound table ≡ true
       → length values ≡ data_size c * monitors table → Awake (monitors table) table
-      → answer table (frame_for code (monitors table) values) (length buffer) ≡ Accepted (monitors table) 0
+      → answer table (frame_for code (monitors table) values) (length buffer) ≡ took (monitors table) 0
   each_keeps : (table values buffer : List ℕ) (code : ℕ) (c : Write) → command_of code commands ≡ Writes c → sound table ≡ true
       → length values ≡ data_size c * monitors table → (k : ℕ) → k < monitors table
       → row_at record_size k (table_after table (frame_for code (monitors table) values) (length buffer))
       ≡ keeps (Writes c) (sealed (row_at (data_size c) k values)) (row_at record_size k table)
   -- the chain accepts a bare command, and all N monitors take it
   all-take_bare : (table buffer : List ℕ) (code : ℕ) (c : Bare) → command_of code commands ≡ Bares c → sound table ≡ true
-      → answer table (frame_for code (monitors table) []) (length buffer) ≡ Accepted (monitors table) 0
+      → answer table (frame_for code (monitors table) []) (length buffer) ≡ took (monitors table) 0
   -- the chain accepts the read, and each monitor's part of the reply is what it replies, and right
   all-reply : (table buffer : List ℕ) (code : ℕ) (part : Part) → command_of code commands ≡ Reads part → sound table ≡ true
       → payload_size * monitors table ≤ length buffer
-      → answer table (frame_for code (monitors table) []) (length buffer) ≡ Accepted (monitors table) (payload_size * monitors table)
+      → answer table (frame_for code (monitors table) []) (length buffer) ≡ took (monitors table) (payload_size * monitors table)
   each-replies : (table buffer : List ℕ) (code : ℕ) (part : Part) → command_of code commands ≡ Reads part → sound table ≡ true
       → payload_size * monitors table ≤ length buffer → (k : ℕ) → k < monitors table
       → row_at payload_size k (reply_after table (frame_for code (monitors table) []) buffer) ≡ reply part (row_at record_size k table)
@@ -500,10 +498,10 @@ pub record Demand2 : Type 0 where
       × (is_right eight expected ≡ payload_right eight && eqb (counter_of eight) expected)
   three_verdicts : (eight : List ℕ) (expected : ℕ) → count (λ (b : Bool). b) (is_right eight expected ∷ counter_differs eight expected ∷ is_damaged eight ∷ []) ≡ 1
   -- none refused: each is given exactly where it holds, and with a counter that differs the one received
-  check_right : (payload : List ℕ) (expected : ℕ) → Passed (check_refusals payload expected) → (checked payload expected ≡ Right) ↔ (is_right payload expected ≡ true)
-  check_damaged : (payload : List ℕ) (expected : ℕ) → Passed (check_refusals payload expected) → (checked payload expected ≡ PayloadDamaged) ↔ (is_damaged payload ≡ true)
+  check_right : (payload : List ℕ) (expected : ℕ) → Passed (check_refusals payload expected) → (checked payload expected ≡ Ok Right) ↔ (is_right payload expected ≡ true)
+  check_damaged : (payload : List ℕ) (expected : ℕ) → Passed (check_refusals payload expected) → (checked payload expected ≡ Ok PayloadDamaged) ↔ (is_damaged payload ≡ true)
   check_differs : (payload : List ℕ) (expected : ℕ) → Passed (check_refusals payload expected)
-      → (c : ℕ) → (checked payload expected ≡ CounterDiffers c) ↔ ((counter_differs payload expected ≡ true) × (c ≡ counter_of payload))
+      → (c : ℕ) → (checked payload expected ≡ Ok (CounterDiffers c)) ↔ ((counter_differs payload expected ≡ true) × (c ≡ counter_of payload))
   -- `ports::port_of` and `ports::part_of`: monitor k of two replies, k from 1. The exact refusals, in their order
   port-refusals : (a b : List ℕ) (n k expected : ℕ) → port_refusals a b n k expected
       ≡ (ltb 63 expected gives PositionWrong)
@@ -513,7 +511,7 @@ pub record Demand2 : Type 0 where
       ∷ []
   -- none holds: port A's part if it is right, else port B's if it is, else A's if only its counter differs, else B's, of which that is then so; and whether it differs
   which_port : (a b : List ℕ) (n k expected : ℕ) → Passed (port_refusals a b n k expected) → port_of a b n k expected
-      ≡ cond (is_right (part_a a n k) expected) (A false) (cond (is_right (part_b b n k) expected) (B false) (cond (counter_differs (part_a a n k) expected) (A true) (B true)))
+      ≡ Ok (cond (is_right (part_a a n k) expected) (A false) (cond (is_right (part_b b n k) expected) (B false) (cond (counter_differs (part_a a n k) expected) (A true) (B true))))
   last_differs : (a b : List ℕ) (n k expected : ℕ) → Passed (port_refusals a b n k expected)
       → is_right (part_a a n k) expected ≡ false → is_right (part_b b n k) expected ≡ false → counter_differs (part_a a n k) expected ≡ false → counter_differs (part_b b n k) expected ≡ true
   -- what is handed over is that port's part, and nothing where it is refused
@@ -526,18 +524,18 @@ pub record Demand2 : Type 0 where
       → reply_after table (frame_for code (monitors table) []) buffer ≡ from_a part (monitors table) table
   handed-from_a : (part : Part) (n : ℕ) (table : List ℕ) (k : ℕ) → 1 ≤ k → k ≤ n → n ≤ most_monitors
       → (expected : ℕ) → expected ≤ 63 → expected ≡ byte_of counter (row_at record_size (k - 1) table) → (b : List ℕ) → length b ≡ payload_size * n
-      → (port_of (from_a part n table) b n k expected ≡ A false) × (bytes_of (from_a part n table) b n k expected ≡ reply part (row_at record_size (k - 1) table))
+      → (port_of (from_a part n table) b n k expected ≡ Ok (A false)) × (bytes_of (from_a part n table) b n k expected ≡ reply part (row_at record_size (k - 1) table))
   handed-from_b : (part : Part) (n : ℕ) (table : List ℕ) (k : ℕ) → 1 ≤ k → k ≤ n → n ≤ most_monitors
       → (expected : ℕ) → expected ≤ 63 → expected ≡ byte_of counter (row_at record_size (k - 1) table) → (a : List ℕ) → length a ≡ payload_size * n
       → is_right (part_a a n k) expected ≡ false
-      → (port_of a (from_b part n table) n k expected ≡ B false) × (bytes_of a (from_b part n table) n k expected ≡ reply part (row_at record_size (k - 1) table))
+      → (port_of a (from_b part n table) n k expected ≡ Ok (B false)) × (bytes_of a (from_b part n table) n k expected ≡ reply part (row_at record_size (k - 1) table))
   any_from_a : (part : Part) (n : ℕ) (table : List ℕ) (k : ℕ) → 1 ≤ k → k ≤ n → n ≤ most_monitors
       → (expected : ℕ) → expected ≤ 63 → (b : List ℕ) → length b ≡ payload_size * n → is_right (part_b b n k) expected ≡ false
-      → (port_of (from_a part n table) b n k expected ≡ A (not (is_right (reply part (row_at record_size (k - 1) table)) expected)))
+      → (port_of (from_a part n table) b n k expected ≡ Ok (A (not (is_right (reply part (row_at record_size (k - 1) table)) expected))))
       × (bytes_of (from_a part n table) b n k expected ≡ reply part (row_at record_size (k - 1) table))
   any_from_b : (part : Part) (n : ℕ) (table : List ℕ) (k : ℕ) → 1 ≤ k → k ≤ n → n ≤ most_monitors
       → (expected : ℕ) → expected ≤ 63 → (a : List ℕ) → length a ≡ payload_size * n → is_damaged (part_a a n k) ≡ true
-      → (port_of a (from_b part n table) n k expected ≡ B (not (is_right (reply part (row_at record_size (k - 1) table)) expected)))
+      → (port_of a (from_b part n table) n k expected ≡ Ok (B (not (is_right (reply part (row_at record_size (k - 1) table)) expected))))
       × (bytes_of a (from_b part n table) n k expected ≡ reply part (row_at record_size (k - 1) table))
   -- ---- a spike on the wire: what our host's frames do where bits came turned over. `Spike` says what a spike is, `StruckData` and `StruckCommand` which frames
   -- it struck and where
@@ -545,9 +543,9 @@ pub record Demand2 : Type 0 where
   -- a write other than WRRR, at least one bit of it turned over, all of these within ten places in a row and none in the first four bytes: it is accepted, and
   -- as many monitors take it as were not hit, those whose own bytes came as they were sent, and are not in LPCM; in a chain with none in LPCM, as were not hit
   spike-answer : (table sent came buffer : List ℕ) → sound table ≡ true → (c : Write) → (c ≡ Wrrr → ⊥) → StruckData (Writes c) (monitors table) sent came
-      → (answer table came (length buffer) ≡ Accepted (unhit_awake (Writes c) (monitors table) table sent came) 0) × (reply_after table came buffer ≡ buffer)
+      → (answer table came (length buffer) ≡ took (unhit_awake (Writes c) (monitors table) table sent came) 0) × (reply_after table came buffer ≡ buffer)
   spike-answer_awake : (table sent came buffer : List ℕ) → sound table ≡ true → (c : Write) → (c ≡ Wrrr → ⊥) → StruckData (Writes c) (monitors table) sent came
-      → Awake (monitors table) table → answer table came (length buffer) ≡ Accepted (unhit_of (Writes c) (monitors table) sent came) 0
+      → Awake (monitors table) table → answer table came (length buffer) ≡ took (unhit_of (Writes c) (monitors table) sent came) 0
   unhit-awake : (table sent came : List ℕ) → sound table ≡ true → (c : Write) → StruckData (Writes c) (monitors table) sent came → Awake (monitors table) table
       → unhit_awake (Writes c) (monitors table) table sent came ≡ unhit_of (Writes c) (monitors table) sent came
   -- those are fewer than N
@@ -574,7 +572,7 @@ pub record Demand2 : Type 0 where
       → row_at record_size k (table_after table came room) ≡ row_at record_size k (table_after table sent room)
   -- WRRR needs no check, so none protects it: all take it and count that are not in LPCM, and one of them that was unlocked stores its own six bytes as they came
   spike_wrrr : (table sent came buffer : List ℕ) → sound table ≡ true → StruckData (Writes Wrrr) (monitors table) sent came
-      → (answer table came (length buffer) ≡ Accepted (awake_of (monitors table) table) 0) × (reply_after table came buffer ≡ buffer)
+      → (answer table came (length buffer) ≡ took (awake_of (monitors table) table) 0) × (reply_after table came buffer ≡ buffer)
   spike_wrrr_unlocked : (table sent came : List ℕ) (room : ℕ) → sound table ≡ true → StruckData (Writes Wrrr) (monitors table) sent came
       → (k : ℕ) → k < monitors table → in_lpcm (row_at record_size k table) ≡ false → byte_of unlocked (row_at record_size k table) ≡ 1
       → row_at record_size k (table_after table came room)
@@ -585,23 +583,23 @@ pub record Demand2 : Type 0 where
   -- any frame, for any number of monitors, at least one bit of its first four bytes turned over, and all that were, there or behind them, within fifteen places
   -- in a row: it is refused with 3, and nothing changes
   spike-refused : (table sent came buffer : List ℕ) → sound table ≡ true → (c : Command) (n : ℕ) → StruckCommand c n sent came
-      → (answer table came (length buffer) ≡ Refused CommandWrong) × (table_after table came (length buffer) ≡ table) × (reply_after table came buffer ≡ buffer)
+      → (answer table came (length buffer) ≡ Err CommandWrong) × (table_after table came (length buffer) ≡ table) × (reply_after table came buffer ≡ buffer)
   -- and no further: examples of both, and eleven places behind a command and sixteen in one that get through
   sharp : Sharp
   -- ---- a missed command: what a read that our host builds shows of a command that came before it (`read_after`)
 
   -- a reply of a monitor with a counter of at most 63, as a sound record has, is right against that counter, and against any other its counter differs and is the
   -- one told; and so is each monitor's part of the chain's reply
-  own-counter : (part : Part) (r : List ℕ) → byte_of counter r ≤ 63 → checked (reply part r) (byte_of counter r) ≡ Right
+  own-counter : (part : Part) (r : List ℕ) → byte_of counter r ≤ 63 → checked (reply part r) (byte_of counter r) ≡ Ok Right
   other_counter : (part : Part) (r : List ℕ) (expected : ℕ) → expected ≤ 63 → byte_of counter r ≤ 63 → (expected ≡ byte_of counter r → ⊥)
-      → checked (reply part r) expected ≡ CounterDiffers (byte_of counter r)
+      → checked (reply part r) expected ≡ Ok (CounterDiffers (byte_of counter r))
   each-own-counter : (table buffer : List ℕ) (code : ℕ) (part : Part) → command_of code commands ≡ Reads part → sound table ≡ true
       → payload_size * monitors table ≤ length buffer → (k : ℕ) → k < monitors table
-      → checked (row_at payload_size k (reply_after table (frame_for code (monitors table) []) buffer)) (byte_of counter (row_at record_size k table)) ≡ Right
+      → checked (row_at payload_size k (reply_after table (frame_for code (monitors table) []) buffer)) (byte_of counter (row_at record_size k table)) ≡ Ok Right
   each_other_counter : (table buffer : List ℕ) (code : ℕ) (part : Part) → command_of code commands ≡ Reads part → sound table ≡ true
       → payload_size * monitors table ≤ length buffer → (k : ℕ) → k < monitors table → (expected : ℕ) → expected ≤ 63
       → (expected ≡ byte_of counter (row_at record_size k table) → ⊥)
-      → checked (row_at payload_size k (reply_after table (frame_for code (monitors table) []) buffer)) expected ≡ CounterDiffers (byte_of counter (row_at record_size k table))
+      → checked (row_at payload_size k (reply_after table (frame_for code (monitors table) []) buffer)) expected ≡ Ok (CounterDiffers (byte_of counter (row_at record_size k table)))
   -- a counter and the next after it, which is never the same
   next-count : (n : ℕ) → next_count n ≡ cond (ltb n 63) (n + 1) 1
   next-apart : (n : ℕ) → next_count n ≡ n → ⊥
@@ -624,7 +622,7 @@ pub record Demand2 : Type 0 where
       → (code : ℕ) (part : Part) (buffer : List ℕ) → command_of code commands ≡ Reads part → payload_size * monitors table ≤ length buffer → (k : ℕ) → k < monitors table
       → let r = row_at record_size k table in
       checked (row_at payload_size k (read_after table came room code buffer)) (next_count (byte_of counter r))
-      ≡ cond (not (in_lpcm r) && unhit (Writes c) (monitors table) sent came k) Right (CounterDiffers (byte_of counter r))
+      ≡ Ok (cond (not (in_lpcm r) && unhit (Writes c) (monitors table) sent came k) Right (CounterDiffers (byte_of counter r)))
   missed_at_ports : (table sent came : List ℕ) (room : ℕ) → sound table ≡ true → (c : Write) → (c ≡ Wrrr → ⊥) → Spoilt c (monitors table) sent came
       → (part : Part) → EachSeen c part table sent came (table_after table came room)
   -- a missed write is seen: all N monitors have one counter and none is in LPCM. Against the next counter exactly the monitors that were hit are seen with another,
@@ -643,11 +641,11 @@ pub record Demand2 : Type 0 where
       → read_after table frame room code buffer ≡ from_a part (monitors table) (table_after table frame room)
   -- a frame that the chain refuses, among them any with a spike in its command, is missed by all: against the next counter, which a write or a bare command other
   -- than RSTCC lets a host expect, every monitor's reply differs, and tells the old one
-  refused_read : (table frame : List ℕ) (room : ℕ) → sound table ≡ true → (refusal : Refusal) → answer table frame room ≡ Refused refusal
+  refused_read : (table frame : List ℕ) (room : ℕ) → sound table ≡ true → (refusal : Refusal) → answer table frame room ≡ Err refusal
       → (code : ℕ) (part : Part) (buffer : List ℕ) → command_of code commands ≡ Reads part → payload_size * monitors table ≤ length buffer → (k : ℕ) → k < monitors table
       → let r = row_at record_size k table in
-      checked (row_at payload_size k (read_after table frame room code buffer)) (next_count (byte_of counter r)) ≡ CounterDiffers (byte_of counter r)
-  refused-seen : (table frame : List ℕ) (room : ℕ) → sound table ≡ true → (refusal : Refusal) → answer table frame room ≡ Refused refusal
+      checked (row_at payload_size k (read_after table frame room code buffer)) (next_count (byte_of counter r)) ≡ Ok (CounterDiffers (byte_of counter r))
+  refused-seen : (table frame : List ℕ) (room : ℕ) → sound table ≡ true → (refusal : Refusal) → answer table frame room ≡ Err refusal
       → (part : Part) (k : ℕ) → 1 ≤ k → k ≤ monitors table
       → let r = row_at record_size (k - 1) table in
       SeenAs part (monitors table) (table_after table frame room) k (next_count (byte_of counter r)) false (byte_of counter r)
@@ -659,7 +657,7 @@ pub record Demand2 : Type 0 where
   wrrr_unseen : (table sent came : List ℕ) (room : ℕ) → sound table ≡ true → Spoilt Wrrr (monitors table) sent came → (k : ℕ) → k < monitors table
       → in_lpcm (row_at record_size k table) ≡ false
       → (code : ℕ) (part : Part) (buffer : List ℕ) → command_of code commands ≡ Reads part → payload_size * monitors table ≤ length buffer
-      → checked (row_at payload_size k (read_after table came room code buffer)) (next_count (byte_of counter (row_at record_size k table))) ≡ Right
+      → checked (row_at payload_size k (read_after table came room code buffer)) (next_count (byte_of counter (row_at record_size k table))) ≡ Ok Right
   -- a monitor that receives a write takes either right: data with the check over them and any counter are accepted by every monitor that is not in LPCM, and it keeps
   -- the same of all of them; and so are, of a write of six bytes, own bytes that are right against a counter, and own bytes whose counter differs
   any_accepted : (c : Write) (own r : List ℕ) → length own ≡ data_size c → (i : ℕ) → accepts c (own ++ seal own i) r ≡ not (in_lpcm r)
@@ -676,22 +674,22 @@ pub record Demand2 : Type 0 where
       × (towards_a r ≡ bit_at 5 (byte_in lpcm_configuration r 4))
   -- a manager that wakes measures, and starts with one less than the devices, in eight bits, if it passes, and with its own flags; no other monitor wakes
   manager-wakes : (r : List ℕ) → is_manager r ≡ true
-      → (woken r ≡ measured r) × (wakes r ≡ Sends (cond (passes r) ((ndev r + 255) % 256) (ndev r)) (byte_of cmf0 (measured r)))
-  no_manager_sleeps : (r : List ℕ) → is_manager r ≡ false → (woken r ≡ r) × (wakes r ≡ Silent)
+      → (woken r ≡ measured r) × (wakes r ≡ sends (cond (passes r) ((ndev r + 255) % 256) (ndev r)) (byte_of cmf0 (measured r)))
+  no_manager_sleeps : (r : List ℕ) → is_manager r ≡ false → (woken r ≡ r) × (wakes r ≡ None)
   -- any other monitor in LPCM that a right message reaches measures, counts one down if it passes, joins its flags, and sends on
   monitor-sends_on : (r message : List ℕ) → in_lpcm r ≡ true → manages r ≡ false → message_right message ≡ true → is_timeout r ≡ false
       → (reached message r ≡ measured r)
-      × (answers message r ≡ Sends (cond (passes r) ((count_in message + 255) % 256) (count_in message)) (bit_or (flagsByte message) (byte_of cmf0 (measured r))))
+      × (answers message r ≡ sends (cond (passes r) ((count_in message + 255) % 256) (count_in message)) (bit_or (flagsByte message) (byte_of cmf0 (measured r))))
   -- a timeout monitor takes its own step, sends nothing on, and judges: a pass clears its two flags in CMF1, anything else sets bit 0. The time running out sets bit 1
   timeout_judges : (r message : List ℕ) → in_lpcm r ≡ true → manages r ≡ false → message_right message ≡ true → is_timeout r ≡ true
       → (reached message r
       ≡ on_bytes cmf1 (λ i old. cond (is_pass (cond (passes r) ((count_in message + 255) % 256) (count_in message)) (bit_or (flagsByte message) (byte_of cmf0 (measured r)))) (bit_and old 0xFC) (bit_or old 0x01)) (measured r))
-      × (answers message r ≡ Silent)
+      × (answers message r ≡ None)
   time_runs_out : (r : List ℕ) → (is_timeout r ≡ true → late r ≡ on_bytes cmf1 (λ i old. bit_or old 0x02) r) × (is_timeout r ≡ false → late r ≡ r)
   -- a manager takes no message in, a monitor not in LPCM stops it, and one that is not right is ignored: nothing changes, and nothing goes on
-  manager-left : (r message : List ℕ) → manages r ≡ true → (reached message r ≡ r) × (answers message r ≡ Silent)
-  awake_left : (r message : List ℕ) → in_lpcm r ≡ false → (reached message r ≡ r) × (answers message r ≡ Silent)
-  wrong_left : (r message : List ℕ) → message_right message ≡ false → (reached message r ≡ r) × (answers message r ≡ Silent)
+  manager-left : (r message : List ℕ) → manages r ≡ true → (reached message r ≡ r) × (answers message r ≡ None)
+  awake_left : (r message : List ℕ) → in_lpcm r ≡ false → (reached message r ≡ r) × (answers message r ≡ None)
+  wrong_left : (r message : List ℕ) → message_right message ≡ false → (reached message r ≡ r) × (answers message r ≡ None)
   -- no turn changes more than CMF0, CMF1 and the last measurement, so counter and byte 69 stay, and CMC_EN stays
   turn_spares : (r message : List ℕ) (p : Part) → Apart p cmf0 → Apart p cmf1 → Apart p last_cells
       → (part_of p (woken r) ≡ part_of p r) × (part_of p (reached message r) ≡ part_of p r) × (part_of p (late r) ≡ part_of p r)
@@ -717,26 +715,26 @@ pub record Demand2 : Type 0 where
   -- and the answer tells the end that it is sent towards, whether it is sent on, or whether it is a timeout monitor at which the time ran out
   wake_done : (table : List ℕ) (position : ℕ) (out : List ℕ) → Passed (wake_refusals table position (length out))
       → let r = row_at record_size (position - 1) table in
-      (woken_at table position (length out) ≡ sent_towards r (bytes_sent (wakes r)))
+      (woken_at table position (length out) ≡ Ok (sent_towards r (bytes_sent (wakes r))))
       × (out_after_wake table position out ≡ handed_out (bytes_sent (wakes r)) out)
       × Turned table position (table_after_wake table position (length out)) (woken r)
   relay_done : (table : List ℕ) (position : ℕ) (message out : List ℕ) → Passed (relay_refusals table position (length message) (length out))
       → let r = row_at record_size (position - 1) table in
-      (relayed_at table position message (length out) ≡ sent_on (bytes_sent (answers message r)))
+      (relayed_at table position message (length out) ≡ Ok (sent_on (bytes_sent (answers message r))))
       × (out_after_relay table position message out ≡ handed_out (bytes_sent (answers message r)) out)
       × Turned table position (table_after_relay table position message (length out)) (reached message r)
   time_out_done : (table : List ℕ) (position : ℕ) → Passed (time_out_refusals table position)
       → let r = row_at record_size (position - 1) table in
-      (timed_out table position ≡ cond (is_timeout r) RanOut NoTimeoutMonitor) × Turned table position (table_after_time_out table position) (late r)
+      (timed_out table position ≡ Ok (cond (is_timeout r) RanOut NoTimeoutMonitor)) × Turned table position (table_after_time_out table position) (late r)
   -- a message is handed out at the start of the buffer, and the bytes past its eight stay; where nothing is sent all of them do
   nothing_handed : (out : List ℕ) → handed_out [] out ≡ out
   message-handed : (c f : ℕ) (out : List ℕ) → handed_out (message c f) out ≡ message c f ++ drop 8 out
-  nothing_told : (r : List ℕ) → (sent_towards r [] ≡ NotSent) × (sent_on [] ≡ Stopped)
-  message-told : (r : List ℕ) (c f : ℕ) → (sent_towards r (message c f) ≡ cond (towards_a r) TowardsA TowardsB) × (sent_on (message c f) ≡ SentOn)
+  nothing_told : (r : List ℕ) → (sent_towards r [] ≡ None) × (sent_on [] ≡ Stopped)
+  message-told : (r : List ℕ) (c f : ℕ) → (sent_towards r (message c f) ≡ cond (towards_a r) (Some A) (Some B)) × (sent_on (message c f) ≡ SentOn)
   -- a whole heartbeat hands out what leaves the chain, and leaves what every monitor's turn leaves: from the one that wakes to the others on its way, nearest
   -- to it first, each reached by what the one before it sent. Towards port A its way goes down to the first monitor, else up to the last
   beat_done : (table : List ℕ) (position : ℕ) (out : List ℕ) → Passed (wake_refusals table position (length out))
-      → (beaten table position (length out) ≡ sent_towards (row_at record_size (position - 1) table) (beat_sends (position - 1) table))
+      → (beaten table position (length out) ≡ Ok (sent_towards (row_at record_size (position - 1) table) (beat_sends (position - 1) table)))
       × (out_after_beat table position out ≡ handed_out (beat_sends (position - 1) table) out)
       × (table_after_beat table position (length out) ≡ beat_leaves (position - 1) table)
   ways : (n k : ℕ) → (way true n k ≡ tabulate (λ i. k - suc i) 0 k) × (way false n k ≡ tabulate (λ i. k + suc i) 0 (n - suc k))
@@ -745,7 +743,7 @@ pub record Demand2 : Type 0 where
   in_turn : (table : List ℕ) (position : ℕ) (out : List ℕ) → Passed (wake_refusals table position (length out))
       → (table_after_beat table position (length out) ≡ left_by_turns out table position)
       × (out_after_beat table position out ≡ handed_out (sent_by_turns out table position) out)
-      × (beaten table position (length out) ≡ sent_towards (row_at record_size (position - 1) table) (sent_by_turns out table position))
+      × (beaten table position (length out) ≡ Ok (sent_towards (row_at record_size (position - 1) table) (sent_by_turns out table position)))
   -- where the one that is to wake is no manager in LPCM nothing is sent, and nothing changes
   beat_none : (k : ℕ) (table : List ℕ) → is_manager (row_at record_size k table) ≡ false → (beat_sends k table ≡ []) × (beat_leaves k table ≡ table)
   -- a manager at the end that it sends away from, the far one towards the host or the near one, and every other monitor in LPCM, no manager and no timeout monitor
@@ -760,9 +758,9 @@ pub record Demand2 : Type 0 where
   beat_all : (table : List ℕ)
       → (count passes (rows record_size (monitors table) table) ≡ monitors table) ↔ (all passes (rows record_size (monitors table) table) ≡ true)
   beat_passed : (toA : Bool) (k : ℕ) (table : List ℕ) → Guarded toA k table → FromTheEnd toA k (monitors table) → ndev (row_at record_size k table) ≡ monitors table + 0x42
-      → (verdict (beat_sends k table) false ≡ Good) ↔ (all passes (rows record_size (monitors table) table) ≡ true)
+      → (verdict (beat_sends k table) false ≡ Ok Good) ↔ (all passes (rows record_size (monitors table) table) ≡ true)
   beat_exactly : (toA : Bool) (k : ℕ) (table : List ℕ) → Guarded toA k table → FromTheEnd toA k (monitors table) → ndev (row_at record_size k table) < 256
-      → (verdict (beat_sends k table) false ≡ Good)
+      → (verdict (beat_sends k table) false ≡ Ok Good)
       ↔ ((all passes (rows record_size (monitors table) table) ≡ true) × (ndev (row_at record_size k table) ≡ monitors table + 0x42))
   beat_measures : (toA : Bool) (k : ℕ) (table : List ℕ) → Guarded toA k table → FromTheEnd toA k (monitors table) → (j : ℕ) → j < monitors table
       → row_at record_size j (beat_leaves k table) ≡ measured (row_at record_size j table)
@@ -775,7 +773,7 @@ pub record Demand2 : Type 0 where
       (sent_along (drop h (way_from k table)) came left ≡ []) × (left_along (drop h (way_from k table)) came left ≡ left)
   beat_untouched : (toA : Bool) (k : ℕ) (table : List ℕ) → Guarded toA k table → (h j : ℕ) → h ≤ j → j < hops toA (monitors table) k
       → row_at record_size (behind toA k j) (left_along (take h (way_from k table)) (wake_sends k table) (wake_leaves k table)) ≡ row_at record_size (behind toA k j) table
-  beat_struck_last : (toA : Bool) (k : ℕ) (table : List ℕ) → Guarded toA k table → (came : List ℕ) → Struck (beat_sends k table) came → verdict came false ≡ Damaged
+  beat_struck_last : (toA : Bool) (k : ℕ) (table : List ℕ) → Guarded toA k table → (came : List ℕ) → Struck (beat_sends k table) came → verdict came false ≡ Ok Damaged
   -- in any chain, a monitor not in LPCM anywhere on the way: nothing leaves the chain
   beat_stopped : (k : ℕ) (table : List ℕ) → sound table ≡ true → k < monitors table
       → let toA = towards_a (row_at record_size k table) in
@@ -794,24 +792,24 @@ pub record Demand2 : Type 0 where
       ≡ (not (eqb (length bytes) 8 || (late && eqb (length bytes) 0)) gives LengthWrong) ∷ []
   -- each verdict is given exactly where what it says is so. Count and flags are bytes four and five
   verdict-refused : (bytes : List ℕ) (late : Bool) (r : Refusal)
-      → (verdict bytes late ≡ Unjudged r) ↔ ((r ≡ LengthWrong) × (length bytes ≡ 8 → ⊥) × ((late ≡ true) × (length bytes ≡ 0) → ⊥))
-  verdict-timed_out : (bytes : List ℕ) (late : Bool) → (verdict bytes late ≡ TimedOut) ↔ ((late ≡ true) × ((length bytes ≡ 8) ⊎ (length bytes ≡ 0)))
-  verdict_damaged : (bytes : List ℕ) (late : Bool) → (verdict bytes late ≡ Damaged) ↔ ((late ≡ false) × (length bytes ≡ 8) × (message_right bytes ≡ false))
+      → (verdict bytes late ≡ Err r) ↔ ((r ≡ LengthWrong) × (length bytes ≡ 8 → ⊥) × ((late ≡ true) × (length bytes ≡ 0) → ⊥))
+  verdict-timed_out : (bytes : List ℕ) (late : Bool) → (verdict bytes late ≡ Ok TimedOut) ↔ ((late ≡ true) × ((length bytes ≡ 8) ⊎ (length bytes ≡ 0)))
+  verdict_damaged : (bytes : List ℕ) (late : Bool) → (verdict bytes late ≡ Ok Damaged) ↔ ((late ≡ false) × (length bytes ≡ 8) × (message_right bytes ≡ false))
   verdict-passed : (bytes : List ℕ) (late : Bool)
-      → (verdict bytes late ≡ Good) ↔ ((late ≡ false) × (message_right bytes ≡ true) × (get_or bytes 4 0 ≡ 0x42) × (get_or bytes 5 0 ≡ 0))
+      → (verdict bytes late ≡ Ok Good) ↔ ((late ≡ false) × (message_right bytes ≡ true) × (get_or bytes 4 0 ≡ 0x42) × (get_or bytes 5 0 ≡ 0))
   verdict_failed : (bytes : List ℕ) (late : Bool) (c f : ℕ)
-      → (verdict bytes late ≡ Failed c f)
+      → (verdict bytes late ≡ Ok (Failed c f))
       ↔ ((late ≡ false) × (message_right bytes ≡ true) × (get_or bytes 4 0 ≡ c) × (get_or bytes 5 0 ≡ f) × ((c ≡ 0x42) × (f ≡ 0) → ⊥))
   -- `messages::message`: the command that monitors send, its check, count and flags, and their check. It is right
   message_sent : (c f : ℕ) → message c f ≡ 0x00 ∷ 0x43 ∷ 0x47 ∷ 0xB2 ∷ (c ∷ f ∷ []) ++ seal (c ∷ f ∷ []) 0
   message-right : (c f : ℕ) → message_right (message c f) ≡ true
-  message-passed : (c f : ℕ) → (verdict (message c f) false ≡ Good) ↔ ((c ≡ 0x42) × (f ≡ 0))
-  message_failed : (c f : ℕ) → ((c ≡ 0x42) × (f ≡ 0) → ⊥) → verdict (message c f) false ≡ Failed c f
+  message-passed : (c f : ℕ) → (verdict (message c f) false ≡ Ok Good) ↔ ((c ≡ 0x42) × (f ≡ 0))
+  message_failed : (c f : ℕ) → ((c ≡ 0x42) × (f ≡ 0) → ⊥) → verdict (message c f) false ≡ Ok (Failed c f)
   -- a right message, at least one bit turned over, all of these within ten places in a row, or in its last four bytes, whatever came of the first: it is damaged; and
   -- so are eight bytes of which bits of the first four were turned over within fifteen places, whatever came behind
-  message_hit : (sent came : List ℕ) → message_right sent ≡ true → Spike 10 sent came → verdict came false ≡ Damaged
-  message_hit_data : (sent came : List ℕ) → message_right sent ≡ true → Spike 10 (drop 4 sent) (drop 4 came) → verdict came false ≡ Damaged
-  message_hit_command : (sent came : List ℕ) → message_right sent ≡ true → Spike 15 (take 4 sent) (take 4 came) → length came ≡ 8 → verdict came false ≡ Damaged
+  message_hit : (sent came : List ℕ) → message_right sent ≡ true → Spike 10 sent came → verdict came false ≡ Ok Damaged
+  message_hit_data : (sent came : List ℕ) → message_right sent ≡ true → Spike 10 (drop 4 sent) (drop 4 came) → verdict came false ≡ Ok Damaged
+  message_hit_command : (sent came : List ℕ) → message_right sent ≡ true → Spike 15 (take 4 sent) (take 4 came) → length came ≡ 8 → verdict came false ≡ Ok Damaged
   -- ---- document 01's fourteen worked examples
 
   examples : EitherSide
@@ -1072,11 +1070,11 @@ demand_2 =
       beat_watched = watched;
       chains = chain-examples;
       verdict-refusals = λ bytes late. refl;
-      verdict-refused = λ bytes late r. exactly bytes late (Unjudged r);
-      verdict-timed_out = λ bytes late. exactly bytes late TimedOut;
-      verdict_damaged = λ bytes late. exactly bytes late Damaged;
-      verdict-passed = λ bytes late. exactly bytes late Good;
-      verdict_failed = λ bytes late c f. exactly bytes late (Failed c f);
+      verdict-refused = λ bytes late r. exactly bytes late (Err r);
+      verdict-timed_out = λ bytes late. exactly bytes late (Ok TimedOut);
+      verdict_damaged = λ bytes late. exactly bytes late (Ok Damaged);
+      verdict-passed = λ bytes late. exactly bytes late (Ok Good);
+      verdict_failed = λ bytes late c f. exactly bytes late (Ok (Failed c f));
       message_sent = message-bytes;
       message-right = message-right;
       message-passed = sent_passed;

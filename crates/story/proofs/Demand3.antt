@@ -37,7 +37,6 @@ use Rattle.records.specs.Commands.{commands, command_of, most_monitors, payload_
 use Rattle.reads.specs.Shown.{of_cells, shown_cells}
 use Rattle.reads.specs.Reply.{six_bytes, six_in, reply}
 use Rattle.chain.specs.declared.frames.Answer.{Answer}
-use Rattle.chain.specs.declared.frames.Answer.TheVariants.{Refused, Accepted}
 use Rattle.judging.specs.Table.{monitors, sound}
 use Rattle.judging.specs.Refusals.{command_in}
 use Rattle.serving.specs.Served.{awake_of}
@@ -48,15 +47,12 @@ use Rattle.judging.proofs.Keeps.{Keeps}
 use Rattle.chain.proofs.FrameKeeps.{sound-after-frame, monitors-after-frame}
 use Rattle.chain.proofs.Outcome.{the_table}
 use Rattle.judging.proofs.Soundness.{is_sound}
-use Rattle.loads.specs.declared.loads.Loaded.{Loaded}
-use Rattle.loads.specs.declared.loads.Loaded.TheVariants.{Unloaded, Done}
 use Rattle.loads.specs.Load.{stored, table_after_store, table_after_compare, loaded, table_after_load}
 use Rattle.loads.proofs.Judging.{as_stored}
 use Rattle.loads.proofs.Refused.{refused-store, refused-load}
 use Rattle.loads.proofs.Halves.{compare-after-store, store_and_compare}
 use Rattle.priorities.specs.declared.outputs.Events.{Events}
 use Rattle.priorities.specs.Switches.{muted}
-use Rattle.discharge.specs.declared.question.Discharged.TheVariants.{On}
 use Rattle.discharge.specs.Question.{discharge_refusals, discharged, outputs_after}
 use Rattle.clocking.specs.Clock.{Clock, chained_by, clocked}
 use Rattle.releasing.specs.Release.{released, table_released}
@@ -82,6 +78,8 @@ use Rattle.story.proofs.Missed.{missed_at_ports}
 use Rattle.story.proofs.Spikes.{struck_spoilt, struck_wrrr_answer, struck_refused}
 use Rattle.story.proofs.Operations.{operation_step, operation_monitors}
 use Rattle.story.proofs.Runs.{frame_step, length-replies, length-after, full, has_room, clock-whole, back_whole, clocked-step}
+use Rattle.std.specs.Prelude.{Result, Ok, Err}
+use Rattle.chain.specs.Frame.{took}
 
 -- ---- the demand. It asks for a sound table; the engines agree on any: one that is not sound is refused by both
 
@@ -99,17 +97,17 @@ pub record Demand3 : Type 0 where
       → by_frames table buffer events ≡ by_bytes table state events
   -- a load, `loads::load`, is a store and a compare: where it is done the events after it find what both leave, and where it is refused
   -- what its store leaves, which is refused by the same number
-  load-done : (table : List ℕ) (position : ℕ) (codes : List ℤ) (events : List Event) → loaded table position codes ≡ Done
+  load-done : (table : List ℕ) (position : ℕ) (codes : List ℤ) (events : List Event) → loaded table position codes ≡ (Ok tt)
       → by_rules table (Beside (Store position codes) ∷ Beside (Compare position) ∷ events)
-      ≡ saw (StoreAnswered Done) (saw (CompareAnswered Done) (by_rules (table_after_load table position codes) events))
-  load-refused : (table : List ℕ) (position : ℕ) (codes : List ℤ) (events : List Event) (r : Refusal) → loaded table position codes ≡ Unloaded r
-      → by_rules table (Beside (Store position codes) ∷ events) ≡ saw (StoreAnswered (Unloaded r)) (by_rules (table_after_load table position codes) events)
+      ≡ saw (StoreAnswered (Ok tt)) (saw (CompareAnswered (Ok tt)) (by_rules (table_after_load table position codes) events))
+  load-refused : (table : List ℕ) (position : ℕ) (codes : List ℤ) (events : List Event) (r : Refusal) → loaded table position codes ≡ Err r
+      → by_rules table (Beside (Store position codes) ∷ events) ≡ saw (StoreAnswered (Err r)) (by_rules (table_after_load table position codes) events)
   -- so through either engine, after a MUTE and without a shutdown every output of every monitor is off by row 6
   mute : (engine : Engine) (table frame : List ℕ) → Ready engine table → Passed (rule_refusals table frame) → command_in frame ≡ Bares Mute
       → (position : ℕ) (events : Events) (phase : ℕ) (out : List ℕ) → events.shutdown ≡ false
       → let after = (by engine table (Frame frame ∷ [])).table in
       Passed (discharge_refusals after position phase (length out))
-      → (discharged after position events phase (length out) ≡ On 0) × (outputs_after after position events phase out ≡ replicate cell_count 6 ++ drop cell_count out)
+      → (discharged after position events phase (length out) ≡ Ok 0) × (outputs_after after position events phase out ≡ replicate cell_count 6 ++ drop cell_count out)
   -- and after a MUTE and an UNMUTE every answer is as it was, of a monitor whose MUTE_ST was clear
   unmute : (engine : Engine) (table first second : List ℕ) → Ready engine table → Passed (rule_refusals table first) → command_in first ≡ Bares Mute
       → Passed (rule_refusals (by engine table (Frame first ∷ [])).table second) → command_in second ≡ Bares Unmute
@@ -163,19 +161,19 @@ pub record Demand3 : Type 0 where
   -- was sent, and one that was hit as it was, but for its unlock byte, which becomes 0
   spike_data : (engine : Engine) (table sent came : List ℕ) → Ready engine table → sound table ≡ true → (c : Write) → (c ≡ Wrrr → ⊥)
       → StruckData (Writes c) (monitors table) sent came
-      → ((by engine table (Frame came ∷ [])).seen ≡ Answered (Accepted (unhit_awake (Writes c) (monitors table) table sent came) 0) [] ∷ [])
+      → ((by engine table (Frame came ∷ [])).seen ≡ Answered (took (unhit_awake (Writes c) (monitors table) table sent came) 0) [] ∷ [])
       × (unhit_awake (Writes c) (monitors table) table sent came < monitors table)
       × ((k : ℕ) → k < monitors table
       → row_at record_size k (by engine table (Frame came ∷ [])).table
       ≡ cond (unhit (Writes c) (monitors table) sent came k) (row_at record_size k (by engine table (Frame sent ∷ [])).table) (on_bytes unlocked (λ i old. 0) (row_at record_size k table)))
   -- WRRR, so struck: all take it that are not in LPCM, and each keeps what the command makes of its own eight bytes as they came
   spike_wrrr : (engine : Engine) (table sent came : List ℕ) → Ready engine table → sound table ≡ true → StruckData (Writes Wrrr) (monitors table) sent came
-      → ((by engine table (Frame came ∷ [])).seen ≡ Answered (Accepted (awake_of (monitors table) table) 0) [] ∷ [])
+      → ((by engine table (Frame came ∷ [])).seen ≡ Answered (took (awake_of (monitors table) table) 0) [] ∷ [])
       × ((k : ℕ) → k < monitors table
       → row_at record_size k (by engine table (Frame came ∷ [])).table ≡ keeps (Writes Wrrr) (own_in (Writes Wrrr) (monitors table) came k) (row_at record_size k table))
   -- any frame of our host, its first four bytes struck within fifteen places in a row: refused with 3, and the events after it find the table as it was
   spike-command : (engine : Engine) (table sent came : List ℕ) (events : List Event) → Ready engine table → sound table ≡ true → (c : Command) (n : ℕ)
-      → StruckCommand c n sent came → by engine table (Frame came ∷ events) ≡ saw (Answered (Refused CommandWrong) []) (by engine table events)
+      → StruckCommand c n sent came → by engine table (Frame came ∷ events) ≡ saw (Answered (Err CommandWrong) []) (by engine table events)
   -- a missed write, through either engine: one that came with some monitors' checks wrong, and then a read that our host builds. As many take it as were not hit and are
   -- not in LPCM, and the read has what all monitors reply; against its next counter each monitor that took the write is seen right from both ports, and any other
   -- with its old counter
@@ -184,7 +182,7 @@ pub record Demand3 : Type 0 where
       → let n = monitors table in
       let after = (by engine table (Frame came ∷ [])).table in
       ((by engine table (Frame came ∷ Frame (frame_for code n []) ∷ [])).seen
-      ≡ Answered (Accepted (unhit_awake (Writes c) n table sent came) 0) [] ∷ Answered (Accepted n (payload_size * n)) (from_a part n after) ∷ [])
+      ≡ Answered (took (unhit_awake (Writes c) n table sent came) 0) [] ∷ Answered (took n (payload_size * n)) (from_a part n after) ∷ [])
       × EachSeen c part table sent came after
   -- at every byte, not only at a release, the bytes of the state stand for the windows as the rules move them
   every_byte : (table : List ℕ) (byte : ℕ) (state : List ℕ) → length state ≡ state_size
@@ -194,10 +192,10 @@ pub record Demand3 : Type 0 where
   at_byte_four : (table : List ℕ) (byte : ℕ) (c : Clock) → c.seen ≡ 3 → (clocked table byte c).chained ≡ cond (sound table) (monitors table) 0
   noted_stays : (table : List ℕ) (byte : ℕ) (c : Clock) → (c.seen ≡ 3 → ⊥) → (clocked table byte c).chained ≡ c.chained
   -- a release with a table of another N, or after one that was not sound at byte four (0 was noted), is refusal 1
-  another-n : (c : Clock) (table : List ℕ) → 4 ≤ c.seen → (c.chained ≡ monitors table → ⊥) → released c table ≡ Refused TableNotSound
+  another-n : (c : Clock) (table : List ℕ) → 4 ≤ c.seen → (c.chained ≡ monitors table → ⊥) → released c table ≡ Err TableNotSound
   -- of an accepted read all that came back after byte four is the reply, and no byte is left over
   all_is_reply : (table frame : List ℕ) (taken bytes : ℕ) (part : Part) → command_in frame ≡ Reads part
-      → released (clock_of (state_after_all table frame idle)) table ≡ Accepted taken bytes
+      → released (clock_of (state_after_all table frame idle)) table ≡ took taken bytes
       → drop 4 (came_back table frame idle) ≡ reply_data (map (reply part) (rows record_size (monitors table) table))
   -- the table that they end in is sound where the first was, and has as many monitors
   stays_sound : (table : List ℕ) (events : List Event) → sound table ≡ true → Keeps table (by_rules table events).table
@@ -246,25 +244,25 @@ bytes-by_rules table state (Beside operation ∷ events) = along-rules events (o
 -- ---- a load, by its halves
 
 module _ (table : List ℕ) (position : ℕ) (codes : List ℤ) (events : List Event) where
-  halves_by_rules : loaded table position codes ≡ Done
+  halves_by_rules : loaded table position codes ≡ (Ok tt)
       → by_rules table (Beside (Store position codes) ∷ Beside (Compare position) ∷ events)
-      ≡ saw (StoreAnswered Done) (saw (CompareAnswered Done) (by_rules (table_after_load table position codes) events))
+      ≡ saw (StoreAnswered (Ok tt)) (saw (CompareAnswered (Ok tt)) (by_rules (table_after_load table position codes) events))
   unfolding by_rules promised
   halves_by_rules e =
       let done = sym (as_stored table position codes) ∙ e in
       let after = table_after_store table position codes in
       sym (along-rules (Beside (Compare position) ∷ events) (operation_step table (Store position codes)) refl)
       ∙ ap (saw (StoreAnswered (stored table position codes))) (sym (along-rules events (operation_step after (Compare position)) refl))
-      ∙ ap₂ (λ (a b : Loaded). saw (StoreAnswered a) (saw (CompareAnswered b) (by_rules (table_after_compare after position) events))) done (compare-after-store table position codes done)
-      ∙ ap (λ (t : List ℕ). saw (StoreAnswered Done) (saw (CompareAnswered Done) (by_rules t events))) (store_and_compare table position codes done)
+      ∙ ap₂ (λ (a b : Result (Unit {0}) Refusal). saw (StoreAnswered a) (saw (CompareAnswered b) (by_rules (table_after_compare after position) events))) done (compare-after-store table position codes done)
+      ∙ ap (λ (t : List ℕ). saw (StoreAnswered (Ok tt)) (saw (CompareAnswered (Ok tt)) (by_rules t events))) (store_and_compare table position codes done)
 
-  refused-by_rules : (r : Refusal) → loaded table position codes ≡ Unloaded r
-      → by_rules table (Beside (Store position codes) ∷ events) ≡ saw (StoreAnswered (Unloaded r)) (by_rules (table_after_load table position codes) events)
+  refused-by_rules : (r : Refusal) → loaded table position codes ≡ Err r
+      → by_rules table (Beside (Store position codes) ∷ events) ≡ saw (StoreAnswered (Err r)) (by_rules (table_after_load table position codes) events)
   unfolding by_rules promised
   refused-by_rules r e =
       let refused = sym (as_stored table position codes) ∙ e in
       sym (along-rules events (operation_step table (Store position codes)) refl)
-      ∙ ap₂ (λ (a : Loaded) (t : List ℕ). saw (StoreAnswered a) (by_rules t events)) refused
+      ∙ ap₂ (λ (a : Result (Unit {0}) Refusal) (t : List ℕ). saw (StoreAnswered a) (by_rules t events)) refused
       (refused-store table position codes r refused ∙ sym (refused-load table position codes r e))
 
 -- ---- MUTE and UNMUTE, by either engine
@@ -288,12 +286,12 @@ module _ (engine : Engine) (table frame : List ℕ) (ready : Ready engine table)
   mute_by : Passed (rule_refusals table frame) → command_in frame ≡ Bares Mute → (position : ℕ) (events : Events) (phase : ℕ) (out : List ℕ) → events.shutdown ≡ false
       → let after = (by engine table (Frame frame ∷ [])).table in
       Passed (discharge_refusals after position phase (length out))
-      → (discharged after position events phase (length out) ≡ On 0) × (outputs_after after position events phase out ≡ replicate cell_count 6 ++ drop cell_count out)
+      → (discharged after position events phase (length out) ≡ Ok 0) × (outputs_after after position events phase out ≡ replicate cell_count 6 ++ drop cell_count out)
   mute_by passed its position events phase out up =
       subst⁻¹
       (λ (t : List ℕ).
       Passed (discharge_refusals t position phase (length out))
-      → (discharged t position events phase (length out) ≡ On 0) × (outputs_after t position events phase out ≡ replicate cell_count 6 ++ drop cell_count out))
+      → (discharged t position events phase (length out) ≡ Ok 0) × (outputs_after t position events phase out ≡ replicate cell_count 6 ++ drop cell_count out))
       one_frame (mute_answers table frame (length (full table)) (bare_passes table frame Mute its passed (length (full table))) its position events phase out up)
 
   unmute_by : (second : List ℕ) → Passed (rule_refusals table frame) → command_in frame ≡ Bares Mute
@@ -358,37 +356,37 @@ module _ (engine : Engine) (table frame : List ℕ) (ready : Ready engine table)
 -- ---- a spike on the wire, by either engine
 
 -- what a frame shows that has no reply
-seen_none : (table frame : List ℕ) {taken : ℕ} → answer table frame (length (full table)) ≡ Accepted taken 0
-    → (by_rules table (Frame frame ∷ [])).seen ≡ Answered (Accepted taken 0) [] ∷ []
+seen_none : (table frame : List ℕ) {taken : ℕ} → answer table frame (length (full table)) ≡ took taken 0
+    → (by_rules table (Frame frame ∷ [])).seen ≡ Answered (took taken 0) [] ∷ []
 unfolding by_rules
 seen_none table frame e =
     ap (λ (step : Step). step.seen ∷ []) (sym (frame_step table frame (full table) (has_room table)))
-    ∙ ap (λ (a : Answer). Answered a (take (reply_bytes a) (reply_after table frame (full table))) ∷ []) e
+    ∙ ap (λ (a : Result Answer Refusal). Answered a (take (reply_bytes a) (reply_after table frame (full table))) ∷ []) e
 
 -- a read that our host builds shows what all monitors reply
 seen_read : (table : List ℕ) (code : ℕ) (part : Part) → command_of code commands ≡ Reads part → sound table ≡ true
-    → (by_rules table (Frame (frame_for code (monitors table) []) ∷ [])).seen ≡ Answered (Accepted (monitors table) (payload_size * monitors table)) (from_a part (monitors table) table) ∷ []
+    → (by_rules table (Frame (frame_for code (monitors table) []) ∷ [])).seen ≡ Answered (took (monitors table) (payload_size * monitors table)) (from_a part (monitors table) table) ∷ []
 unfolding by_rules
 seen_read table code part its s =
     let n = monitors table in
     let read = frame_for code n [] in
     ap (λ (step : Step). step.seen ∷ []) (sym (frame_step table read (full table) (has_room table)))
-    ∙ ap₂ (λ (a : Answer) (reply : List ℕ). Answered a (take (reply_bytes a) reply) ∷ []) (read_taken_by-all table (full table) code part its s (has_room table))
+    ∙ ap₂ (λ (a : Result Answer Refusal) (reply : List ℕ). Answered a (take (reply_bytes a) reply) ∷ []) (read_taken_by-all table (full table) code part its s (has_room table))
     (the_replies table (full table) code part its s (length-replicate {A = ℕ} (payload_size * n) 0))
-    ∙ ap (λ (reply : List ℕ). Answered (Accepted n (payload_size * n)) reply ∷ []) (take_all (payload_size * n) (from_a part n table) (omega (arith, length-replies part n table)))
+    ∙ ap (λ (reply : List ℕ). Answered (took n (payload_size * n)) reply ∷ []) (take_all (payload_size * n) (from_a part n table) (omega (arith, length-replies part n table)))
 
 -- one that is refused shows that, and the events after it find the table as it was
-seen-refused : (table frame : List ℕ) (events : List Event) {r : Refusal} → answer table frame (length (full table)) ≡ Refused r
-    → by_rules table (Frame frame ∷ events) ≡ saw (Answered (Refused r) []) (by_rules table events)
+seen-refused : (table frame : List ℕ) (events : List Event) {r : Refusal} → answer table frame (length (full table)) ≡ Err r
+    → by_rules table (Frame frame ∷ events) ≡ saw (Answered (Err r) []) (by_rules table events)
 unfolding by_rules
 seen-refused table frame events {r} e =
     ap (λ (step : Step). saw step.seen (by_rules step.table events)) (sym (frame_step table frame (full table) (has_room table)))
-    ∙ ap₂ (λ (a : Answer) (t : List ℕ). saw (Answered a (take (reply_bytes a) (reply_after table frame (full table)))) (by_rules t events)) e
+    ∙ ap₂ (λ (a : Result Answer Refusal) (t : List ℕ). saw (Answered a (take (reply_bytes a) (reply_after table frame (full table)))) (by_rules t events)) e
     (refused-table table frame (length (full table)) r e)
 
 module _ (engine : Engine) (table : List ℕ) (ready : Ready engine table) (s : sound table ≡ true) {sent came : List ℕ} where
   spike-by : (c : Write) → (c ≡ Wrrr → ⊥) → StruckData (Writes c) (monitors table) sent came
-      → ((by engine table (Frame came ∷ [])).seen ≡ Answered (Accepted (unhit_awake (Writes c) (monitors table) table sent came) 0) [] ∷ [])
+      → ((by engine table (Frame came ∷ [])).seen ≡ Answered (took (unhit_awake (Writes c) (monitors table) table sent came) 0) [] ∷ [])
       × (unhit_awake (Writes c) (monitors table) table sent came < monitors table)
       × ((k : ℕ) → k < monitors table
       → row_at record_size k (by engine table (Frame came ∷ [])).table
@@ -414,14 +412,14 @@ module _ (engine : Engine) (table : List ℕ) (ready : Ready engine table) (s : 
       → let n = monitors table in
       let after = (by engine table (Frame came ∷ [])).table in
       ((by engine table (Frame came ∷ Frame (frame_for code n []) ∷ [])).seen
-      ≡ Answered (Accepted (unhit_awake (Writes c) n table sent came) 0) [] ∷ Answered (Accepted n (payload_size * n)) (from_a part n after) ∷ [])
+      ≡ Answered (took (unhit_awake (Writes c) n table sent came) 0) [] ∷ Answered (took n (payload_size * n)) (from_a part n after) ∷ [])
       × EachSeen c part table sent came after
   unfolding by_rules
   missed_by c other spoilt code part its = (
     ap (λ (left : Left). left.seen) (either-by_rules engine table (Frame came ∷ Frame read ∷ []) ready)
         ∙ ap (λ (step : Step). step.seen ∷ (by_rules step.table (Frame read ∷ [])).seen) (sym (frame_step table came (full table) (has_room table)))
-        ∙ ap (λ (a : Answer). Answered a (take (reply_bytes a) (reply_after table came (full table))) ∷ (by_rules left (Frame read ∷ [])).seen) (struck_answer table s c spoilt other room)
-        ∙ ap (λ (rest : List Seen). Answered (Accepted (unhit_awake (Writes c) n table sent came) 0) [] ∷ rest) read_left,
+        ∙ ap (λ (a : Result Answer Refusal). Answered a (take (reply_bytes a) (reply_after table came (full table))) ∷ (by_rules left (Frame read ∷ [])).seen) (struck_answer table s c spoilt other room)
+        ∙ ap (λ (rest : List Seen). Answered (took (unhit_awake (Writes c) n table sent came) 0) [] ∷ rest) read_left,
     subst⁻¹ (EachSeen c part table sent came) there (missed_at_ports table s c spoilt room other part),
   )
     where
@@ -443,18 +441,18 @@ module _ (engine : Engine) (table : List ℕ) (ready : Ready engine table) (s : 
       as_many : monitors left ≡ n
       as_many = monitors-after-frame table came room s
 
-      read_left : (by_rules left (Frame read ∷ [])).seen ≡ Answered (Accepted n (payload_size * n)) (from_a part n (by engine table (Frame came ∷ [])).table) ∷ []
+      read_left : (by_rules left (Frame read ∷ [])).seen ≡ Answered (took n (payload_size * n)) (from_a part n (by engine table (Frame came ∷ [])).table) ∷ []
       read_left =
           ap (λ (m : ℕ). (by_rules left (Frame (frame_for code m []) ∷ [])).seen) (sym as_many)
           ∙ seen_read left code part its (sound-after-frame table came room s)
-          ∙ ap₂ (λ (m : ℕ) (t : List ℕ). Answered (Accepted m (payload_size * m)) (from_a part m t) ∷ []) as_many (sym there)
+          ∙ ap₂ (λ (m : ℕ) (t : List ℕ). Answered (took m (payload_size * m)) (from_a part m t) ∷ []) as_many (sym there)
 
   refused-by : (c : Command) (n : ℕ) → StruckCommand c n sent came → (events : List Event)
-      → by engine table (Frame came ∷ events) ≡ saw (Answered (Refused CommandWrong) []) (by engine table events)
+      → by engine table (Frame came ∷ events) ≡ saw (Answered (Err CommandWrong) []) (by engine table events)
   refused-by c n struck events =
       either-by_rules engine table (Frame came ∷ events) ready
       ∙ seen-refused table came events (struck_refused struck table (full table) s).0
-      ∙ ap (saw (Answered (Refused CommandWrong) [])) (sym (either-by_rules engine table events ready))
+      ∙ ap (saw (Answered (Err CommandWrong) [])) (sym (either-by_rules engine table events ready))
 
 pub demand_3 : Demand3
 unfolding chained_by locked

@@ -23,7 +23,6 @@ use Rattle.records.specs.Record.{configuration_a, configuration_b, counter, reco
 use Rattle.monitor.specs.Effects.{locked, next_count, counted, done, keeps}
 use Rattle.reads.specs.Shown.{shown_part}
 use Rattle.reads.specs.Reply.{six_bytes, register, reply}
-use Rattle.chain.specs.declared.frames.Answer.TheVariants.{Refused, Accepted}
 use Rattle.judging.specs.Table.{monitors, sound}
 use Rattle.judging.specs.Refusals.{command_in}
 use Rattle.serving.specs.Served.{taken_by}
@@ -31,6 +30,8 @@ use Rattle.chain.specs.Frame.{frame_refusals, answer}
 use Rattle.thresholds.specs.Thresholds.{signed, lower, upper, vuv, vov, codes_of}
 use Rattle.cells.specs.Cells.{flags_for}
 use Rattle.readings.specs.Readings.{microvolts}
+use Rattle.std.specs.Prelude.{Err}
+use Rattle.chain.specs.Frame.{took}
 
 -- a record of zeros but for some bytes at the start of a part
 abbrev pub with : Part → List ℕ → List ℕ
@@ -40,22 +41,22 @@ with p bytes = take record_size (replicate p.at 0 ++ bytes ++ replicate record_s
 abbrev pub wrong_check : List ℕ
 wrong_check = 0x00 ∷ 0x02 ∷ 0x2B ∷ 0x0B ∷ []
 
-check_refused : (table : List ℕ) (room : ℕ) → sound table ≡ true → answer table wrong_check room ≡ Refused CommandWrong
+check_refused : (table : List ℕ) (room : ℕ) → sound table ≡ true → answer table wrong_check room ≡ Err CommandWrong
 unfolding answer frame_refusals decide command_right word_at pec15 once step remainder bits_of bits_of_bytes ◌⊕◌ xor odd
-check_refused table room s = ap (λ (b : Bool). cond (not b) (Refused TableNotSound) (Refused CommandWrong)) s
+check_refused table room s = ap (λ (b : Bool). cond (not b) (Err TableNotSound) (Err CommandWrong)) s
 
 -- one monitor, and a write that has no payload
 abbrev pub no_payload : List ℕ
 no_payload = 0x00 ∷ 0x01 ∷ 0x3D ∷ 0x6E ∷ []
 
-length-refused : (table : List ℕ) (room : ℕ) → sound table ≡ true → monitors table ≡ 1 → answer table no_payload room ≡ Refused LengthWrong
+length-refused : (table : List ℕ) (room : ℕ) → sound table ≡ true → monitors table ≡ 1 → answer table no_payload room ≡ Err LengthWrong
 unfolding answer frame_refusals decide command_right command_in command_of commands word_at pec15 once step remainder bits_of bits_of_bytes ◌⊕◌ xor odd
 length-refused table room s one =
     ap₂ (λ (b : Bool) (n : ℕ).
     decide
     ((not b gives TableNotSound) ∷ (not (eqb 4 (frame_length (Writes Wrcfga) n)) gives LengthWrong) ∷ (ltb room 0 gives NoRoom) ∷ [])
-    Refused
-    (Accepted (taken_by (Writes Wrcfga) n table no_payload) 0)) s one
+    Err
+    (took (taken_by (Writes Wrcfga) n table no_payload) 0)) s one
 
 pub record EitherSide : Type 0 where
   -- 1 and 2: what is sent after a command code
@@ -69,8 +70,8 @@ pub record EitherSide : Type 0 where
   -- 7: the reply for six zero bytes and the counter 0
   reply_of_zeros : reply configuration_a (replicate record_size 0) ≡ 0 ∷ 0 ∷ 0 ∷ 0 ∷ 0 ∷ 0 ∷ 0x03 ∷ 0xE3 ∷ []
   -- 8 and 9: refusals
-  check_is_refused : (table : List ℕ) (room : ℕ) → sound table ≡ true → answer table wrong_check room ≡ Refused CommandWrong
-  length_is_refused : (table : List ℕ) (room : ℕ) → sound table ≡ true → monitors table ≡ 1 → answer table no_payload room ≡ Refused LengthWrong
+  check_is_refused : (table : List ℕ) (room : ℕ) → sound table ≡ true → answer table wrong_check room ≡ Err CommandWrong
+  length_is_refused : (table : List ℕ) (room : ℕ) → sound table ≡ true → monitors table ≡ 1 → answer table no_payload room ≡ Err LengthWrong
   -- 10: configuration B's thresholds
   lowest_step : vuv (with configuration_b (0x00 ∷ 0x48 ∷ 0x06 ∷ [])) ≡ record { 0 = negsuc 2047 }
   hundred_steps : vov (with configuration_b (0x00 ∷ 0x48 ∷ 0x06 ∷ [])) ≡ record { 0 = pos 100 }

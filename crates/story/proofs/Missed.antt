@@ -12,6 +12,7 @@ use native.Mathlib.Omega.{arith}
 use lib.Dec.{eqb, leb}
 use lib.ListN.{length}
 use borrow.Author.Tests.{eq-eqb, ne_eqb, leb-true}
+use Rattle.ports.specs.declared.checks.Checked.{Checked}
 use Rattle.laws.specs.Rows.{rows, row_at}
 use Rattle.laws.proofs.Counts.{and_true, all_fails}
 use Rattle.laws.proofs.Rows.{length-rows, row-at}
@@ -33,7 +34,6 @@ use Rattle.judging.proofs.Keeps.{Keeps}
 use Rattle.judging.proofs.Lent.{lent_length}
 use Rattle.judging.proofs.Soundness.{is_sound}
 use Rattle.serving.specs.Served.{Awake}
-use Rattle.chain.specs.declared.frames.Answer.TheVariants.{Refused}
 use Rattle.chain.specs.Frame.{answer, table_after, reply_after}
 use Rattle.chain.proofs.FrameKeeps.{frame-keeps}
 use Rattle.chain.proofs.Refused.{refused-table}
@@ -48,6 +48,7 @@ use Rattle.story.proofs.OurHost.{each-reply-its-own}
 use Rattle.story.proofs.BothEnds.{reply-is_right, reply-verdict, reply-same, reply_differs, seen, the_replies}
 use Rattle.story.proofs.Spoilt.{came-none, came-its, right-unhit, struck_kept, all-unhit}
 use Rattle.story.proofs.Counted.{next-apart, counter-kept}
+use Rattle.std.specs.Prelude.{Err, Ok, Result}
 
 -- ---- a sound table's counters
 
@@ -88,19 +89,19 @@ module _ {table after : List ℕ} (kept : Keeps table after) (k : ℕ) (h : k < 
         by true = eq-eqb (next_count old) (next_count old) refl
         by false = ne_eqb old (next_count old) (λ e. next-apart old (sym e))
 
-    reply_shows : (part : Part) → checked (reply part (row_at record_size k after)) (next_count old) ≡ cond took Right (CounterDiffers old)
+    reply_shows : (part : Part) → checked (reply part (row_at record_size k after)) (next_count old) ≡ Ok (cond took Right (CounterDiffers old))
     reply_shows part =
         reply-verdict part (row_at record_size k after) (next_count old) (next_fine old) fine_after
-        ∙ ap₂ (λ (same : Bool) (c : ℕ). cond same Right (CounterDiffers c)) next-told counts
+        ∙ ap₂ (λ (same : Bool) (c : ℕ). Ok (cond same Right (CounterDiffers c))) next-told counts
         ∙ by took
       where
-        by : (b : Bool) → cond b Right (CounterDiffers (cond b (next_count old) old)) ≡ cond b Right (CounterDiffers old)
+        by : (b : Bool) → ◌≡◌ {A = Result Checked Refusal} (Ok (cond b Right (CounterDiffers (cond b (next_count old) old)))) (Ok (cond b Right (CounterDiffers old)))
         by true = refl
         by false = refl
 
     -- in the chain's reply
     pub read_shows : (part : Part) (code : ℕ) (buffer : List ℕ) → command_of code commands ≡ Reads part → payload_size * monitors table ≤ length buffer
-        → checked (row_at payload_size k (reply_after after (frame_for code (monitors table) []) buffer)) (next_count old) ≡ cond took Right (CounterDiffers old)
+        → checked (row_at payload_size k (reply_after after (frame_for code (monitors table) []) buffer)) (next_count old) ≡ Ok (cond took Right (CounterDiffers old))
     read_shows part code buffer its enough =
         let there = each-reply-its-own after buffer code part its kept.sound-after (subst⁻¹ (λ (n : ℕ). payload_size * n ≤ length buffer) kept.monitors-after enough) k h_after in
         ap (λ (n : ℕ). checked (row_at payload_size k (reply_after after (frame_for code n []) buffer)) (next_count old)) (sym kept.monitors-after)
@@ -179,7 +180,7 @@ module _ (table : List ℕ) (s : sound table ≡ true) (w : Write) {sent came : 
 
     -- in any chain, against each monitor's next counter
     pub missed_in_reply : (part : Part) (code : ℕ) (buffer : List ℕ) → command_of code commands ≡ Reads part → payload_size * n ≤ length buffer → (k : ℕ) → k < n
-        → checked (row_at payload_size k (read_after table came room code buffer)) (next_count (byte_of counter (row k))) ≡ cond (takes k) Right (CounterDiffers (byte_of counter (row k)))
+        → checked (row_at payload_size k (read_after table came room code buffer)) (next_count (byte_of counter (row k))) ≡ Ok (cond (takes k) Right (CounterDiffers (byte_of counter (row k))))
     missed_in_reply part code buffer its enough k h = read_shows kept-after k h (takes k) (counter-after k h) part code buffer its enough
 
     pub missed_at_ports : (part : Part) (k : ℕ) → 1 ≤ k → k ≤ n
@@ -222,19 +223,19 @@ module _ (table : List ℕ) (s : sound table ≡ true) {sent came : List ℕ} (s
 
   pub wrrr_unseen : in_lpcm (row_at record_size k table) ≡ false → (part : Part) (code : ℕ) (buffer : List ℕ) → command_of code commands ≡ Reads part
       → payload_size * monitors table ≤ length buffer
-      → checked (row_at payload_size k (read_after table came room code buffer)) (next_count (byte_of counter (row_at record_size k table))) ≡ Right
+      → checked (row_at payload_size k (read_after table came room code buffer)) (next_count (byte_of counter (row_at record_size k table))) ≡ Ok Right
   wrrr_unseen awake part code buffer its enough =
       read_shows (frame-keeps table came room s) k h true (counter-by table s Wrrr spoilt room k h (accepts_any ∙ ap not awake)) part code buffer its enough
 
 -- ---- a frame that the chain refuses
 
-module _ (table frame : List ℕ) (room : ℕ) (s : sound table ≡ true) (r : Refusal) (refused : answer table frame room ≡ Refused r) where
+module _ (table frame : List ℕ) (room : ℕ) (s : sound table ≡ true) (r : Refusal) (refused : answer table frame room ≡ Err r) where
   same-counter : (k : ℕ) → byte_of counter (row_at record_size k (table_after table frame room)) ≡ byte_of counter (row_at record_size k table)
   same-counter k = ap (λ (t : List ℕ). byte_of counter (row_at record_size k t)) (refused-table table frame room r refused)
 
   pub refused_in_reply : (part : Part) (code : ℕ) (buffer : List ℕ) → command_of code commands ≡ Reads part → payload_size * monitors table ≤ length buffer
       → (k : ℕ) → k < monitors table
-      → checked (row_at payload_size k (read_after table frame room code buffer)) (next_count (byte_of counter (row_at record_size k table))) ≡ CounterDiffers (byte_of counter (row_at record_size k table))
+      → checked (row_at payload_size k (read_after table frame room code buffer)) (next_count (byte_of counter (row_at record_size k table))) ≡ Ok (CounterDiffers (byte_of counter (row_at record_size k table)))
   refused_in_reply part code buffer its enough k h = read_shows (frame-keeps table frame room s) k h false (same-counter k) part code buffer its enough
 
   pub refused-seen : (part : Part) (k : ℕ) → 1 ≤ k → k ≤ monitors table
@@ -259,11 +260,11 @@ module _ (table buffer : List ℕ) (code : ℕ) (part : Part) (its : command_of 
   its_own : part_of_it ≡ reply part (row_at record_size k table)
   its_own = each-reply-its-own table buffer code part its s enough k h
 
-  pub own-counter-right : checked part_of_it (byte_of counter (row_at record_size k table)) ≡ Right
+  pub own-counter-right : checked part_of_it (byte_of counter (row_at record_size k table)) ≡ Ok Right
   own-counter-right =
       ap (λ (eight : List ℕ). checked eight (byte_of counter (row_at record_size k table))) its_own ∙ reply-same part (row_at record_size k table) (counter_fine table s k h)
 
   pub other_counter_differs : (expected : ℕ) → expected ≤ most_count → (expected ≡ byte_of counter (row_at record_size k table) → ⊥)
-      → checked part_of_it expected ≡ CounterDiffers (byte_of counter (row_at record_size k table))
+      → checked part_of_it expected ≡ Ok (CounterDiffers (byte_of counter (row_at record_size k table)))
   other_counter_differs expected small apart =
       ap (λ (eight : List ℕ). checked eight expected) its_own ∙ reply_differs part (row_at record_size k table) expected small (counter_fine table s k h) apart

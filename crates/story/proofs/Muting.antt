@@ -40,9 +40,9 @@ use Rattle.priorities.specs.Outputs.{shown, the_cells, outputs, count_on}
 use Rattle.priorities.proofs.Rows.{past_7, by_6}
 use Rattle.priorities.proofs.Deciding.{by_switches}
 use Rattle.priorities.proofs.Shown.{mute_none}
-use Rattle.discharge.specs.declared.question.Discharged.TheVariants.{Refused as Unasked, On}
 use Rattle.discharge.specs.Question.{phase_row, out_row, discharge_refusals, discharged, outputs_after}
 use Rattle.story.proofs.Accepted.{frame-sound, kept_table, own_at, kept_at, discharge_answer}
+use Rattle.std.specs.Prelude.{Ok, Err}
 
 -- ---- one monitor
 
@@ -129,7 +129,7 @@ module _ (table : List ℕ) (position phase room : ℕ) (none : Passed (discharg
 pub mute_answers : (table frame : List ℕ) (room : ℕ) → Passed (frame_refusals table frame room) → command_in frame ≡ Bares Mute
     → (position : ℕ) (events : Events) (phase : ℕ) (out : List ℕ) → events.shutdown ≡ false
     → Passed (discharge_refusals (table_after table frame room) position phase (length out))
-    → (discharged (table_after table frame room) position events phase (length out) ≡ On 0)
+    → (discharged (table_after table frame room) position events phase (length out) ≡ Ok 0)
     × (outputs_after (table_after table frame room) position events phase out ≡ replicate cell_count 6 ++ drop cell_count out)
 mute_answers table frame room passed its position events phase out up none =
     let after = table_after table frame room in
@@ -139,7 +139,7 @@ mute_answers table frame room passed its position events phase out up none =
     ap muted (kept_at table frame room passed its k (there table position own))
     ∙ muted-by_mute (own_at table frame room passed (Bares Mute) k) (row_at record_size k table) (lent_length k table (fits table position own)) in
     let told = discharge_answer after position events phase out none in (
-      told.0 ∙ ap On (mute_none events phase (row_at record_size k after) is-muted),
+      told.0 ∙ ap Ok (mute_none events phase (row_at record_size k after) is-muted),
       told.1 ∙ ap (λ (bytes : List ℕ). bytes ++ drop cell_count out) (all-six events phase (row_at record_size k after) up is-muted),
     )
 
@@ -210,9 +210,9 @@ module _ (table mute unmute : List ℕ) (room other : ℕ) (first : Passed (fram
       let own : Passed rows → Place table position = its_place table position phase (length out) in
       let now = row_at record_size (position - 1) after in
       let start = row_at record_size (position - 1) table in (
-        ap (λ (rs : List Row). decide rs Unasked (On (count_on events phase now))) judged
-            ∙ passed_agree rows Unasked (On (count_on events phase now)) (On (count_on events phase start))
-            (λ none. ap On (same_count events phase now start (same_mute position was (own none)) (both_alike position was (own none)))),
+        ap (λ (rs : List Row). decide rs Err (Ok (count_on events phase now))) judged
+            ∙ passed_agree rows Err (Ok (count_on events phase now)) (Ok (count_on events phase start))
+            (λ none. ap Ok (same_count events phase now start (same_mute position was (own none)) (both_alike position was (own none)))),
         ap (λ (rs : List Row). decide rs (λ r. out) (outputs events phase now ++ drop cell_count out)) judged
             ∙ passed_agree rows (λ r. out) (outputs events phase now ++ drop cell_count out) (outputs events phase start ++ drop cell_count out)
             (λ none.

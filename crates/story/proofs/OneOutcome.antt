@@ -37,6 +37,8 @@ use Rattle.reads.proofs as reads
 use Rattle.monitor.proofs as monitor
 use Rattle.acting.proofs as acting
 use Rattle.judging.specs.Table.{monitors, whole_table, sound}
+use Rattle.judging.specs.Table.{ends, place_at}
+use Rattle.judging.proofs.Lies.{place_told}
 use Rattle.judging.specs.Refusals.{command_in}
 use Rattle.replying.specs.Replied.{replied, replies_fit, replies_into}
 use Rattle.chain.specs.Frame.{answer, table_after, reply_after}
@@ -49,7 +51,6 @@ use Rattle.thresholds.proofs as thresholds
 use Rattle.cells.proofs as cells
 use Rattle.measuring.specs.Measuring.{measured, passes}
 use Rattle.measuring.proofs as measuring
-use Rattle.heartbeats.specs.declared.steps.Beat.TheVariants.{Silent}
 use Rattle.heartbeats.specs.Steps.{is_timeout, towards_a, woken, wakes, reached, answers, late}
 use Rattle.heartbeats.proofs as heartbeats
 use Rattle.passing.specs.Operations.{woken_at, table_after_wake, out_after_wake, relayed_at, table_after_relay, out_after_relay, beaten, table_after_beat, out_after_beat, timed_out, table_after_time_out}
@@ -68,7 +69,7 @@ use Rattle.clocking.specs.Clock.{answered}
 use Rattle.releasing.specs.Release.{released, table_released}
 use Rattle.releasing.specs.Judged.{judged}
 use Rattle.releasing.specs.Look.{looked, out_after}
-use Rattle.clock_state.specs.State.{idle, seen_in, kind_in, chained_in}
+use Rattle.clock_state.specs.State.{idle, seen_in, kind_byte, kind_in, chained_in}
 use Rattle.clocking.specs.Bytes.{clock_of, state_after}
 use Rattle.clock_state.proofs as clock_state
 use Rattle.clocking.proofs as clocking
@@ -85,6 +86,7 @@ use Rattle.messages.specs.Verdicts.{verdict}
 use Rattle.messages.proofs as messages
 use Rattle.readings.specs.Readings.{microvolts, reading_of, summary_of}
 use Rattle.readings.proofs as readings
+use Rattle.std.specs.Prelude.{None}
 
 -- ---- what is shown of each
 
@@ -178,9 +180,9 @@ pub record OneOutcome : Type 0 where
   measure : Settles measuring.measure.Reads.Post (λ κ z e. leaves z (e.0.now ∷ []))
       (λ κ a. leaves (is_record a.0.now && passes a.0.now) (cond (is_record a.0.now) (measured a.0.now) a.0.now ∷ []))
   wake : Settles heartbeats.wake.Reads.Post (λ κ z e. leaves z (e.0.now ∷ []))
-      (λ κ a. leaves (cond (is_record a.0.now) (wakes a.0.now) Silent) (cond (is_record a.0.now) (woken a.0.now) a.0.now ∷ []))
+      (λ κ a. leaves (cond (is_record a.0.now) (wakes a.0.now) None) (cond (is_record a.0.now) (woken a.0.now) a.0.now ∷ []))
   reach : Settles heartbeats.reach.Reads.Post (λ κ z e. leaves z (e.0.now ∷ []))
-      (λ κ a. leaves (cond (is_record a.0.now) (answers a.1.0.now a.0.now) Silent) (cond (is_record a.0.now) (reached a.1.0.now a.0.now) a.0.now ∷ []))
+      (λ κ a. leaves (cond (is_record a.0.now) (answers a.1.0.now a.0.now) None) (cond (is_record a.0.now) (reached a.1.0.now a.0.now) a.0.now ∷ []))
   run_out : Settles heartbeats.run_out.Reads.Post (λ κ z e. leaves z (e.0.now ∷ []))
       (λ κ a. leaves (is_record a.0.now && is_timeout a.0.now) (cond (is_record a.0.now) (late a.0.now) a.0.now ∷ []))
   is_towards_a : Settles heartbeats.is_towards_a.Reads.Post (λ κ z e. leaves z []) (λ κ a. leaves (towards_a a.0.now) [])
@@ -188,6 +190,7 @@ pub record OneOutcome : Type 0 where
   sound-table : Settles judging.sound.Reads.Post (λ κ z e. leaves z []) (λ κ a. leaves (sound a.0.now) [])
   sound-count : Settles judging.sound_count.Reads.Post (λ κ z e. leaves z []) (λ κ a. leaves (cond (sound a.0.now) (monitors a.0.now) 0) [])
   whole-table : Settles judging.whole_table.Reads.Post (λ κ z e. leaves z []) (λ κ a. leaves (whole_table a.1.0 a.0.now) [])
+  record_at : Settles judging.record_at.Reads.Post (λ κ z e. leaves (ends z) []) (λ κ a. leaves (place_at a.1.0 a.0.now) [])
   command-in : Settles judging.command_in.Reads.Post (λ κ z e. leaves z []) (λ κ a. leaves (command_in a.0.now) [])
   judge_head : Settles judging.judge_head.Reads.Post (λ κ z e. leaves z []) (λ κ a. leaves (head_judged a.0.now a.1.0 a.1.1.0) [])
   numbers-of : Settles chain.numbers_of.Reads.Post (λ κ z e. leaves z []) (λ κ a. leaves (numbers_of a.0) [])
@@ -237,6 +240,7 @@ pub record OneOutcome : Type 0 where
   -- the clocked engine
   start : Settles clock_state.start.Reads.Post (λ κ z e. leaves z (e.0.now ∷ [])) (λ κ a. leaves tt (idle ∷ []))
   seen-in : Settles clock_state.seen_in.Reads.Post (λ κ z e. leaves z []) (λ κ a. leaves (seen_in a.0.now) [])
+  kind-byte : Settles clock_state.byte_of.Reads.Post (λ κ z e. leaves z []) (λ κ a. leaves (kind_byte a.0) [])
   kind-in : Settles clock_state.kind_in.Reads.Post (λ κ z e. leaves z []) (λ κ a. leaves (kind_in a.0.now) [])
   chained-in : Settles clock_state.chained_in.Reads.Post (λ κ z e. leaves z []) (λ κ a. leaves (chained_in a.0.now) [])
   clock : Settles clocking.clock.Reads.Post (λ κ z e. leaves z (e.0.now ∷ []))
@@ -318,6 +322,7 @@ one_outcomes =
       sound-table = settles (λ κ a z e p i. leaves (p i) []);
       sound-count = settles (λ κ a z e p i. leaves (p i) []);
       whole-table = settles (λ κ a z e p i. leaves (p i) []);
+      record_at = settles (λ κ a z e p i. leaves (place_told a.1.0 a.0.now z p i) []);
       command-in = settles (λ κ a z e p i. leaves (p i) []);
       judge_head = settles (λ κ a z e p i. leaves (p i) []);
       numbers-of = settles (λ κ a z e p i. leaves (p i) []);
@@ -347,6 +352,7 @@ one_outcomes =
       discharge_outputs = settles (λ κ a z e p i. leaves (p.0 i) (p.1 i ∷ []));
       start = settles (λ κ a z e p i. leaves z (p i ∷ []));
       seen-in = settles (λ κ a z e p i. leaves (p.0 i) []);
+      kind-byte = settles (λ κ a z e p i. leaves (p i) []);
       kind-in = settles (λ κ a z e p i. leaves (p i) []);
       chained-in = settles (λ κ a z e p i. leaves (p.0 i) []);
       clock = settles (λ κ a z e p i. leaves (p.0 i) (p.1.1 i ∷ []));

@@ -15,16 +15,13 @@ use Rattle.judging.specs.Places.{place_refusals}
 use Rattle.refusals.proofs.Decided.{by-passing}
 use Rattle.judging.proofs.Keeps.{Keeps, stays}
 use Rattle.judging.proofs.Place.{Place, place, there}
-use Rattle.loads.specs.declared.loads.Loaded.TheVariants.{Unloaded}
 use Rattle.loads.specs.Load.{store_refusals, stored, table_after_store, compare_refusals, compared, table_after_compare}
 use Rattle.loads.proofs.Keeps.{store_keeps, compare-keeps}
 use Rattle.messages.specs.Messages.{message_size}
-use Rattle.passing.specs.declared.operations.Sent.TheVariants.{Unsent}
-use Rattle.passing.specs.declared.operations.Relayed.TheVariants.{Unrelayed}
-use Rattle.passing.specs.declared.operations.TimedOut.TheVariants.{Untimed}
 use Rattle.passing.specs.Operations.{wake_refusals, woken_at, table_after_wake, out_after_wake, relay_refusals, relayed_at, table_after_relay, out_after_relay, beaten, table_after_beat, out_after_beat, time_out_refusals, timed_out, table_after_time_out}
 use Rattle.passing.proofs.Silent.{wake_keeps, hop_keeps, beat_keeps, late-keeps}
 use Rattle.story.specs.Runs.{Operation, Store, Compare, Wake, Relay, Heartbeat, TimeOut, Beside, Seen, StoreAnswered, CompareAnswered, WakeAnswered, RelayAnswered, HeartbeatAnswered, TimeOutAnswered, Step, operated, promised, ruled}
+use Rattle.std.specs.Prelude.{Err}
 
 -- ---- two questions with the same refusals, as one
 
@@ -55,12 +52,12 @@ decide_three told rows table refused out after accepted left =
 
 pub operation_step : (table : List ℕ) (operation : Operation) → promised table operation ≡ ruled table (Beside operation)
 unfolding ruled operated promised table_after_store stored table_after_compare compared woken_at table_after_wake out_after_wake relayed_at table_after_relay out_after_relay beaten table_after_beat out_after_beat timed_out table_after_time_out
-operation_step table (Store position codes) = decide_both (λ after said. step_to after (StoreAnswered said)) (store_refusals table position codes) (λ r. table) Unloaded _ _
-operation_step table (Compare position) = decide_both (λ after said. step_to after (CompareAnswered said)) (compare_refusals table position) (λ r. table) Unloaded _ _
-operation_step table (Wake position out) = decide_three WakeAnswered (wake_refusals table position (length out)) table Unsent out _ _ _
-operation_step table (Relay position message out) = decide_three RelayAnswered (relay_refusals table position (length message) (length out)) table Unrelayed out _ _ _
-operation_step table (Heartbeat position out) = decide_three HeartbeatAnswered (wake_refusals table position (length out)) table Unsent out _ _ _
-operation_step table (TimeOut position) = decide_both (λ after said. step_to after (TimeOutAnswered said)) (time_out_refusals table position) (λ r. table) Untimed _ _
+operation_step table (Store position codes) = decide_both (λ after said. step_to after (StoreAnswered said)) (store_refusals table position codes) (λ r. table) Err _ _
+operation_step table (Compare position) = decide_both (λ after said. step_to after (CompareAnswered said)) (compare_refusals table position) (λ r. table) Err _ _
+operation_step table (Wake position out) = decide_three WakeAnswered (wake_refusals table position (length out)) table Err out _ _ _
+operation_step table (Relay position message out) = decide_three RelayAnswered (relay_refusals table position (length message) (length out)) table Err out _ _ _
+operation_step table (Heartbeat position out) = decide_three HeartbeatAnswered (wake_refusals table position (length out)) table Err out _ _ _
+operation_step table (TimeOut position) = decide_both (λ after said. step_to after (TimeOutAnswered said)) (time_out_refusals table position) (λ r. table) Err _ _
 
 -- ---- what none of its refusals stops has its place
 

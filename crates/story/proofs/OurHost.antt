@@ -31,8 +31,6 @@ use Rattle.records.specs.Commands.{commands, command_of, is_listed, data_size, r
 use Rattle.monitor.specs.Effects.{accepts, keeps}
 use Rattle.monitor.proofs.Keeping.{right-good}
 use Rattle.reads.specs.Reply.{six_bytes, register, reply}
-use Rattle.chain.specs.declared.frames.Answer.TheVariants.{Accepted}
-use Rattle.judging.specs.declared.heads.Judged.TheVariants.{Bad, Good}
 use Rattle.judging.specs.Table.{monitors, sound}
 use Rattle.judging.specs.Refusals.{command_in}
 use Rattle.serving.specs.Served.{takers, Awake, awake_of, payloads_in, taken_by, kept}
@@ -48,6 +46,9 @@ use Rattle.serving.proofs.Taken.{taken_read, taken_bare, awake_all}
 use Rattle.host.specs.Frames.{sealed, value_count, frame_for}
 use Rattle.host.proofs.FrameFor.{length-frame, frame_right, frame-code, write-payloads}
 use Rattle.host.proofs.Payloads.{sealed-right}
+use Rattle.std.specs.Prelude.{Err}
+use Rattle.judging.specs.Heads.{good}
+use Rattle.chain.specs.Frame.{took}
 
 -- ---- any frame that our host builds for a sound table's N
 
@@ -94,14 +95,14 @@ module _ (table values buffer : List ℕ) (code : ℕ) (c : Command) (its : comm
   abbrev frame : List ℕ
   frame = frame_for code (monitors table) values
 
-  pub judged-good : judged table frame (length buffer) ≡ Good c (monitors table)
+  pub judged-good : judged table frame (length buffer) ≡ good c (monitors table)
   unfolding judged
   judged-good =
-      passes (frame_refusals table frame (length buffer)) Bad (Good (command_in frame) (monitors table))
+      passes (frame_refusals table frame (length buffer)) Err (good (command_in frame) (monitors table))
       (host_passes table values code (length buffer) c its listed is-sound-table right-count enough)
-      ∙ ap (λ (k : Command). Good k (monitors table)) (command-in table values code (length buffer) c its listed is-sound-table right-count enough)
+      ∙ ap (λ (k : Command). good k (monitors table)) (command-in table values code (length buffer) c its listed is-sound-table right-count enough)
 
-  pub accepted : answer table frame (length buffer) ≡ Accepted (taken_by c (monitors table) table frame) (reply_length c (monitors table))
+  pub accepted : answer table frame (length buffer) ≡ took (taken_by c (monitors table) table frame) (reply_length c (monitors table))
   accepted = the_answer table frame buffer judged-good
 
   pub table-after : table_after table frame (length buffer) ≡ kept c (monitors table) table frame
@@ -157,11 +158,11 @@ module _ (table values buffer : List ℕ) (code : ℕ) (w : Write) (its : comman
       accepts-right w (get_or owns k []) (get_or (rows record_size n table) k []) right)
 
   -- the chain accepts the frame, and so in a chain with none in LPCM all N monitors take it
-  pub write_taken : answer table written-frame (length buffer) ≡ Accepted (awake_of (monitors table) table) 0
-  write_taken = accepted table values buffer code (Writes w) its refl is-sound-table right-count (omega arith) ∙ ap (λ (t : ℕ). Accepted t 0) awake_taken
+  pub write_taken : answer table written-frame (length buffer) ≡ took (awake_of (monitors table) table) 0
+  write_taken = accepted table values buffer code (Writes w) its refl is-sound-table right-count (omega arith) ∙ ap (λ (t : ℕ). took t 0) awake_taken
 
-  pub write_taken_by-all : Awake (monitors table) table → answer table written-frame (length buffer) ≡ Accepted (monitors table) 0
-  write_taken_by-all awake = write_taken ∙ ap (λ (t : ℕ). Accepted t 0) (awake_all (monitors table) table awake)
+  pub write_taken_by-all : Awake (monitors table) table → answer table written-frame (length buffer) ≡ took (monitors table) 0
+  write_taken_by-all awake = write_taken ∙ ap (λ (t : ℕ). took t 0) (awake_all (monitors table) table awake)
 
   pub each-keeps-its-own : (k : ℕ) → k < monitors table
       → row_at record_size k (table_after table written-frame (length buffer)) ≡ keeps (Writes w) (sealed (row_at (data_size w) k values)) (row_at record_size k table)
@@ -186,10 +187,10 @@ reply-right part r = seal-right (register part r) (byte_of counter r) (length-re
 
 module _ (table buffer : List ℕ) (code : ℕ) (part : Part) (its : command_of code commands ≡ Reads part)
     (is-sound-table : sound table ≡ true) (enough : payload_size * monitors table ≤ length buffer) where
-  pub read_taken_by-all : answer table (frame_for code (monitors table) []) (length buffer) ≡ Accepted (monitors table) (payload_size * monitors table)
+  pub read_taken_by-all : answer table (frame_for code (monitors table) []) (length buffer) ≡ took (monitors table) (payload_size * monitors table)
   read_taken_by-all =
       accepted table [] buffer code (Reads part) its refl is-sound-table refl enough
-      ∙ ap (λ (t : ℕ). Accepted t (payload_size * monitors table)) (taken_read part (monitors table) table (frame_for code (monitors table) []))
+      ∙ ap (λ (t : ℕ). took t (payload_size * monitors table)) (taken_read part (monitors table) table (frame_for code (monitors table) []))
 
   -- monitor by monitor: its part of the reply is what it replies, and that is right
   pub each-reply-its-own : (k : ℕ) → k < monitors table → row_at payload_size k (reply_after table (frame_for code (monitors table) []) buffer) ≡ reply part (row_at record_size k table)
@@ -203,7 +204,7 @@ module _ (table buffer : List ℕ) (code : ℕ) (part : Part) (its : command_of 
 -- ---- bare commands
 
 pub bare_taken_by-all : (table buffer : List ℕ) (code : ℕ) (c : Bare) → command_of code commands ≡ Bares c → sound table ≡ true
-    → answer table (frame_for code (monitors table) []) (length buffer) ≡ Accepted (monitors table) 0
+    → answer table (frame_for code (monitors table) []) (length buffer) ≡ took (monitors table) 0
 bare_taken_by-all table buffer code c its is-sound-table =
     accepted table [] buffer code (Bares c) its refl is-sound-table refl (omega arith)
-    ∙ ap (λ (t : ℕ). Accepted t 0) (taken_bare c (monitors table) table (frame_for code (monitors table) []))
+    ∙ ap (λ (t : ℕ). took t 0) (taken_bare c (monitors table) table (frame_for code (monitors table) []))

@@ -32,7 +32,6 @@ use Rattle.monitor.specs.Effects.{good_for, accepts}
 use Rattle.reads.specs.Reply.{reply}
 use Rattle.reads.proofs.Showing.{length-reply}
 use Rattle.chain.specs.declared.frames.Answer.{Answer}
-use Rattle.chain.specs.declared.frames.Answer.TheVariants.{Refused, Accepted}
 use Rattle.judging.specs.Table.{monitors}
 use Rattle.judging.specs.Refusals.{command_in, room_row}
 use Rattle.serving.specs.Served.{takers, payloads_in, taken_by, kept}
@@ -52,6 +51,8 @@ use Rattle.clocking.proofs.View.{view, view_idle}
 use Rattle.clocked.proofs.Whole.{released-whole, table_released-whole, reply-whole}
 use Rattle.story.proofs.Operations.{decide_three, step_to}
 use Rattle.story.specs.Runs.{Frame, Seen, Answered, Step, reply_bytes, rule_refusals, takes_write, takers_of, replies, obeyed, ruled, state_after_all, came_back}
+use Rattle.std.specs.Prelude.{Result, Err, Ok}
+use Rattle.chain.specs.Frame.{took}
 
 -- ---- what an accepted frame makes, in the rules' words
 
@@ -95,7 +96,7 @@ same-replies Unlisted n table buffer = refl
 -- ---- a whole frame
 
 -- what is seen of an answer and a buffer
-abbrev seen_in : Answer → List ℕ → Seen
+abbrev seen_in : Result Answer Refusal → List ℕ → Seen
 seen_in said left = Answered said (take (reply_bytes said) left)
 
 module _ (table frame buffer : List ℕ) (room : payload_size * monitors table ≤ length buffer) where
@@ -123,10 +124,10 @@ module _ (table frame buffer : List ℕ) (room : payload_size * monitors table �
   unfolding table_after answer reply_after ruled obeyed kept
   frame_step =
       let rows = frame_refusals table frame (length buffer) in
-      decide_three seen_in rows table Refused buffer _ _ _
-      ∙ no_sixth (λ r. step_to table (Answered (Refused r) [])) _
-      ∙ passed_agree (rule_refusals table frame) (λ r. step_to table (Answered (Refused r) [])) _ _
-      (λ p. ap₂ (λ (taken : ℕ) (back : List ℕ). step_to (kept c n table frame) (Answered (Accepted taken (reply_length c n)) back))
+      decide_three seen_in rows table Err buffer _ _ _
+      ∙ no_sixth (λ r. step_to table (Answered (Err r) [])) _
+      ∙ passed_agree (rule_refusals table frame) (λ r. step_to table (Answered (Err r) [])) _ _
+      (λ p. ap₂ (λ (taken : ℕ) (back : List ℕ). step_to (kept c n table frame) (Answered (took taken (reply_length c n)) back))
       (same-takers c n table frame (whole-frame p)) (same-replies c n table buffer))
 
   -- the buffer stays as long as it was
@@ -172,10 +173,10 @@ module _ (table frame : List ℕ) where
   back_whole = same_back table frame idle length-idle ∙ ap (answered_all table frame) view_idle
 
   -- what came back begins as a buffer for a full reply does
-  same-reply : (said : Answer) → answer table frame (length (full table)) ≡ said
+  same-reply : (said : Result Answer Refusal) → answer table frame (length (full table)) ≡ said
       → take (reply_bytes said) (drop 4 (answered_all table frame start)) ≡ take (reply_bytes said) (reply_after table frame (full table))
-  same-reply (Refused r) e = refl
-  same-reply (Accepted taken bytes) e = reply-whole table frame (full table) taken bytes e
+  same-reply (Err r) e = refl
+  same-reply (Ok a) e = reply-whole table frame (full table) a.taken a.reply e
 
   abbrev step_by : Clock → List ℕ → Step
   step_by clock back = step_to (table_released clock table) (seen_in (released clock table) (drop 4 back))
@@ -186,6 +187,6 @@ module _ (table frame : List ℕ) where
       let back = drop 4 (answered_all table frame start) in
       let said = answer table frame (length (full table)) in
       ap₂ step_by clock-whole back_whole
-      ∙ ap₂ (λ (after : List ℕ) (a : Answer). step_to after (seen_in a back)) (table_released-whole table frame (length (full table)) (has_room table)) (released-whole table frame (length (full table)) (has_room table))
+      ∙ ap₂ (λ (after : List ℕ) (a : Result Answer Refusal). step_to after (seen_in a back)) (table_released-whole table frame (length (full table)) (has_room table)) (released-whole table frame (length (full table)) (has_room table))
       ∙ ap (λ (left : List ℕ). step_to (table_after table frame (length (full table))) (Answered said left)) (same-reply said refl)
       ∙ frame_step table frame (full table) (has_room table)

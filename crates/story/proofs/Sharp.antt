@@ -34,7 +34,6 @@ use Rattle.writes.specs.Writes.{rules_of}
 use Rattle.writes.proofs.Written.{opens_always}
 use Rattle.monitor.specs.Effects.{locked, counted, done, keeps}
 use Rattle.monitor.proofs.Keeping.{right-good, accepts_awake}
-use Rattle.chain.specs.declared.frames.Answer.TheVariants.{Refused, Accepted}
 use Rattle.judging.specs.Table.{monitors, sound}
 use Rattle.judging.specs.Refusals.{command_in}
 use Rattle.serving.specs.Served.{Awake, payloads_in}
@@ -47,6 +46,8 @@ use Rattle.story.proofs.ReadBack.{stores-whole}
 use Rattle.story.proofs.EitherSide.{with}
 use Rattle.story.proofs.Spoilt.{came-passes, came-command, struck_answer}
 use Rattle.story.proofs.Spikes.{struck_spoilt, struck_refused_any}
+use Rattle.std.specs.Prelude.{Err}
+use Rattle.chain.specs.Frame.{took}
 
 -- WRCFGB to two monitors: the near one is to get VUV 250 and VOV 875, steps of 2.4 mV above 1.5 V: 2.1 V and 3.6 V
 abbrev pub write_sent : List ℕ
@@ -88,12 +89,12 @@ mute_came = 0x00 ∷ 0x29 ∷ 0x63 ∷ 0x3C ∷ []
 pub record Sharp : Type 0 where
   -- ten places over the border of the two payloads: it is a struck write, and neither monitor takes it
   ten : StruckData (Writes Wrcfgb) 2 write_sent write_ten
-  ten_taken : (table : List ℕ) (room : ℕ) → sound table ≡ true → monitors table ≡ 2 → answer table write_ten room ≡ Accepted 0 0
+  ten_taken : (table : List ℕ) (room : ℕ) → sound table ≡ true → monitors table ≡ 2 → answer table write_ten room ≡ took 0 0
   -- eleven places behind the command of the same frame: both monitors take it, where neither is in LPCM
   eleven_ours : Ours (Writes Wrcfgb) 2 write_sent
   eleven : Spike 11 write_sent write_came
   eleven_head : take head_size write_came ≡ take head_size write_sent
-  eleven_taken : (table : List ℕ) (room : ℕ) → sound table ≡ true → monitors table ≡ 2 → Awake 2 table → answer table write_came room ≡ Accepted 2 0
+  eleven_taken : (table : List ℕ) (room : ℕ) → sound table ≡ true → monitors table ≡ 2 → Awake 2 table → answer table write_came room ≡ took 2 0
   -- the near one stores what came, and counts: another VOV; the far one does as with the frame that was sent
   eleven_stored : (table : List ℕ) (room : ℕ) → sound table ≡ true → monitors table ≡ 2 → in_lpcm (row_at record_size 0 table) ≡ false
       → row_at record_size 0 (table_after table write_came room) ≡ on_bytes configuration_b (λ i old. get_or near_came i 0) (counted (locked (row_at record_size 0 table)))
@@ -102,11 +103,11 @@ pub record Sharp : Type 0 where
       → row_at record_size 1 (table_after table write_came room) ≡ row_at record_size 1 (table_after table write_sent room)
   -- the last place of a command alone: it is a struck command, for any number of monitors, and it is refused
   last_place : (n : ℕ) → 1 ≤ n → n ≤ most_monitors → StruckCommand (Bares Mute) n mute_sent mute_last
-  last-refused : (table : List ℕ) (room : ℕ) → sound table ≡ true → answer table mute_last room ≡ Refused CommandWrong
+  last-refused : (table : List ℕ) (room : ℕ) → sound table ≡ true → answer table mute_last room ≡ Err CommandWrong
   -- sixteen places of the same command: all take it, and each ends its mute
   sixteen-ours : (n : ℕ) → 1 ≤ n → n ≤ most_monitors → Ours (Bares Mute) n mute_sent
   sixteen : Spike 16 mute_sent mute_came
-  sixteen-taken : (table : List ℕ) (room : ℕ) → sound table ≡ true → answer table mute_came room ≡ Accepted (monitors table) 0
+  sixteen-taken : (table : List ℕ) (room : ℕ) → sound table ≡ true → answer table mute_came room ≡ took (monitors table) 0
   sixteen_unmutes : (table : List ℕ) (room : ℕ) → sound table ≡ true → (k : ℕ) → k < monitors table
       → row_at record_size k (table_after table mute_came room) ≡ done Unmute (counted (locked (row_at record_size k table)))
 
@@ -145,11 +146,11 @@ unfolding all bits_of_bytes bits_of odd
 eleven_spike = spike_of_parts 11 113 (are_bytes write_sent refl) (are_bytes write_came refl) refl refl (λ e. false≢true (sym e)) refl
 
 module _ (table : List ℕ) (room : ℕ) (s : sound table ≡ true) (two : monitors table ≡ 2) where
-  ten_is_taken : answer table write_ten room ≡ Accepted 0 0
+  ten_is_taken : answer table write_ten room ≡ took 0 0
   ten_is_taken =
       struck_answer table s Wrcfgb (struck_spoilt (subst⁻¹ (λ (n : ℕ). StruckData (Writes Wrcfgb) n write_sent write_ten) two ten_struck)) not_wrrr room
-      ∙ ap (λ (n : ℕ). Accepted (unhit_awake (Writes Wrcfgb) n table write_sent write_ten) 0) two
-      ∙ ap (λ (taken : ℕ). Accepted taken 0) (both_hit table)
+      ∙ ap (λ (n : ℕ). took (unhit_awake (Writes Wrcfgb) n table write_sent write_ten) 0) two
+      ∙ ap (λ (taken : ℕ). took taken 0) (both_hit table)
 
   ours_here : Ours (Writes Wrcfgb) (monitors table) write_sent
   ours_here = subst⁻¹ (λ (n : ℕ). Ours (Writes Wrcfgb) n write_sent) two eleven_is_ours
@@ -164,11 +165,11 @@ module _ (table : List ℕ) (room : ℕ) (s : sound table ≡ true) (two : monit
   unfolding payloads_in write_payloads farthest_first rows count sealed_right word_at data_pec once step remainder bits_of bits_of_bytes ◌⊕◌ xor odd
   both_right = refl
 
-  eleven_is_taken : Awake 2 table → answer table write_came room ≡ Accepted 2 0
+  eleven_is_taken : Awake 2 table → answer table write_came room ≡ took 2 0
   eleven_is_taken awake =
       write_answer_awake table write_came room eleven_passes Wrcfgb not_wrrr eleven_its (λ k h. awake k (omega (arith, two)))
-      ∙ ap (λ (n : ℕ). Accepted (count (sealed_right 6) (payloads_in (Writes Wrcfgb) write_came n)) 0) two
-      ∙ ap (λ (taken : ℕ). Accepted taken 0) both_right
+      ∙ ap (λ (n : ℕ). took (count (sealed_right 6) (payloads_in (Writes Wrcfgb) write_came n)) 0) two
+      ∙ ap (λ (taken : ℕ). took taken 0) both_right
 
   near_right : sealed_right 6 (row_at payload_size 1 (drop head_size write_came)) ≡ true
   unfolding row_at sealed_right word_at data_pec once step remainder bits_of bits_of_bytes ◌⊕◌ xor odd
@@ -221,7 +222,7 @@ last_struck n some few =
     }
 
 module _ (table : List ℕ) (room : ℕ) (s : sound table ≡ true) where
-  last_is_refused : answer table mute_last room ≡ Refused CommandWrong
+  last_is_refused : answer table mute_last room ≡ Err CommandWrong
   last_is_refused = struck_refused_any (last_struck 1 (lit≤ tt) (lit≤ tt)) table room s
 
   sixteen-its : command_in mute_came ≡ Bares Unmute
@@ -232,7 +233,7 @@ module _ (table : List ℕ) (room : ℕ) (s : sound table ≡ true) where
   unfolding frame_refusals command_in command_of commands command_right word_at pec15 once step remainder bits_of bits_of_bytes ◌⊕◌ xor odd
   sixteen-passes = (ap not s, (refl, (refl, (refl, (refl, (le-ltb room 0 (omega arith), tt))))))
 
-  sixteen_is_taken : answer table mute_came room ≡ Accepted (monitors table) 0
+  sixteen_is_taken : answer table mute_came room ≡ took (monitors table) 0
   sixteen_is_taken = bare_answer table mute_came room sixteen-passes Unmute sixteen-its
 
   sixteen_ends_it : (k : ℕ) → k < monitors table → row_at record_size k (table_after table mute_came room) ≡ done Unmute (counted (locked (row_at record_size k table)))

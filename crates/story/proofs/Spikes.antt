@@ -27,7 +27,6 @@ use Rattle.records.specs.declared.commands.Write.TheVariants.{Wrrr}
 use Rattle.records.specs.Record.{record_size, retention, unlocked, in_lpcm, byte_of, on_bytes}
 use Rattle.records.specs.Commands.{data_size, width_of}
 use Rattle.monitor.specs.Effects.{locked, counted}
-use Rattle.chain.specs.declared.frames.Answer.TheVariants.{Refused, Accepted}
 use Rattle.judging.specs.Table.{monitors, sound}
 use Rattle.judging.specs.Refusals.{command_in}
 use Rattle.serving.specs.Served.{awake_of}
@@ -40,6 +39,8 @@ use Rattle.story.specs.Spikes.{data_places, StruckData, StruckCommand, own_in, u
 use Rattle.story.proofs.Accepted.{frame_refused, wrrr_answer, own-long, own-all-bytes}
 use Rattle.story.proofs.Retention.{wrrr_unlocked, wrrr_locked}
 use Rattle.story.proofs.Spoilt.{sent_long, sent_right, own-right, came-none, came-its, struck_kept}
+use Rattle.std.specs.Prelude.{Err}
+use Rattle.chain.specs.Frame.{took}
 
 -- ---- by bits: a monitor is hit by any bit of its own bytes, and by nothing else
 
@@ -149,7 +150,7 @@ module _ (table : List ℕ) (sound-table : sound table ≡ true) {sent came : Li
   its-command : command_in came ≡ Writes Wrrr
   its-command = came-its table sound-table Wrrr (struck_spoilt struck)
 
-  pub struck_wrrr_answer : answer table came room ≡ Accepted (awake_of (monitors table) table) 0
+  pub struck_wrrr_answer : answer table came room ≡ took (awake_of (monitors table) table) 0
   struck_wrrr_answer = wrrr_answer table came room its-passes its-command
 
   module _ (k : ℕ) (h : k < monitors table) where
@@ -183,11 +184,11 @@ module _ {c : Command} {m : ℕ} {sent came : List ℕ} (struck : StruckCommand 
   unfolding frame_refusals
   third table room s = inr (ap not s, inr (le-ltb _ _ four-long, inl (ap not command_wrong, refl)))
 
-  pub struck_refused_any : (table : List ℕ) (room : ℕ) → sound table ≡ true → answer table came room ≡ Refused CommandWrong
+  pub struck_refused_any : (table : List ℕ) (room : ℕ) → sound table ≡ true → answer table came room ≡ Err CommandWrong
   struck_refused_any table room s = frame_refused table came room CommandWrong (third table room s)
 
   pub struck_refused : (table buffer : List ℕ) → sound table ≡ true
-      → (answer table came (length buffer) ≡ Refused CommandWrong) × (table_after table came (length buffer) ≡ table) × (reply_after table came buffer ≡ buffer)
+      → (answer table came (length buffer) ≡ Err CommandWrong) × (table_after table came (length buffer) ≡ table) × (reply_after table came buffer ≡ buffer)
   struck_refused table buffer s =
       let refused = struck_refused_any table (length buffer) s in (
         refused,

@@ -33,7 +33,6 @@ use Rattle.records.specs.Commands.{commands, command_of, is_listed, data_size, w
 use Rattle.writes.proofs.Written.{needs_but_wrrr}
 use Rattle.monitor.specs.Effects.{locked, keeps}
 use Rattle.monitor.proofs.Keeping.{keeps_wrong, keeps-none}
-use Rattle.chain.specs.declared.frames.Answer.TheVariants.{Accepted}
 use Rattle.judging.specs.Table.{monitors, sound}
 use Rattle.judging.specs.Refusals.{command_in, table_row, short_row, command_row, length_row, room_row}
 use Rattle.serving.specs.Served.{Awake}
@@ -44,6 +43,7 @@ use Rattle.host.proofs.FrameFor.{length-frame, frame_right}
 use Rattle.story.specs.Spikes.{Ours, own_in, unhit, unhit_of, unhit_awake, Spoilt}
 use Rattle.story.proofs.Accepted.{write_answer, write_no_reply, kept_at}
 use Rattle.story.proofs.OurHost.{command-in, host_passes, own_data_right}
+use Rattle.chain.specs.Frame.{took}
 
 -- ---- counts of monitors that are alike at each
 
@@ -179,12 +179,12 @@ module _ (table : List ℕ) (sound-table : sound table ≡ true) (w : Write) {se
 
   -- ---- what comes of it
 
-  pub struck_answer : (w ≡ Wrrr → ⊥) → (room : ℕ) → answer table came room ≡ Accepted (unhit_awake (Writes w) n table sent came) 0
+  pub struck_answer : (w ≡ Wrrr → ⊥) → (room : ℕ) → answer table came room ≡ took (unhit_awake (Writes w) n table sent came) 0
   unfolding own_in
-  struck_answer other room = write_answer table came room (came-none room) w other came-its ∙ ap (λ (taken : ℕ). Accepted taken 0) taken-unhit
+  struck_answer other room = write_answer table came room (came-none room) w other came-its ∙ ap (λ (taken : ℕ). took taken 0) taken-unhit
 
-  pub struck_answer_awake : (w ≡ Wrrr → ⊥) → Awake n table → (room : ℕ) → answer table came room ≡ Accepted (unhit_of (Writes w) n sent came) 0
-  struck_answer_awake other awake room = struck_answer other room ∙ ap (λ (taken : ℕ). Accepted taken 0) (awake_unhit awake)
+  pub struck_answer_awake : (w ≡ Wrrr → ⊥) → Awake n table → (room : ℕ) → answer table came room ≡ took (unhit_of (Writes w) n sent came) 0
+  struck_answer_awake other awake room = struck_answer other room ∙ ap (λ (taken : ℕ). took taken 0) (awake_unhit awake)
 
   pub struck_no_reply : (buffer : List ℕ) → reply_after table came buffer ≡ buffer
   struck_no_reply buffer = write_no_reply table came buffer (came-none (length buffer)) w came-its

@@ -13,12 +13,10 @@ use lib.IntN.{ℤ}
 use lib.Dec.{eqb}
 use lib.ListN.{length, get_or}
 use Rattle.refusals.specs.declared.Refusal.{Refusal}
-use Rattle.loads.specs.declared.loads.Loaded.{Loaded}
 use Rattle.chain.specs.Frame.{frame_refusals, answer, table_after, reply_after}
 use Rattle.loads.specs.Load.{store_refusals, stored, table_after_store, compare_refusals, compared, table_after_compare, load_refusals, loaded, table_after_load}
 use Rattle.priorities.specs.declared.outputs.Events.{Events}
 use Rattle.discharge.specs.Question.{discharge_refusals, discharged, outputs_after}
-use Rattle.passing.specs.declared.operations.Sent.{Sent}
 use Rattle.passing.specs.declared.operations.Relayed.{Relayed}
 use Rattle.passing.specs.declared.operations.TimedOut.{TimedOut}
 use Rattle.passing.specs.Operations.{wake_refusals, woken_at, table_after_wake, out_after_wake, relay_refusals, relayed_at, table_after_relay, out_after_relay, beaten, table_after_beat, out_after_beat, time_out_refusals, timed_out, table_after_time_out}
@@ -32,7 +30,6 @@ use Rattle.ports.specs.Check.{check_refusals, checked}
 use Rattle.messages.specs.Verdicts.{verdict_refusals, verdict}
 use Rattle.ports.specs.Ports.{port_refusals, port_of}
 use Rattle.ports.specs.Parts.{bytes_of}
-use Rattle.readings.specs.declared.pack_summary.Pack.TheVariants.{Nothing}
 use Rattle.readings.specs.Readings.{microvolts, reading_of, summary_of}
 use Rattle.story.specs.Numbers.{first_number, summary_refusals}
 use Rattle.story.proofs.OneOutcome.{Settles, leaves, settles}
@@ -50,6 +47,8 @@ use Rattle.story.proofs.Numbers.{store-number, compare-number, load-number}
 use Rattle.story.proofs.SurfaceNumbers.{frame-number, discharge_number, wake_number, beat_number, relay_number, time_number, release_number, look_number, built-number, checked-number, verdict-number, port_number, summary_number, summary_stays, nothing_stays}
 use Rattle.door.proofs as door
 use Rattle.oskorbine.proofs as oskorbine
+use Rattle.std.specs.Prelude.{Option, None, Result, Ok}
+use Rattle.passing.specs.declared.operations.End.{End}
 
 -- ---- every function
 
@@ -121,12 +120,12 @@ pub record Surface : Type 2 where
   outcomes : Outcomes
   -- an answer is taken apart again: nothing is lost in the packing. A byte clocked is one of a state of bytes, and a payload and a heartbeat are bytes
   frame_apart : (table frame : List ℕ) (room : ℕ) → apart (packed (frame_parts (answer table frame room))) ≡ frame_parts (answer table frame room)
-  load_apart : (l : Loaded) → apart (packed (load_parts l)) ≡ load_parts l
+  load_apart : (l : Result (Unit {0}) Refusal) → apart (packed (load_parts l)) ≡ load_parts l
   discharge_apart : (table : List ℕ) (position : ℕ) (events : Events) (phase room : ℕ)
       → apart (packed (discharged_parts (discharged table position events phase room))) ≡ discharged_parts (discharged table position events phase room)
-  sent_apart : (s : Sent) → apart (packed (sent_parts s)) ≡ sent_parts s
-  relayed-apart : (m : Relayed) → apart (packed (relayed_parts m)) ≡ relayed_parts m
-  timed_apart : (t : TimedOut) → apart (packed (timed_parts t)) ≡ timed_parts t
+  sent_apart : (s : Result (Option End) Refusal) → apart (packed (sent_parts s)) ≡ sent_parts s
+  relayed-apart : (m : Result Relayed Refusal) → apart (packed (relayed_parts m)) ≡ relayed_parts m
+  timed_apart : (t : Result TimedOut Refusal) → apart (packed (timed_parts t)) ≡ timed_parts t
   host_frame-apart : (code n : ℕ) (values : List ℕ) (room : ℕ) → apart (packed (built_parts (built code n values room))) ≡ built_parts (built code n values room)
   check_apart : (payload : List ℕ) (expected : ℕ) → ((k : ℕ) → get_or payload k 0 < 256)
       → apart (packed (checked_parts (checked payload expected))) ≡ checked_parts (checked payload expected)
@@ -161,7 +160,7 @@ pub record Surface : Type 2 where
   pointed-bytes : (a b : List ℕ) (n k expected : ℕ) → pointed (port_parts n k (port_of a b n k expected)) a b ≡ bytes_of a b n k expected
   -- a summary's buffer stays where it is refused, and where all cells are cleared. The other buffers are those of demand 1
   summary_stays : (codes : List ℤ) (out : List Float) (r : Refusal) → summary_parts (summary_of codes) (length out) ≡ refused r → summary_out (summary_of codes) out ≡ out
-  nothing_stays : (codes : List ℤ) (out : List Float) → summary_of codes ≡ Nothing → summary_out (summary_of codes) out ≡ out
+  nothing_stays : (codes : List ℤ) (out : List Float) → summary_of codes ≡ (Ok None) → summary_out (summary_of codes) out ≡ out
 
 -- ---- the answer
 

@@ -1,7 +1,7 @@
 -- Document 02, L5: a missed command. What our host reads of a chain after a frame, by the chain's reply and from both ports, against the counter that each
 -- monitor has if it took the frame.
 -- Assumes nothing.
-use Rattle.std.specs.Prelude.{◌≡◌, Bool, true, false, cond, not, ◌&&◌, List, [], map, reverse, ℕ, ◌-◌, ◌*◌, ◌≤◌, ◌<◌, length}
+use Rattle.std.specs.Prelude.{◌≡◌, Bool, true, false, cond, not, ◌&&◌, List, [], map, reverse, ℕ, ◌-◌, ◌*◌, ◌≤◌, ◌<◌, length, Ok}
 use Rattle.laws.specs.Rows.{rows, row_at}
 use Rattle.wire.specs.Order.{reply_data}
 use Rattle.records.specs.declared.commands.Command.TheVariants.{Writes}
@@ -39,11 +39,11 @@ from_b part n table = reply_data (reverse (map (reply part) (rows record_size n 
 -- monitor k's reply, k counted from 1, as our host sees it from both ports: right against the counter that it expects, or with another, the one received. Asked
 -- by two ports the host answers from A, where A's bytes came damaged from B, and where B's did from A
 pub record SeenAs (part : Part) (n : ℕ) (table : List ℕ) (k expected : ℕ) (right : Bool) (received : ℕ) : Type 0 where
-  pub at_a : checked (part_a (from_a part n table) n k) expected ≡ cond right Right (CounterDiffers received)
-  pub at_b : checked (part_b (from_b part n table) n k) expected ≡ cond right Right (CounterDiffers received)
-  pub from_both : port_of (from_a part n table) (from_b part n table) n k expected ≡ A (not right)
-  pub a_damaged : (a : List ℕ) → length a ≡ payload_size * n → is_damaged (part_a a n k) ≡ true → port_of a (from_b part n table) n k expected ≡ B (not right)
-  pub b_damaged : (b : List ℕ) → length b ≡ payload_size * n → is_damaged (part_b b n k) ≡ true → port_of (from_a part n table) b n k expected ≡ A (not right)
+  pub at_a : checked (part_a (from_a part n table) n k) expected ≡ Ok (cond right Right (CounterDiffers received))
+  pub at_b : checked (part_b (from_b part n table) n k) expected ≡ Ok (cond right Right (CounterDiffers received))
+  pub from_both : port_of (from_a part n table) (from_b part n table) n k expected ≡ Ok (A (not right))
+  pub a_damaged : (a : List ℕ) → length a ≡ payload_size * n → is_damaged (part_a a n k) ≡ true → port_of a (from_b part n table) n k expected ≡ Ok (B (not right))
+  pub b_damaged : (b : List ℕ) → length b ≡ payload_size * n → is_damaged (part_b b n k) ≡ true → port_of (from_a part n table) b n k expected ≡ Ok (A (not right))
 
 -- each monitor of a table is seen so after a write that came with some monitors' checks wrong, against the counter after its own: right where it was not hit and is
 -- not in LPCM, and with the counter that it had where it was or is

@@ -2,7 +2,7 @@
 -- a whole. By the rules of demand 2; by whole frames; by bytes clocked one at a time. The last two are put together from what the functions of the engines
 -- and of the operations promise. Each gives the table afterwards and, event by event, what was seen.
 -- Assumes nothing.
-use Rattle.std.specs.Prelude.{Bool, not, ◌&&◌, ◌||◌, List, [], ◌∷◌, map, ℕ, ◌-◌, ◌*◌, ◌≤◌, ℤ, length, take, drop}
+use Rattle.std.specs.Prelude.{Bool, not, ◌&&◌, ◌||◌, List, [], ◌∷◌, map, ℕ, ◌-◌, ◌*◌, ◌≤◌, ℤ, length, take, drop, Option, Result, Ok, Err}
 use Rattle.laws.specs.Counts.{count}
 use Rattle.laws.specs.Rows.{rows, row_at, joined, along}
 use Rattle.pec.specs.Words.{sealed_right}
@@ -17,23 +17,16 @@ use Rattle.monitor.specs.Effects.{keeps}
 use Rattle.reads.specs.Reply.{reply}
 use Rattle.records.specs.Commands.{data_size, payload_size, reply_length}
 use Rattle.chain.specs.declared.frames.Answer.{Answer}
-use Rattle.chain.specs.declared.frames.Answer.TheVariants.{Refused, Accepted}
 use Rattle.judging.specs.Table.{monitors, changed_at}
 use Rattle.judging.specs.Refusals.{command_in, table_row, short_row, command_row, listed_row, length_row}
 use Rattle.serving.specs.Served.{payloads_in}
 use Rattle.chain.specs.Frame.{answer, table_after, reply_after}
 use Rattle.chain.specs.Numbers.{numbers_of}
 use Rattle.cells.specs.Cells.{store, compare}
-use Rattle.loads.specs.declared.loads.Loaded.{Loaded}
-use Rattle.loads.specs.declared.loads.Loaded.TheVariants.{Unloaded, Done}
 use Rattle.loads.specs.Load.{store_refusals, stored, table_after_store, compare_refusals, compared, table_after_compare}
 use Rattle.heartbeats.specs.Steps.{late}
-use Rattle.passing.specs.declared.operations.Sent.{Sent}
-use Rattle.passing.specs.declared.operations.Sent.TheVariants.{Unsent}
 use Rattle.passing.specs.declared.operations.Relayed.{Relayed}
-use Rattle.passing.specs.declared.operations.Relayed.TheVariants.{Unrelayed}
 use Rattle.passing.specs.declared.operations.TimedOut.{TimedOut}
-use Rattle.passing.specs.declared.operations.TimedOut.TheVariants.{Untimed}
 use Rattle.passing.specs.Hops.{wake_sends, wake_leaves, hop_sends, hop_leaves, beat_sends, beat_leaves}
 use Rattle.passing.specs.Operations.{
   handed_out,
@@ -59,6 +52,9 @@ use Rattle.clocking.specs.Clock.{answered}
 use Rattle.releasing.specs.Release.{released, table_released}
 use Rattle.clock_state.specs.State.{idle}
 use Rattle.clocking.specs.Bytes.{clock_of, state_after}
+use Rattle.refusals.specs.declared.Refusal.{Refusal}
+use Rattle.chain.specs.Frame.{took}
+use Rattle.passing.specs.declared.operations.End.{End}
 
 -- ---- what happens to a chain, and what is seen of it
 
@@ -84,14 +80,14 @@ pub data Event : Type 0 where
 
 pub data Seen : Type 0 where
   -- a frame's answer and the bytes of its reply: none where it is refused or no read
-  Answered : Answer → List ℕ → Seen
-  StoreAnswered : Loaded → Seen
-  CompareAnswered : Loaded → Seen
+  Answered : Result Answer Refusal → List ℕ → Seen
+  StoreAnswered : Result (Unit {0}) Refusal → Seen
+  CompareAnswered : Result (Unit {0}) Refusal → Seen
   -- with the lent buffer as it then is
-  WakeAnswered : Sent → List ℕ → Seen
-  RelayAnswered : Relayed → List ℕ → Seen
-  HeartbeatAnswered : Sent → List ℕ → Seen
-  TimeOutAnswered : TimedOut → Seen
+  WakeAnswered : Result (Option End) Refusal → List ℕ → Seen
+  RelayAnswered : Result Relayed Refusal → List ℕ → Seen
+  HeartbeatAnswered : Result (Option End) Refusal → List ℕ → Seen
+  TimeOutAnswered : Result TimedOut Refusal → Seen
 
 -- the table afterwards, and what was seen, event by event
 pub record Left : Type 0 where
@@ -103,7 +99,7 @@ abbrev pub saw : Seen → Left → Left
 saw one later = record { table = later.table; seen = one ∷ later.seen }
 
 -- how many bytes of a reply an answer tells of
-abbrev pub reply_bytes : Answer → ℕ
+abbrev pub reply_bytes : Result Answer Refusal → ℕ
 reply_bytes a = (numbers_of a).reply
 
 -- ---- by the rules
@@ -146,37 +142,37 @@ unfoldable pub obeyed : Command → ℕ → List ℕ → List ℕ → Step
 obeyed c n table frame =
     record {
       table = joined (along (λ r own. keeps c own r) (rows record_size n table) (payloads_in c frame n));
-      seen = Answered (Accepted (takers_of c n table frame) (reply_length c n)) (replies c n table);
+      seen = Answered (took (takers_of c n table frame) (reply_length c n)) (replies c n table);
     }
 
 -- a refusal gives its number and changes nothing
 unfoldable pub operated : List ℕ → Operation → Step
 operated table (Store position codes) =
-    decide (store_refusals table position codes) (λ r. record { table = table; seen = StoreAnswered (Unloaded r) })
-    (record { table = changed_at (position - 1) (store codes) table; seen = StoreAnswered Done })
+    decide (store_refusals table position codes) (λ r. record { table = table; seen = StoreAnswered (Err r) })
+    (record { table = changed_at (position - 1) (store codes) table; seen = StoreAnswered (Ok tt) })
 operated table (Compare position) =
-    decide (compare_refusals table position) (λ r. record { table = table; seen = CompareAnswered (Unloaded r) })
-    (record { table = changed_at (position - 1) compare table; seen = CompareAnswered Done })
+    decide (compare_refusals table position) (λ r. record { table = table; seen = CompareAnswered (Err r) })
+    (record { table = changed_at (position - 1) compare table; seen = CompareAnswered (Ok tt) })
 operated table (Wake position out) =
     let k = position - 1 in
-    decide (wake_refusals table position (length out)) (λ r. record { table = table; seen = WakeAnswered (Unsent r) out })
-    (record { table = wake_leaves k table; seen = WakeAnswered (sent_towards (row_at record_size k table) (wake_sends k table)) (handed_out (wake_sends k table) out) })
+    decide (wake_refusals table position (length out)) (λ r. record { table = table; seen = WakeAnswered (Err r) out })
+    (record { table = wake_leaves k table; seen = WakeAnswered (Ok (sent_towards (row_at record_size k table) (wake_sends k table))) (handed_out (wake_sends k table) out) })
 operated table (Relay position message out) =
     let k = position - 1 in
-    decide (relay_refusals table position (length message) (length out)) (λ r. record { table = table; seen = RelayAnswered (Unrelayed r) out })
-    (record { table = hop_leaves k message table; seen = RelayAnswered (sent_on (hop_sends k message table)) (handed_out (hop_sends k message table) out) })
+    decide (relay_refusals table position (length message) (length out)) (λ r. record { table = table; seen = RelayAnswered (Err r) out })
+    (record { table = hop_leaves k message table; seen = RelayAnswered (Ok (sent_on (hop_sends k message table))) (handed_out (hop_sends k message table) out) })
 operated table (Heartbeat position out) =
     let k = position - 1 in
-    decide (wake_refusals table position (length out)) (λ r. record { table = table; seen = HeartbeatAnswered (Unsent r) out })
-    (record { table = beat_leaves k table; seen = HeartbeatAnswered (sent_towards (row_at record_size k table) (beat_sends k table)) (handed_out (beat_sends k table) out) })
+    decide (wake_refusals table position (length out)) (λ r. record { table = table; seen = HeartbeatAnswered (Err r) out })
+    (record { table = beat_leaves k table; seen = HeartbeatAnswered (Ok (sent_towards (row_at record_size k table) (beat_sends k table))) (handed_out (beat_sends k table) out) })
 operated table (TimeOut position) =
     let k = position - 1 in
-    decide (time_out_refusals table position) (λ r. record { table = table; seen = TimeOutAnswered (Untimed r) })
-    (record { table = changed_at k late table; seen = TimeOutAnswered (ran_out (row_at record_size k table)) })
+    decide (time_out_refusals table position) (λ r. record { table = table; seen = TimeOutAnswered (Err r) })
+    (record { table = changed_at k late table; seen = TimeOutAnswered (Ok (ran_out (row_at record_size k table))) })
 
 unfoldable pub ruled : List ℕ → Event → Step
 ruled table (Frame frame) =
-    decide (rule_refusals table frame) (λ r. record { table = table; seen = Answered (Refused r) [] }) (obeyed (command_in frame) (monitors table) table frame)
+    decide (rule_refusals table frame) (λ r. record { table = table; seen = Answered (Err r) [] }) (obeyed (command_in frame) (monitors table) table frame)
 ruled table (Beside operation) = operated table operation
 
 unfoldable pub by_rules : List ℕ → List Event → Left

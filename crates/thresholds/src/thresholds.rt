@@ -1,55 +1,65 @@
 // The two thresholds of a record, and the two kinds of count.
-ghost use Rattle.std.specs.Prelude.{◌≡◌, ◌<◌};
-ghost use Rattle.thresholds.specs.Thresholds.{signed, lower, upper, vuv, vov, codes_of};
+ghost use Rattle.std.specs.Prelude.{◌≡◌};
+ghost use Rattle.thresholds.specs.Thresholds.{lower, upper, vuv, vov, codes_of};
 
 use records::{Part, RDCFGB, byte_in};
 
 // A count of codes of 150 microvolts.
-#[derive(Clone, Copy)]
+#[derive(Clone, Copy, PartialEq, Eq, PartialOrd, Ord)]
 pub struct ResultCode(pub i32);
 
 // A count of threshold steps, each of 16 codes.
 #[derive(Clone, Copy)]
 pub struct ThresholdStep(pub i16);
 
-// A count of steps as a count of codes: the one conversion between the two.
-pub fn codes_of(step: ThresholdStep) -> ResultCode
-    ensures { result ≡ codes_of step }
-{
-    ResultCode((step.0 as i32) * 16)
-}
+// The 16 bits of a code, as the hardware gives it.
+impl From<i16> for ResultCode {
+    ghost from_gives = { λ code wide. wide.0 ≡ code };
 
-// A number of 12 bits read as two's complement.
-fn signed12(n: u16) -> i16
-    requires { n < 4096 }
-    ensures { result ≡ signed 12 n }
-{
-    if n < 2048 {
-        n as i16
-    } else {
-        (n as i16) - 4096
+    fn from(code: i16) -> ResultCode {
+        ResultCode(code.into())
     }
 }
 
-// The lower threshold of a part that begins with two.
+// A count of steps as a count of codes: the one conversion between the two.
+impl From<ThresholdStep> for ResultCode {
+    ghost from_gives = { λ step code. code ≡ codes_of step };
+
+    #[tactic(auto, unfolding(crate::specs::Thresholds::codes_of), using(std::proofs::lemmas::Int::ints))]
+    fn from(step: ThresholdStep) -> ResultCode {
+        ResultCode(i32::from(step.0) * 16)
+    }
+}
+
+// That conversion under a name of its own: the theorems of `story` name it.
+pub fn codes_of(step: ThresholdStep) -> ResultCode
+    ensures { result ≡ codes_of step }
+{
+    step.into()
+}
+
+// The lower threshold of a part that begins with two: 12 bits, two's complement, of which the second byte has the high four in its low half.
+#[tactic(auto, unfolding(crate::specs::Thresholds::lower), using(crate::proofs::TwosComplement::word_read, crate::proofs::TwosComplement::twelve_read))]
 pub fn lower_threshold(rec: &[u8], part: Part) -> ThresholdStep
     ensures { result ≡ lower part rec.now }
 {
-    let low = byte_in(rec, part, 0) as u16;
-    let high = byte_in(rec, part, 1) as u16;
-    ThresholdStep(signed12(low + high % 16 * 256))
+    let low = byte_in(rec, part, 0);
+    let high = byte_in(rec, part, 1);
+    ThresholdStep(i16::from_le_bytes([low, high]) << 4 >> 4)
 }
 
-// The upper threshold of a part that begins with two.
+// The upper threshold of a part that begins with two: the 12 bits above those.
+#[tactic(auto, unfolding(crate::specs::Thresholds::upper), using(crate::proofs::TwosComplement::word_read, crate::proofs::TwosComplement::twelve_read))]
 pub fn upper_threshold(rec: &[u8], part: Part) -> ThresholdStep
     ensures { result ≡ upper part rec.now }
 {
-    let low = byte_in(rec, part, 1) as u16;
-    let high = byte_in(rec, part, 2) as u16;
-    ThresholdStep(signed12(low / 16 + high * 16))
+    let low = byte_in(rec, part, 1);
+    let high = byte_in(rec, part, 2);
+    ThresholdStep(i16::from_le_bytes([low, high]) >> 4)
 }
 
 // VUV.
+#[tactic(auto, unfolding(crate::specs::Thresholds::vuv))]
 pub fn under_threshold(rec: &[u8]) -> ThresholdStep
     ensures { result ≡ vuv rec.now }
 {
@@ -57,6 +67,7 @@ pub fn under_threshold(rec: &[u8]) -> ThresholdStep
 }
 
 // VOV.
+#[tactic(auto, unfolding(crate::specs::Thresholds::vov))]
 pub fn over_threshold(rec: &[u8]) -> ThresholdStep
     ensures { result ≡ vov rec.now }
 {

@@ -1,138 +1,135 @@
 // A frame clocked by hand: a byte at a time, with looks at the windows between, and a release. The table that is lent with a byte
 // matters with byte four alone; another N or an unsound table there, or another N at the release, is refusal 1.
-ghost use Rattle.std.specs.Prelude.{◌+◌, ◌*◌, ◌<◌, ◌≤◌};
-ghost use Rattle.records.specs.Record.{record_size};
+ghost use Rattle.std.specs.Prelude.{◌≤◌};
 
-use crate::book::{NUMBERS_BY_HAND, numbered};
-use crate::digest::{adler, step};
-use crate::engines::{WHOLE, through};
-use crate::looks;
-use crate::luck::{draw, fill};
-use crate::outcomes::{BEFORE, Outcome, REPLY_ROOM, Reply, TABLE, compared, head_of, of, refused};
-use crate::world::World;
-use clock_state::STATE_SIZE;
+use crate::digest::Digested;
+use crate::engines::whole;
+use crate::luck::Luck;
+use crate::outcomes::{BEFORE, Head, Loan, Outcome, REPLY_ROOM, Reply, Table};
+use crate::world::{Monitors, World};
 use records::RECORD_SIZE;
-use std::num::wrapping_sub_usize;
 
-// When a table is lent: with byte four this is 1, with another byte 0.
-const RELEASE: usize = 2;
+// What is wrong with the tables that are lent.
+#[derive(Clone, Copy)]
+enum Way {
+    Right,
+    // There is none with the bytes where it matters not.
+    NoneElsewhere,
+    // With byte four it has another N, or is unsound.
+    AnotherAtFour,
+    UnsoundAtFour,
+    // The same at the release.
+    AnotherAtRelease,
+    UnsoundAtRelease,
+}
 
-// How many bytes of the table are lent, in one of eight ways.
-fn lent(way: usize, time: usize, n: usize) -> usize
-    requires { (way < 8) × (0 < n) × (n ≤ 32) }
-    ensures { result ≤ 32 * record_size + 1 }
-{
-    match 3 * way + time % 3 {
-        // another N at the release, or with byte four
-        5 | 16 => if n == 1 {
-            2 * RECORD_SIZE
-        } else {
-            RECORD_SIZE * n - RECORD_SIZE
-        },
-        // an unsound table with byte four, or at the release
-        7 | 14 => RECORD_SIZE * n + 1,
-        // none with the other bytes, which matter not
-        9 => 0,
-        _ => RECORD_SIZE * n,
+// When a table is lent.
+#[derive(Clone, Copy)]
+enum Time {
+    ByteFour,
+    AnotherByte,
+    Release,
+}
+
+impl Way {
+    fn draw(luck: &mut Luck) -> Way {
+        match luck.draw(8) {
+            1 => Way::AnotherAtRelease,
+            2 => Way::UnsoundAtFour,
+            3 => Way::NoneElsewhere,
+            4 => Way::UnsoundAtRelease,
+            5 => Way::AnotherAtFour,
+            _ => Way::Right,
+        }
+    }
+
+    // How many bytes of the table are lent.
+    fn lent(self, time: Time, monitors: Monitors) -> usize
+        ensures { result ≤ 5441 }
+    {
+        let n = monitors.n;
+        match (self, time) {
+            (Way::AnotherAtFour, Time::ByteFour) | (Way::AnotherAtRelease, Time::Release) => {
+                let another = if n == 1 { 2 } else { n - 1 };
+                RECORD_SIZE * another
+            }
+            (Way::UnsoundAtFour, Time::ByteFour) | (Way::UnsoundAtRelease, Time::Release) => {
+                RECORD_SIZE * n + 1
+            }
+            (Way::NoneElsewhere, Time::AnotherByte) => 0,
+            _ => RECORD_SIZE * n,
+        }
+    }
+
+    // What is to come of it: the same as of the whole frame; or refusal 1, or 2 of a sound table before byte four.
+    fn due(self, table: &Table, monitors: Monitors, frame: &[u8]) -> Outcome {
+        match self {
+            Way::AnotherAtFour | Way::UnsoundAtFour | Way::AnotherAtRelease => {
+                Outcome::refused(table, if frame.len() < 4 { 2 } else { 1 })
+            }
+            Way::UnsoundAtRelease => Outcome::refused(table, 1),
+            Way::Right | Way::NoneElsewhere => {
+                let loan = Loan {
+                    size: RECORD_SIZE * monitors.n,
+                    room: REPLY_ROOM,
+                };
+                whole(loan, table, frame)
+            }
+        }
     }
 }
 
-// What is to come of it: the same as of the whole frame; or refusal 1, or 2 of a sound table before byte four.
-fn due(table: Outcome, way: usize, n: usize, frame: &[u8]) -> Outcome
-    requires { n ≤ 32 }
-{
-    match way {
-        1 | 2 | 5 => if frame.len() < 4 {
-            refused(table, 2)
-        } else {
-            refused(table, 1)
-        },
-        4 => refused(table, 1),
-        _ => through(WHOLE, table, RECORD_SIZE * n, 0, frame, REPLY_ROOM),
+impl World {
+    // Now and then a frame by hand.
+    pub(crate) fn now_and_then_by_hand(&mut self, frame: &[u8]) {
+        if self.luck.once_in(2) {
+            self.give_up();
+            let way = Way::draw(&mut self.luck);
+            let due = way.due(&self.table, self.monitors, frame);
+            let back = self.clock(way, frame);
+            let came = self.release(way, &back);
+            came.add_to(&mut self.by_hand);
+            self.book.by_hand.add(came.head.number);
+            self.book.compare(came == due);
+        }
     }
-}
 
-// Byte i, counted from 0, with so many bytes of a table. What it answers after byte four goes to the buffer, as far as that has room.
-fn clock_one(mut w: World, table: Outcome, size: usize, i: usize, byte: u8) -> World
-    requires { size ≤ 32 * record_size + 1 }
-{
-    let end = TABLE + size;
-    let mut state = w.state;
-    let answer = clocking::clock(&mut state, &table[TABLE..end], byte);
-    w.state = state;
-    w.by_hand = step(w.by_hand, answer);
-    let place = wrapping_sub_usize(i, 4);
-    if place < REPLY_ROOM {
-        w.back[place] = answer;
+    // The state is as the last release left it; now and then a frame that had begun is given up.
+    fn give_up(&mut self) {
+        if self.luck.once_in(4) {
+            self.luck.fill(&mut self.state);
+            clock_state::start(&mut self.state);
+        }
     }
-    w
-}
 
-fn clock_all(world: World, table: Outcome, way: usize, n: usize, frame: &[u8]) -> World
-    requires { (way < 8) × (0 < n) × (n ≤ 32) }
-{
-    let mut w = world;
-    let mut i = 0;
-    while i < frame.len() {
-        w = clock_one(w, table, lent(way, (i == 3) as usize, n), i, frame[i]);
-        w = looks::now_and_then(w, n);
-        i += 1;
+    // What the bytes after byte four answer, as far as the buffer has room.
+    fn clock(&mut self, way: Way, frame: &[u8]) -> Reply {
+        let mut back = BEFORE;
+        for (i, byte) in frame.iter().enumerate() {
+            let time = if i == 3 {
+                Time::ByteFour
+            } else {
+                Time::AnotherByte
+            };
+            let size = way.lent(time, self.monitors);
+            let answer = clocking::clock(&mut self.state, &self.table[..size], *byte);
+            self.by_hand.add(&[answer]);
+            if let Some(place) = i.checked_sub(4)
+                && let Some(slot) = back.get_mut(place)
+            {
+                *slot = answer;
+            }
+            self.now_and_then_look();
+        }
+        back
     }
-    w
-}
 
-// What comes of the release, with so many bytes of the table, and what is due. What was answered after byte four is a reply only where a read
-// is accepted.
-fn released(mut w: World, before: Outcome, size: usize, due: Outcome) -> World
-    requires { size ≤ 32 * record_size + 1 }
-{
-    let mut table = before;
-    let end = TABLE + size;
-    let mut state = w.state;
-    let came = chain::numbers_of(releasing::release(&mut state, &mut table[TABLE..end]));
-    w.state = state;
-    if came.reply == 0 {
-        w.back = BEFORE;
+    // What was answered after byte four is a reply only where a read is accepted.
+    fn release(&mut self, way: Way, back: &Reply) -> Outcome {
+        let mut table = self.table;
+        let size = way.lent(Time::Release, self.monitors);
+        let head = Head::from(releasing::release(&mut self.state, &mut table[..size]));
+        let reply = if head.length == 0 { BEFORE } else { *back };
+        Outcome { head, table, reply }
     }
-    let back = w.back;
-    weighed_by_hand(w, of(table, head_of(came), back), due)
-}
-
-// To the digest, and compared with what is due.
-fn weighed_by_hand(mut w: World, one: Outcome, due: Outcome) -> World {
-    w.by_hand = adler(w.by_hand, &one);
-    compared(numbered(w, NUMBERS_BY_HAND, 6, one[0]), &one, &due)
-}
-
-// The state is as the last release left it; now and then a frame that had begun is given up.
-fn given_up(mut w: World) -> World {
-    let chance = draw(w.luck, 4);
-    w.luck = chance.luck;
-    if chance.number != 0 {
-        return w;
-    }
-    let mut state = w.state;
-    w.luck = fill(&mut state, w.luck);
-    clock_state::start(&mut state);
-    w.state = state;
-    w
-}
-
-// Now and then a frame by hand.
-pub(crate) fn now_and_then(mut w: World, n: usize, frame: &[u8]) -> World
-    requires { (0 < n) × (n ≤ 32) }
-{
-    let chance = draw(w.luck, 2);
-    w.luck = chance.luck;
-    if chance.number != 0 {
-        return w;
-    }
-    let mut w = given_up(w);
-    let way = draw(w.luck, 8);
-    w.luck = way.luck;
-    w.back = BEFORE;
-    let table = w.table;
-    let due = due(table, way.number, n, frame);
-    let w = clock_all(w, table, way.number, n, frame);
-    released(w, table, lent(way.number, RELEASE, n), due)
 }

@@ -8,92 +8,72 @@ mod asleep;
 mod beats;
 mod book;
 mod by_hand;
+mod commands;
+mod counts;
 mod digest;
 mod engines;
 mod frames;
-mod lay;
 mod looks;
 mod luck;
 mod outcomes;
 mod questions;
-mod say;
 mod tables;
 mod world;
 
-ghost use Rattle.std.specs.Prelude.{◌<◌, ◌≤◌};
+use crate::commands::Command;
+use crate::frames::Frame;
+use crate::world::{Monitors, World};
+use std::alloc::AllocError;
+use std::io;
 
-use crate::book::{BOOK_SIZE, COMMAND_COUNT};
-use crate::frames::LONGEST;
-use crate::luck::{SEED, draw};
-use crate::outcomes::{BEFORE, REPLY, REPLY_ROOM};
-use crate::world::World;
-use clock_state::STATE_SIZE;
-
-// The frames for each N.
+// The frames for each chain.
 const TURNS: usize = 1200;
 
-// A frame at the start of an array, now and then by hand, and through both engines.
-fn sent(w: World, n: usize, command: usize, bytes: [u8; LONGEST], length: usize) -> World
-    requires { (0 < n) × (n ≤ 32) × (length ≤ 600) }
-{
-    let frame = &bytes[0..length];
-    engines::both(by_hand::now_and_then(w, n, frame), n, command, frame)
-}
+// More bytes than a count in 16 bits holds: it would come round to 0.
+const ENDLESS: usize = 65536;
 
-// One frame, and what may come between two.
-fn turn(world: World, n: usize) -> World
-    requires { (0 < n) × (n ≤ 32) }
-{
-    let mut w = tables::now_and_then_stirred(world, 2);
-    let made = frames::make(n, w.luck);
-    let bytes = made.bytes;
-    w.luck = made.luck;
-    tables::now_and_then_loaded(sent(w, n, made.command, bytes, made.length), n)
-}
-
-// The longest frame that is lent: of 65536 bytes, a count of which in 16 bits would come round to 0.
-fn endless(mut w: World, n: usize) -> World
-    requires { (0 < n) × (n ≤ 32) }
-{
-    let command = draw(w.luck, COMMAND_COUNT);
-    let mut frame = io::large_buffer();
-    w.luck = frames::start(&mut frame, command.number, command.luck);
-    engines::both(w, n, command.number, &frame)
-}
-
-// All the frames for an N.
-fn run(world: World, n: usize) -> World
-    requires { (0 < n) × (n ≤ 32) }
-{
-    let mut w = tables::new(world, n);
-    let mut i = 0;
-    while i < TURNS {
-        w = turn(w, n);
-        i += 1;
+impl World {
+    // One frame, now and then by hand, and through both engines; and what may come between two.
+    fn turn(&mut self) -> Result<(), AllocError> {
+        self.now_and_then_stir(2);
+        let frame = Frame::draw(self.alloc, self.monitors.n, &mut self.luck)?;
+        self.now_and_then_by_hand(&frame.bytes);
+        self.both(frame.command, &frame.bytes)?;
+        self.now_and_then_load();
+        Ok(())
     }
-    let w = endless(w, n);
-    let book = w.book;
-    say::counts(book);
-    w
+
+    // The longest frame that is lent.
+    fn endless(&mut self) -> Result<(), AllocError> {
+        let command = Command::draw_evenly(&mut self.luck);
+        let mut bytes = vec![in self.alloc; 0; ENDLESS]?;
+        frames::begin(&mut bytes, command, &mut self.luck);
+        self.both(command, &bytes)
+    }
+
+    // All the frames for a chain.
+    fn play(&mut self, monitors: Monitors) -> Result<(), AllocError> {
+        self.begin(monitors);
+        for _ in 0..TURNS {
+            self.turn()?;
+        }
+        self.endless()
+    }
 }
 
-fn main() {
-    let mut state = [0; STATE_SIZE];
-    clock_state::start(&mut state);
-    let w = World {
-        luck: SEED,
-        whole: 1,
-        clocked: 1,
-        by_hand: 1,
-        book: [0; BOOK_SIZE],
-        table: [0; REPLY + REPLY_ROOM],
-        state,
-        back: BEFORE,
-    };
-    let w = run(w, 1);
-    let w = run(w, 2);
-    let w = run(w, 3);
-    let w = run(w, 31);
-    let w = run(w, 32);
-    say::digests(w);
+fn run(rt: &(impl Print + AllocGlobal)) -> io::Result<()> {
+    let mut world = World::new(rt.alloc());
+    for n in [1, 2, 3, 31, 32] {
+        world.play(Monitors { n })?;
+        print!(rt; "{}", world.book)?;
+    }
+    println!(rt;
+        "digests: whole frames {}, clocked {}, by hand {}",
+        world.whole, world.clocked, world.by_hand
+    )
+}
+
+// What cannot be printed is missing, and that shows.
+fn main(rt: HostRuntime) {
+    let _ = run(&rt);
 }

@@ -1,56 +1,149 @@
-// What comes of a frame, as bytes: its numbers, the table, and the reply buffer, all of them whole.
-use crate::book::{DIFFERENCES, count};
-use crate::digest::adler;
-use crate::lay::lay;
-use crate::world::World;
-use chain::Numbers;
-use records::RECORD_SIZE;
+// What comes of a frame or of an operation: its numbers, the table, and the reply buffer, all of them whole.
+ghost use Rattle.std.specs.Prelude.{◌≤◌};
 
-// The numbers, and where the table starts: 32 records and one byte more.
-pub(crate) const TABLE: usize = 4;
+use crate::digest::{Digest, Digested};
+use chain::{Answer, numbers_of};
+use passing::{End, Relayed, TimedOut};
+use records::{MOST_MONITORS, RECORD_SIZE};
+use refusals::Refusal;
 
-pub(crate) const REPLY: usize = TABLE + 32 * RECORD_SIZE + 1;
+// 32 records and one byte more.
+pub(crate) const TABLE_SIZE: usize = MOST_MONITORS * RECORD_SIZE + 1;
+
+pub(crate) type Table = [u8; TABLE_SIZE];
 
 pub(crate) const REPLY_ROOM: usize = 272;
 
 pub(crate) type Reply = [u8; REPLY_ROOM];
 
-pub(crate) type Outcome = [u8; REPLY + REPLY_ROOM];
-
 // What a reply buffer holds before.
 pub(crate) const BEFORE: Reply = [0xa5; REPLY_ROOM];
 
-// Four bytes of what came: the number, how many monitors took the frame, the length of the reply in two bytes, the lower one first. No frame
-// comes to 255: that shows a count which its bytes cannot hold.
-pub(crate) fn head_of(came: Numbers) -> usize {
-    let mut number = came.number as usize;
-    if came.taken / 256 + came.reply / 65536 != 0 {
-        number = 255;
+// How many bytes a message has that an operation hands out.
+const MESSAGE_SIZE: u16 = 8;
+
+// The number that it came to; how many monitors took the frame, or what an operation answered; and how many bytes were handed out.
+#[derive(Clone, Copy, PartialEq, Eq)]
+pub(crate) struct Head {
+    pub number: u8,
+    pub first: u8,
+    pub length: u16,
+}
+
+impl Head {
+    fn refused(number: u8) -> Head {
+        Head {
+            number,
+            first: 0,
+            length: 0,
+        }
     }
-    number << 24 | came.taken % 256 << 16 | came.reply % 256 << 8 | came.reply / 256 % 256
+
+    fn answered(first: u8, length: u16) -> Head {
+        Head {
+            number: 0,
+            first,
+            length,
+        }
+    }
 }
 
-// The outcome with the table of another.
-pub(crate) fn of(other: Outcome, head: usize, reply: Reply) -> Outcome {
-    let mut all = other;
-    lay(&mut all, 0, TABLE, head);
-    laying::put(&mut all, REPLY, &reply);
-    all
+// No frame comes to 255: that shows a count which its bytes cannot hold.
+impl From<Result<Answer, Refusal>> for Head {
+    fn from(came: Result<Answer, Refusal>) -> Head {
+        let numbers = numbers_of(came);
+        let first = u8::try_from(numbers.taken);
+        let length = u16::try_from(numbers.reply);
+        match (first, length) {
+            (Ok(first), Ok(length)) => Head {
+                number: numbers.number,
+                first,
+                length,
+            },
+            _ => Head::refused(255),
+        }
+    }
 }
 
-// A refusal changes nothing.
-pub(crate) fn refused(other: Outcome, number: u8) -> Outcome {
-    of(other, (number as usize) << 24, BEFORE)
+impl From<Result<Option<End>, Refusal>> for Head {
+    fn from(came: Result<Option<End>, Refusal>) -> Head {
+        match came {
+            Err(refusal) => Head::refused(refusals::number_of(refusal)),
+            Ok(None) => Head::answered(0, 0),
+            Ok(Some(End::A)) => Head::answered(1, MESSAGE_SIZE),
+            Ok(Some(End::B)) => Head::answered(2, MESSAGE_SIZE),
+        }
+    }
 }
 
-// Counts a difference in any byte.
-pub(crate) fn compared(w: World, one: &[u8], other: &[u8]) -> World {
-    count(w, DIFFERENCES, !check::same(one, other) as usize)
+impl From<Result<Relayed, Refusal>> for Head {
+    fn from(came: Result<Relayed, Refusal>) -> Head {
+        match came {
+            Err(refusal) => Head::refused(refusals::number_of(refusal)),
+            Ok(Relayed::Stopped) => Head::answered(0, 0),
+            Ok(Relayed::SentOn) => Head::answered(1, MESSAGE_SIZE),
+        }
+    }
 }
 
-// What comes of the two engines: to the digest of each, and compared.
-pub(crate) fn weighed(mut w: World, one: &[u8], other: &[u8]) -> World {
-    w.whole = adler(w.whole, one);
-    w.clocked = adler(w.clocked, other);
-    compared(w, one, other)
+impl From<Result<TimedOut, Refusal>> for Head {
+    fn from(came: Result<TimedOut, Refusal>) -> Head {
+        match came {
+            Err(refusal) => Head::refused(refusals::number_of(refusal)),
+            Ok(TimedOut::NoTimeoutMonitor) => Head::answered(0, 0),
+            Ok(TimedOut::RanOut) => Head::answered(1, 0),
+        }
+    }
+}
+
+#[derive(Clone, Copy, PartialEq, Eq)]
+pub(crate) struct Outcome {
+    pub head: Head,
+    pub table: Table,
+    pub reply: Reply,
+}
+
+impl Outcome {
+    // A refusal changes nothing.
+    pub(crate) fn refused(table: &Table, number: u8) -> Outcome {
+        Outcome {
+            head: Head::refused(number),
+            table: *table,
+            reply: BEFORE,
+        }
+    }
+}
+
+// All of its bytes, of the length the lower one first.
+impl Digested for Outcome {
+    fn add_to(&self, digest: &mut Digest) {
+        digest.add(&[self.head.number, self.head.first]);
+        digest.add(&self.head.length.to_le_bytes());
+        digest.add(&self.table);
+        digest.add(&self.reply);
+    }
+}
+
+// How many bytes are lent, of a table and of a reply buffer.
+#[derive(Clone, Copy)]
+pub(crate) struct Loan {
+    pub size: usize,
+    pub room: usize,
+    ghost in_range: { (size ≤ 5441) × (room ≤ 272) },
+}
+
+impl Loan {
+    // What comes of an engine, or of an operation, over the bytes that are lent.
+    pub(crate) fn through<F: FnOnce(&mut [u8], &mut [u8]) -> Head>(
+        self,
+        before: &Table,
+        run: F,
+    ) -> Outcome
+        requires { F.IsAlwaysCallable run }
+    {
+        let mut table = *before;
+        let mut reply = BEFORE;
+        let head = run(&mut table[..self.size], &mut reply[..self.room]);
+        Outcome { head, table, reply }
+    }
 }

@@ -1,61 +1,62 @@
 // After a frame: the question about one monitor's discharge, put to both engines' tables.
-ghost use Rattle.std.specs.Prelude.{◌+◌, ◌*◌, ◌≤◌};
-ghost use Rattle.records.specs.Record.{record_size};
+ghost use Rattle.std.specs.Prelude.{◌≤◌};
 
-use crate::book::{OUTPUTS, QUESTIONS, count, numbered};
-use crate::luck::draw;
-use crate::outcomes::{Outcome, TABLE, weighed};
+use crate::digest::{Digest, Digested};
+use crate::outcomes::Table;
 use crate::world::World;
-use discharge::Discharged;
 use priorities::Events;
+use records::CELL_COUNT;
 
 // What is answered: how many outputs are on, or the number and 0x80; and the whole buffer.
-type Answer = [u8; 25];
+#[derive(Clone, Copy, PartialEq, Eq)]
+struct Answer {
+    first: u8,
+    outputs: [u8; 24],
+}
+
+impl Digested for Answer {
+    fn add_to(&self, digest: &mut Digest) {
+        digest.add(&[self.first]);
+        digest.add(&self.outputs);
+    }
+}
 
 // The events, the phase, 0 to 16, and the room, 14 to 24 bytes, are remainders of the way by numbers that have no common divisor.
-fn ask(table: &[u8], position: usize, way: usize, out: &mut [u8]) -> u8 {
+fn ask(table: &[u8], position: usize, way: usize) -> Answer {
     let events = Events {
         shutdown: way % 7 == 0,
         measurement: way % 3 == 0,
         wrcfgb: way % 5 == 0,
         wrpwm: way % 4 == 0,
     };
-    match discharge::discharge(table, position, events, (way % 17) as u8, out) {
-        Discharged::Refused(refusal) => refusals::number_of(refusal) | 0x80,
-        Discharged::On(on) => (on % 128) as u8,
+    let phase = (way % 17) as u8;
+    let room = 14 + way % 11;
+    let mut outputs = [0xa5; 24];
+    let first = match discharge::discharge(table, position, events, phase, &mut outputs[..room]) {
+        Ok(on) => u8::try_from(on).unwrap_or(u8::MAX),
+        Err(refusal) => refusals::number_of(refusal) | 0x80,
+    };
+    Answer { first, outputs }
+}
+
+impl World {
+    // At times of no monitor of the chain.
+    pub(crate) fn ask(&mut self, size: usize, one: &Table, other: &Table)
+        requires { size ≤ 5441 }
+    {
+        let way = self.luck.draw(65536);
+        let position = way / 8 % (self.monitors.n + 2);
+        let one = ask(&one[..size], position, way);
+        let other = ask(&other[..size], position, way);
+        self.weigh(&one, &other);
+        self.note_outputs(one);
     }
-}
 
-fn answer(lent: Outcome, size: usize, position: usize, way: usize) -> Answer
-    requires { size ≤ 32 * record_size + 1 }
-{
-    let end = TABLE + size;
-    let room = 15 + way % 11;
-    let mut all = [0xa5; 25];
-    all[0] = ask(&lent[TABLE..end], position, way, &mut all[1..room]);
-    all
-}
-
-// What became of it. Since 0x80 is 121 and 7 more, an output that is on comes seven places after one that its row leaves off; and the
-// bytes of a buffer that stayed as it was come to no place.
-fn told(world: World, answer: Answer) -> World {
-    let mut w = numbered(world, QUESTIONS, 1, answer[0] / 128);
-    let mut i = 1;
-    while i < 17 {
-        w = count(w, OUTPUTS + (answer[i] % 121) as usize, 1);
-        i += 1;
+    // A buffer that stayed as it was has no row.
+    fn note_outputs(&mut self, answer: Answer) {
+        self.book.questions.add(answer.first < 0x80);
+        for output in &answer.outputs[..CELL_COUNT] {
+            self.book.outputs.add(*output);
+        }
     }
-    w
-}
-
-// At times of no monitor of the chain.
-pub(crate) fn asked(mut w: World, n: usize, size: usize, one: Outcome, other: Outcome) -> World
-    requires { (n ≤ 32) × (size ≤ 32 * record_size + 1) }
-{
-    let way = draw(w.luck, 65536);
-    w.luck = way.luck;
-    let position = way.number / 8 % (n + 2);
-    let a = answer(one, size, position, way.number);
-    let b = answer(other, size, position, way.number);
-    told(weighed(w, &a, &b), a)
 }

@@ -1,21 +1,57 @@
 // What goes on from frame to frame.
-use crate::book::Book;
-use crate::outcomes::{Outcome, Reply};
-use clock_state::STATE_SIZE;
+ghost use Rattle.std.specs.Prelude.{◌<◌, ◌≤◌};
 
+use crate::book::Book;
+use crate::digest::{Digest, Digested};
+use crate::luck::Luck;
+use crate::outcomes::{TABLE_SIZE, Table};
+use clock_state::STATE_SIZE;
+use std::alloc::Global;
+
+// How many monitors the chain has.
 #[derive(Clone, Copy)]
+pub(crate) struct Monitors {
+    pub n: usize,
+    ghost in_range: { (0 < n) × (n ≤ 32) },
+}
+
+#[derive(Drop)]
 pub(crate) struct World {
-    // The generator's last number.
-    pub luck: usize,
-    // The digests: of the whole-frame engine, of the clocked engine as it drives itself, and of the one clocked by hand.
-    pub whole: usize,
-    pub clocked: usize,
-    pub by_hand: usize,
-    // The counts of this N.
-    pub book: Book,
-    // The table, in the last outcome.
-    pub table: Outcome,
-    // The clocked engine's, when clocked by hand; and what the bytes after the fourth answered.
+    pub alloc: Global,
+    pub luck: Luck,
+    // Of the whole-frame engine, of the clocked engine as it drives itself, and of the one clocked by hand.
+    pub whole: Digest,
+    pub clocked: Digest,
+    pub by_hand: Digest,
+    // The clocked engine's, when clocked by hand.
     pub state: [u8; STATE_SIZE],
-    pub back: Reply,
+    pub monitors: Monitors,
+    // The counts of this chain.
+    pub book: Book,
+    pub table: Table,
+}
+
+impl World {
+    pub(crate) fn new(alloc: Global) -> World {
+        let mut state = [0; STATE_SIZE];
+        clock_state::start(&mut state);
+        World {
+            alloc,
+            luck: Luck::new(),
+            whole: Digest::new(),
+            clocked: Digest::new(),
+            by_hand: Digest::new(),
+            state,
+            monitors: Monitors { n: 1 },
+            book: Book::default(),
+            table: [0; TABLE_SIZE],
+        }
+    }
+
+    // What comes of the two engines: to the digest of each, and compared.
+    pub(crate) fn weigh<T: Digested + PartialEq>(&mut self, one: &T, other: &T) {
+        one.add_to(&mut self.whole);
+        other.add_to(&mut self.clocked);
+        self.book.compare(one == other);
+    }
 }

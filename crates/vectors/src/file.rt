@@ -1,41 +1,59 @@
-// What stands at a place of the file. Numbers have their high byte first.
-ghost use Rattle.std.specs.Prelude.{◌≡◌, ◌+◌, ◌*◌, ◌-◌, ◌≤◌, length};
+// What is left of the file. Numbers have their high byte first.
+use std::io;
+use thiserror::Error;
 
-// How many bytes the file has from `at` on: none where it ends before.
-pub(crate) fn left(file: &[u8], at: usize) -> usize
-    ensures { result ≡ length file.now - at }
-{
-    if at < file.len() { file.len() - at } else { 0 }
+// Why nothing more is said: of the file, or because nothing more can be.
+#[derive(Debug, Drop, Error)]
+pub(crate) enum Stop {
+    #[error("ends early")]
+    EndsEarly,
+    #[error("longer than {MOST_BYTES} bytes, not looked at")]
+    TooLong,
+    #[error(transparent)]
+    Output(#[from] io::Error),
 }
 
-pub(crate) fn u16_at(file: &[u8], at: usize) -> u16
-    requires { at + 2 ≤ length file.now }
-{
-    u16_of(file[at], file[at + 1])
+pub(crate) const MOST_BYTES: usize = 32768;
+
+#[derive(Drop)]
+pub(crate) struct File<'a> {
+    left: &'a [u8],
 }
 
-pub(crate) fn u64_at(file: &[u8], at: usize) -> u64
-    requires { at + 8 ≤ length file.now }
-{
-    let high = u32_of(u16_at(file, at), u16_at(file, at + 2));
-    let low = u32_of(u16_at(file, at + 4), u16_at(file, at + 6));
-    u64_of(high, low)
-}
+impl<'a> File<'a> {
+    pub(crate) fn new(bytes: &'a [u8]) -> File<'a> {
+        File { left: bytes }
+    }
 
-pub(crate) fn u16_of(high: u8, low: u8) -> u16
-    ensures { result ≡ high * 256 + low }
-{
-    (high as u16) * 256 + low as u16
-}
+    pub(crate) fn is_at_end(&self) -> bool {
+        self.left.is_empty()
+    }
 
-fn u32_of(high: u16, low: u16) -> u32
-    ensures { result ≡ high * 65536 + low }
-{
-    (high as u32) * 65536 + low as u32
-}
+    pub(crate) fn bytes(&mut self, count: usize) -> Result<&'a [u8], Stop> {
+        let Some((bytes, left)) = self.left.split_at_checked(count) else {
+            return Err(Stop::EndsEarly);
+        };
+        self.left = left;
+        Ok(bytes)
+    }
 
-fn u64_of(high: u32, low: u32) -> u64
-    ensures { result ≡ high * 4294967296 + low }
-{
-    (high as u64) * 4294967296 + low as u64
+    pub(crate) fn array<const SIZE: usize>(&mut self) -> Result<[u8; SIZE], Stop> {
+        let Some((bytes, left)) = self.left.split_first_chunk() else {
+            return Err(Stop::EndsEarly);
+        };
+        self.left = left;
+        Ok(*bytes)
+    }
+
+    pub(crate) fn u8(&mut self) -> Result<u8, Stop> {
+        Ok(u8::from_be_bytes(self.array()?))
+    }
+
+    pub(crate) fn u16(&mut self) -> Result<u16, Stop> {
+        Ok(u16::from_be_bytes(self.array()?))
+    }
+
+    pub(crate) fn u64(&mut self) -> Result<u64, Stop> {
+        Ok(u64::from_be_bytes(self.array()?))
+    }
 }

@@ -3,66 +3,71 @@
 #![tactic(auto)]
 
 mod commands;
+mod count;
+mod data;
 mod file;
 mod payloads;
-mod say;
 mod strings;
 
-// The number of standard input among the process's open files.
-const STDIN_FILENO: i32 = 0;
-
-// One more where `right`. No count here comes near the largest number: the test only spares each caller a bound.
-pub(crate) fn count(n: u64, right: bool) -> u64 {
-    if right {
-        if n < u64::MAX {
-            return n + 1;
-        }
-    }
-    n
-}
+use crate::commands::{Commands, Compared};
+use crate::data::Kind;
+use crate::file::{File, MOST_BYTES, Stop};
+use crate::payloads::Payloads;
+use crate::strings::Strings;
+use std::alloc::Global;
+use std::io;
+use std::io::{BufReader, Read};
 
 // Each part starts where the one before it ended, so where the file ends early there is nothing more to go by.
-fn report(file: &[u8]) {
-    let s = strings::all(file);
-    strings::summary(s);
-    if s.short {
-        say::text(b"file: ends early\n");
-        return;
-    }
-    let p = payloads::all(file, 6, s.at);
-    payloads::summary(b"payloads: ", p);
-    if p.short {
-        say::text(b"file: ends early\n");
-        return;
-    }
-    let q = payloads::all(file, 2, p.at);
-    payloads::summary(b"pairs: ", q);
-    if q.short {
-        say::text(b"file: ends early\n");
-        return;
-    }
-    let end = q.at;
-    let left = file::left(file, end);
-    if left < 8 {
-        say::text(b"file: ends early\n");
-        return;
-    }
-    commands::summary(commands::all(), file::u64_at(file, end));
-    if left == 8 {
-        say::text(b"file: read to its end, no bytes left over\n");
+fn report(rt: &impl Print, alloc: Global, file: &mut File) -> Result<(), Stop> {
+    let mut strings = Strings::default();
+    let whole = strings.compare_all(file);
+    println!(rt; "{strings}")?;
+    whole?;
+    let mut payloads = Payloads::default();
+    let whole = payloads.compare_all(alloc, Kind::Payload, file);
+    println!(rt; "payloads: {payloads}")?;
+    whole?;
+    let mut pairs = Payloads::default();
+    let whole = pairs.compare_all(alloc, Kind::Pair, file);
+    println!(rt; "pairs: {pairs}")?;
+    whole?;
+    let expected = file.u64()?;
+    let commands = Commands::all();
+    println!(rt; "{}", Compared { commands, expected })?;
+    if file.is_at_end() {
+        println!(rt; "file: read to its end, no bytes left over")?;
     } else {
-        say::text(b"file: has bytes left over\n");
+        println!(rt; "file: has bytes left over")?;
     }
+    Ok(())
 }
 
-fn main() {
-    let mut buffer = [0u8; 32768];
-    let n = io::read_full(STDIN_FILENO, &mut buffer);
-    // Where the buffer is full, only one read more tells whether that was all.
-    let mut next = [0u8; 1];
-    if io::read_full(STDIN_FILENO, &mut next) > 0 {
-        say::text(b"file: longer than 32768 bytes, not looked at\n");
-        return;
+// The input up to its end, and not much more than is looked at. A read that fails is its end.
+fn read(rt: &(impl Input + AllocGlobal)) -> io::Result<Vec<u8>> {
+    let bytes = BufReader::new(rt.alloc(), rt.reader())?.bytes();
+    Ok(
+        bytes
+            .take(MOST_BYTES + 1)
+            .map_while(|byte| byte.ok())
+            .collect(rt.alloc())?,
+    )
+}
+
+fn run(rt: &(impl Print + Input + AllocGlobal)) -> Result<(), Stop> {
+    let bytes = read(rt)?;
+    if bytes.len() > MOST_BYTES {
+        return Err(Stop::TooLong);
     }
-    report(&buffer[..n]);
+    report(rt, rt.alloc(), &mut File::new(&bytes))
+}
+
+// The status is 0 also where a line could not be written.
+fn main(rt: HostRuntime) {
+    match run(&rt) {
+        Ok(()) | Err(Stop::Output(_)) => {}
+        Err(stop) => {
+            let _ = println!(rt; "file: {stop}");
+        }
+    }
 }

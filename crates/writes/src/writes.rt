@@ -25,6 +25,24 @@ const ALL: [u8; 6] = [0xff; 6];
 
 const NONE: [u8; 6] = [0; 6];
 
+// What most writes do: their check is needed, and every bit becomes as sent. Each names its own place.
+const PLAIN: Rules = Rules {
+    needs_check: true,
+    only_unlocked: false,
+    at: 0,
+    stored: ALL,
+    kept: NONE,
+    clearable: NONE,
+    ones: NONE,
+};
+
+// The same where a write clears bits, and stores none.
+const CLEARING: Rules = Rules {
+    stored: NONE,
+    kept: ALL,
+    ..PLAIN
+};
+
 // The bits of an LPCM threshold register that are there: three thresholds of 12 bits.
 const THRESHOLDS: [u8; 6] = [0xff, 0xff, 0xff, 0xff, 0x0f, 0];
 
@@ -33,103 +51,56 @@ pub fn rules_of(what: Write) -> Rules
 {
     match what {
         Write::Wrcfga => Rules {
-            needs_check: true,
-            only_unlocked: false,
             at: CONFIGURATION_A,
             stored: [0x87, 0xff, 0xf8, 0xff, 0x03, 0x0f],
             kept: [0, 0, 0, 0, 0, 0x30],
-            clearable: NONE,
-            ones: NONE,
+            ..PLAIN
         },
         Write::Wrcfgb => Rules {
-            needs_check: true,
-            only_unlocked: false,
             at: CONFIGURATION_B,
-            stored: ALL,
-            kept: NONE,
-            clearable: NONE,
-            ones: NONE,
+            ..PLAIN
         },
         Write::Wrrr => Rules {
             needs_check: false,
             only_unlocked: true,
             at: RETENTION,
-            stored: ALL,
-            kept: NONE,
-            clearable: NONE,
-            ones: NONE,
+            ..PLAIN
         },
         Write::Clrflag => Rules {
-            needs_check: true,
-            only_unlocked: false,
             at: STATUS_C,
-            stored: NONE,
-            kept: ALL,
             clearable: [0xff, 0xff, 0, 0, 0xff, 0xdf],
-            ones: NONE,
+            ..CLEARING
         },
         Write::Clovuv => Rules {
-            needs_check: true,
-            only_unlocked: false,
             at: STATUS_D,
-            stored: NONE,
-            kept: ALL,
             clearable: [0xff, 0xff, 0xff, 0xff, 0, 0],
-            ones: NONE,
+            ..CLEARING
         },
-        Write::Wrpwma => Rules {
-            needs_check: true,
-            only_unlocked: false,
-            at: PWM_A,
-            stored: ALL,
-            kept: NONE,
-            clearable: NONE,
-            ones: NONE,
-        },
+        Write::Wrpwma => Rules { at: PWM_A, ..PLAIN },
         Write::Wrpwmb => Rules {
-            needs_check: true,
-            only_unlocked: false,
             at: PWM_B,
             stored: [0xff, 0xff, 0, 0, 0, 0],
-            kept: NONE,
-            clearable: NONE,
             ones: [0, 0, 0xff, 0xff, 0xff, 0xff],
+            ..PLAIN
         },
         Write::Wrcmcfg => Rules {
-            needs_check: true,
-            only_unlocked: false,
             at: LPCM_CONFIGURATION,
-            stored: ALL,
-            kept: NONE,
-            clearable: NONE,
-            ones: NONE,
+            ..PLAIN
         },
         Write::Wrcmcellt => Rules {
-            needs_check: true,
-            only_unlocked: false,
             at: LPCM_CELL_THRESHOLDS,
             stored: THRESHOLDS,
-            kept: NONE,
-            clearable: NONE,
-            ones: NONE,
+            ..PLAIN
         },
         Write::Wrcmgpiot => Rules {
-            needs_check: true,
-            only_unlocked: false,
             at: LPCM_GPIO_THRESHOLDS,
             stored: THRESHOLDS,
-            kept: NONE,
-            clearable: NONE,
-            ones: NONE,
+            ..PLAIN
         },
         Write::Clrcmflag => Rules {
-            needs_check: true,
-            only_unlocked: false,
             at: LPCM_FLAGS,
-            stored: NONE,
-            kept: ALL,
             clearable: [0xff, 0, 0, 0, 0, 0],
-            ones: NONE,
+            ..CLEARING
         },
     }
 }
@@ -138,25 +109,15 @@ pub fn rules_of(what: Write) -> Rules
 pub fn needs_check(what: Write) -> bool
     ensures { result ≡ (rules_of what).needs_check }
 {
-    let its = rules_of(what);
-    its.needs_check
+    rules_of(what).needs_check
 }
 
 // Does a write store six as they are sent?
 pub fn stores_whole(what: Write) -> bool
     ensures { result ≡ stores_whole what }
 {
-    match what {
-        Write::Wrcfga => false,
-        Write::Wrcfgb => true,
-        Write::Wrrr => true,
-        Write::Clrflag => false,
-        Write::Clovuv => false,
-        Write::Wrpwma => true,
-        Write::Wrpwmb => false,
-        Write::Wrcmcfg => true,
-        Write::Wrcmcellt => false,
-        Write::Wrcmgpiot => false,
-        Write::Clrcmflag => false,
-    }
+    matches!(
+        what,
+        Write::Wrcfgb | Write::Wrrr | Write::Wrpwma | Write::Wrcmcfg
+    )
 }

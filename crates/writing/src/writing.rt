@@ -8,6 +8,7 @@ use records::{RECORD_SIZE, Write, data_size};
 use writes::{Rules, rules_of, stores_whole};
 
 // One of a write's bytes by its rules, from what was sent and what it was.
+#[tactic(auto, unfolding(writes::specs::Writes::changed))]
 fn changed_byte(rules: Rules, sent: &[u8], i: usize, old: u8) -> u8
     requires { (i < 6) × (i < length sent.now) }
     ensures { result ≡ changed rules sent.now i old }
@@ -22,12 +23,9 @@ fn change(rec: &mut [u8], rules: Rules, sent: &[u8], size: usize)
     requires { (size ≤ 6) × (rules.at + size ≤ length rec.old) × (size ≤ length sent.now) }
     ensures { rec.new ≡ anew (changed rules sent.now) rules.at size rec.old }
 {
-    let at = rules.at;
-    let mut i = 0;
-    while i < size {
-        let place = at + i;
+    for i in 0..size {
+        let place = rules.at + i;
         rec[place] = changed_byte(rules, sent, i, rec[place]);
-        i += 1;
     }
 }
 
@@ -36,19 +34,15 @@ fn store(rec: &mut [u8], at: usize, sent: &[u8])
     requires { (at + 6 ≤ length rec.old) × (6 ≤ length sent.now) }
     ensures { rec.new ≡ anew (λ i old. get_or sent.now i 0 % 256) at 6 rec.old }
 {
-    let mut i = 0;
-    while i < 6 {
-        rec[at + i] = sent[i];
-        i += 1;
-    }
+    rec[at..at + 6].copy_from_slice(&sent[..6]);
 }
 
 // Does a write change something, by the retention byte before the command?
+#[tactic(auto, unfolding(writes::specs::Writes::opens))]
 fn opens_by(rules: Rules, was: u8) -> bool
     ensures { result ≡ opens rules was }
 {
-    let only = rules.only_unlocked;
-    if only { was == 1 } else { true }
+    !rules.only_unlocked || was == 1
 }
 
 // A taken write of the data bytes that were sent first. A slice that is no record stays as it is, and so does a record where fewer

@@ -1,14 +1,10 @@
 -- `cells::cells::code_in` meets its contract: two bytes of the part, and none past its end.
 -- Assumes nothing.
-use mathlib.Core.Path.{sym, ap, ap₂, ◌∙◌}
+use mathlib.Core.Path.{sym, ap₂}
 use Prim.Native.Nat.{ℕ, ◌+◌, ◌*◌}
 use native.Mathlib.Omega.{arith}
-use lib.IntN.{ℤ}
-use mir.Facts.{to_z-of_z}
-use mir.Syntax.{w32}
 use Rattle.records.specs.Record.{byte_in}
 use Rattle.records.proofs.Parts.{past_part}
-use Rattle.thresholds.specs.declared.thresholds.ResultCode.{ResultCode}
 use Rattle.thresholds.specs.Thresholds.{signed}
 use Rattle.cells.specs.Cells.{code_in}
 use Rattle.cells.proofs.cells.code_in.Goals as goal
@@ -20,11 +16,3 @@ returns-then-c-part c =
     let low = past_part a.part a.rec.now {i = 2 * a.c} (omega arith) in
     let high = past_part a.part a.rec.now {i = 2 * a.c + 1} (omega arith) in
     sym (ap₂ (λ (m n : ℕ). record { 0 = signed 16 (m + n * 256) }) low high)
-
-pub returns : goal.returns
-unfolding code_in
-returns c =
-    ap {B = ResultCode} (λ (z : ℤ). record { 0 = z })
-    (to_z-of_z {w = w32} (record { sfits = c.signed16.type_inv })
-    ∙ c.signed16.ensures
-    ∙ ap₂ (λ (m n : ℕ). signed 16 (m + n * 256)) c.byte_in-low.ensures c.byte_in-high.ensures)

@@ -1,5 +1,5 @@
 -- `cells::cells::compare` meets its contract: a loop that makes the flags' bytes anew. What a turn raises is what the record
--- as it came says, since the flags' bytes are no part of what is compared. The measure is what is left of them.
+-- as it came says, since the flags' bytes are no part of what is compared.
 -- Assumes nothing.
 use mathlib.Core.Path.{refl, ap, ◌∙◌}
 use mathlib.Core.List.{List}
@@ -31,9 +31,6 @@ loop-j-preserved c =
     making_more _ _ _ _ l.loop-j.invariant (omega arith)
     (ap (bit_or (get_or l.loop-j.rec (flags.at + j) 0))
     (c.flag_byte-raised.ensures ∙ ap (λ (r : List ℕ). flag_byte r j) l.loop-j.invariant.so_far ∙ flag_byte_stays _ j rec₀ j))
-
-pub shape_of-rec : goal.shape_of-rec
-shape_of-rec c = c.loop-j.invariant.size
 
 pub returns : goal.returns
 unfolding compare on_bytes

@@ -1,7 +1,6 @@
 -- `cells::cells::compare` meets its contract: a loop that makes the flags' bytes anew. What a turn raises is what the record
--- as it came says, since the flags' bytes are no part of what is compared. The measure is what is left of them.
+-- as it came says, since the flags' bytes are no part of what is compared.
 -- Assumes nothing.
-use Prim.Native.Nat.{◌-◌}
 use lib.Bits.{bit_or}
 use Rattle.records.specs.Record.{flags}
 use Rattle.records.proofs.Making.{Making}
@@ -11,6 +10,3 @@ use Rattle.cells.proofs.cells.compare.Given as goal
 abbrev pub invariant-loop-j : goal.invariant-loop-j
 invariant-loop-j l =
     Making (λ k old. bit_or old (flag_byte l.initial.rec k)) flags.at flags.size l.initial.rec l.rec l.j
-
-abbrev pub decreases-loop-j : goal.decreases-loop-j
-decreases-loop-j l = flags.size - l.j

@@ -1,46 +1,23 @@
 -- `cells::cells::flag_byte` meets its contract: the flags of a cell are at most 3, so those of four cells fit a byte.
 -- Assumes nothing.
-use mathlib.Core.Path.{ap₂, subst⁻¹}
-use Prim.Native.Nat.{ℕ, ◌+◌, ◌*◌, ◌≤◌}
+use mathlib.Core.Path.{◌≡◌, refl, ap, ◌∙◌}
 use native.Mathlib.Omega.{arith}
-use Rattle.cells.specs.Cells.{flag_byte}
-use Rattle.cells.proofs.Flags.{flags-at_most_three}
+use Rattle.cells.proofs.Flags.{first_flags, next_flags, all_flags}
 use Rattle.cells.proofs.cells.flag_byte.Goals as goal
 
--- the flags of the four cells, as the calls give them
-first : (c : goal.After-flags_of-fourth) → c.flags_of-first.result ≤ 3
-first c = subst⁻¹ (λ (n : ℕ). n ≤ 3) c.flags_of-first.ensures (flags-at_most_three _ _)
+pub overflow_add-flags : goal.overflow_add-flags
+overflow_add-flags c = record { fits = omega (arith, (next_flags c.args.rec.now c.args.j c.loop-k-test.true c.flags_of.ensures c.loop-k.invariant.0 c.loop-k.invariant.1).2) }
 
-second : (c : goal.After-flags_of-fourth) → c.flags_of-second.result ≤ 3
-second c = subst⁻¹ (λ (n : ℕ). n ≤ 3) c.flags_of-second.ensures (flags-at_most_three _ _)
+pub loop-k-init : goal.loop-k-init
+unfolding first_flags
+loop-k-init c = (refl, omega arith)
 
-third : (c : goal.After-flags_of-fourth) → c.flags_of-third.result ≤ 3
-third c = subst⁻¹ (λ (n : ℕ). n ≤ 3) c.flags_of-third.ensures (flags-at_most_three _ _)
-
-fourth : (c : goal.After-flags_of-fourth) → c.flags_of-fourth.result ≤ 3
-fourth c = subst⁻¹ (λ (n : ℕ). n ≤ 3) c.flags_of-fourth.ensures (flags-at_most_three _ _)
-
-pub overflow_mul-result : goal.overflow_mul-result
-overflow_mul-result c = omega (arith, first c, second c, third c, fourth c)
-
-pub overflow_add-result : goal.overflow_add-result
-overflow_add-result c = omega (arith, first c, second c, third c, fourth c)
-
-pub overflow_mul-result-2 : goal.overflow_mul-result-2
-overflow_mul-result-2 c = omega (arith, first c, second c, third c, fourth c)
-
-pub overflow_add-result-2 : goal.overflow_add-result-2
-overflow_add-result-2 c = omega (arith, first c, second c, third c, fourth c)
-
-pub overflow_mul-result-3 : goal.overflow_mul-result-3
-overflow_mul-result-3 c = omega (arith, first c, second c, third c, fourth c)
-
-pub overflow_add-result-3 : goal.overflow_add-result-3
-overflow_add-result-3 c = omega (arith, first c, second c, third c, fourth c)
+pub loop-k-preserved : goal.loop-k-preserved
+loop-k-preserved c =
+    let next = next_flags c.args.rec.now c.args.j c.loop-k-test.true c.flags_of.ensures c.loop-k.invariant.0 c.loop-k.invariant.1 in
+    (next.0, next.1)
 
 pub returns : goal.returns
-unfolding flag_byte
 returns c =
-    ap₂ (λ (m n : ℕ). m + n * 64)
-    (ap₂ (λ (m n : ℕ). m + n * 16) (ap₂ (λ (m n : ℕ). m + n * 4) c.flags_of-first.ensures c.flags_of-second.ensures) c.flags_of-third.ensures)
-    c.flags_of-fourth.ensures
+    let all : c.loop-k.k ≡ 4 = omega arith in
+    c.loop-k.invariant.0 ∙ ap (first_flags c.args.rec.now c.args.j) all ∙ all_flags _ _

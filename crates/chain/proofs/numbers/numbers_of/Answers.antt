@@ -6,9 +6,9 @@ use Rattle.chain.specs.declared.numbers.Numbers.{Numbers}
 use Rattle.chain.specs.Numbers.{numbers_of}
 use Rattle.chain.proofs.numbers.numbers_of.Goals as goal
 
-pub returns-in-Refused : goal.returns-in-Refused
-returns-in-Refused c =
-    ap {B = Numbers} (λ (n : ℕ). record { number = n; taken = 0; reply = 0 }) c.number_of.ensures ∙ ap numbers_of (sym c.in-Refused.is)
+pub returns-in-Err : goal.returns-in-Err
+returns-in-Err c =
+    ap {B = Numbers} (λ (n : ℕ). record { number = n; taken = 0; reply = 0 }) c.number_of.ensures ∙ ap numbers_of (sym c.in-Err.is)
 
-pub returns-in-Accepted : goal.returns-in-Accepted
-returns-in-Accepted c = ap numbers_of (sym c.in-Accepted.is)
+pub returns-in-Ok : goal.returns-in-Ok
+returns-in-Ok c = ap numbers_of (sym c.in-Ok.is)

@@ -1,52 +1,56 @@
--- `check_words::words::command_right` meets its contract: of the four bytes as one number the 16 high bits are the command, and the low ones
--- what is sent of its check.
+-- `check_words::words::command_right` meets its contract: the first two of four bytes are the command, and the last two what is sent of its
+-- check.
 -- Assumes nothing.
-use mathlib.Core.Path.{◌≡◌, sym, ap, ap₂, ◌∙◌, subst}
+use mathlib.Core.Path.{◌≡◌, sym, ap, ap₂, ◌∙◌, subst⁻¹}
 use mathlib.Core.Bool.{Bool, ◌&&◌}
 use mathlib.Core.List.{List}
-use Prim.Native.Nat.{ℕ, ◌*◌, ◌/◌, ◌%◌, ◌^◌, ◌<◌}
+use Prim.Native.Nat.{ℕ, ◌+◌, ◌*◌, ◌^◌, ◌<◌}
 use native.Mathlib.Omega.{arith}
-use lib.Dec.{eqb}
+use lib.Dec.{eqb, lit<}
 use lib.ListN.{length, get_or, take}
 use lib.Seq.{length-take-le}
 use borrow.Author.Tests.{eq-eqb, ne_eqb}
-use Rattle.laws.specs.Bits.{bits_of, number_of}
+use Rattle.laws.specs.Bits.{bits_of, Bytes, number_from, number_of}
+use Rattle.laws.specs.Tables.{tabulate}
+use Rattle.laws.proofs.Tables.{rebuilt}
 use Rattle.pec.specs.Remainder.{remainder}
 use Rattle.pec.specs.Words.{word_at, polynomial15, pec15, command_right}
-use Rattle.pec.proofs.Messages.{bytes_of-take, word_below, last-two, command-message}
+use Rattle.pec.proofs.Remainder.{remainder-below}
+use Rattle.pec.proofs.Messages.{bytes_of-take, command-message}
 use Rattle.check_words.proofs.words.command_right.Goals as goal
 
-module _ (four : List ℕ) (h : (i : ℕ) → get_or four i 0 < 256) (e : length four ≡ 4) where
-  command : number_of four / 65536 ≡ number_of (take 2 four)
-  command = omega (arith, last-two four 2 e, word_below four h 2)
+-- the first two bytes as a number
+abbrev command : List ℕ → ℕ
+command four = get_or four 0 0 * 256 + get_or four 1 0
 
-  sent : number_of four % 65536 ≡ word_at four 2
-  sent = omega (arith, last-two four 2 e, word_below four h 2)
+module _ (four : List ℕ) (h : Bytes four) (e : length four ≡ 4) where
+  first : command four ≡ number_of (take 2 four)
+  unfolding number_of number_from tabulate
+  first = omega arith ∙ ap (λ (l : List ℕ). number_of (take 2 l)) (rebuilt four 4 e)
 
-  check : remainder 15 polynomial15 16 (bits_of 16 (number_of four / 65536)) ≡ pec15 (take 2 four)
+  check : remainder 15 polynomial15 16 (bits_of 16 (command four)) ≡ pec15 (take 2 four)
   check =
-      ap (λ (n : ℕ). remainder 15 polynomial15 16 (bits_of 16 n)) command
+      ap (λ (n : ℕ). remainder 15 polynomial15 16 (bits_of 16 n)) first
       ∙ command-message (take 2 four) (bytes_of-take four h 2) (length-take-le 2 four (omega arith))
 
-pub returns-then-four-ne4 : goal.returns-then-four-ne4
+pub returns-in_default : goal.returns-in_default
 unfolding command_right
-returns-then-four-ne4 c =
+returns-in_default c =
     let four = c.args.four.now in
-    sym (ap (λ (b : Bool). b && eqb (word_at four 2) (pec15 (take 2 four) * 2)) (ne_eqb (length four) 4 c.if-four-ne4.true))
+    sym (ap (λ (b : Bool). b && eqb (word_at four 2) (pec15 (take 2 four) * 2)) (ne_eqb (length four) 4 c.in_default.ensures.1))
 
-pub overflow_cast-sent : goal.overflow_cast-sent
-overflow_cast-sent c =
-    let below : c.number_of-sent.result < 2 ^ 32 = subst (λ (n : ℕ). c.number_of-sent.result < 2 ^ (8 * n)) c.if-four-ne4.false c.number_of-sent.ensures.upper_bound in
+pub overflow_mul-result : goal.overflow_mul-result
+overflow_mul-result c =
+    let below : c.of_command-check.result < 2 ^ 15 = subst⁻¹ (λ (n : ℕ). n < 2 ^ 15) c.of_command-check.ensures (remainder-below 15 (bits_of 16 _) (lit< tt) (lit< tt)) in
     omega arith
 
 pub returns : goal.returns
-unfolding command_right
+unfolding command_right word_at
 returns c =
-    let s = c in
-    let four = s.args.four.now in
-    let bytes : (i : ℕ) → get_or four i 0 < 256 = λ i. (s.shared_slice_known-1.given i).fits in
-    let whole = c.if-four-ne4.false in
-    let number = c.number_of-sent.ensures.value in
-    ap₂ (λ (x y : ℕ). eqb x (y * 2)) (ap (λ (n : ℕ). n % 65536) number ∙ sent four bytes whole)
-    (c.of_command-check.ensures ∙ ap (λ (n : ℕ). remainder 15 polynomial15 16 (bits_of 16 (n / 65536))) number ∙ check four bytes whole)
-    ∙ sym (ap (λ (b : Bool). b && eqb (word_at four 2) (pec15 (take 2 four) * 2)) (eq-eqb (length four) 4 whole))
+    let four = c.args.four.now in
+    let taken = c.in-Ok.ensures.1 in
+    ap₂ (λ (x y : ℕ). eqb x (y * 2)) (c.from_be_bytes-sent.ensures ∙ ap (λ (l : List ℕ). word_at l 2) taken.same)
+    (c.of_command-check.ensures
+    ∙ ap (λ (n : ℕ). remainder 15 polynomial15 16 (bits_of 16 n)) (c.from_be_bytes.ensures ∙ ap command taken.same)
+    ∙ check four (λ i. (c.type_inv.four i).fits) taken.long)
+    ∙ sym (ap (λ (b : Bool). b && eqb (word_at four 2) (pec15 (take 2 four) * 2)) (eq-eqb (length four) 4 taken.long))

@@ -1,8 +1,6 @@
--- `clocked::frames::clock_all` meets its contract: a byte a turn, and what came back is kept. The measure is what is left of the frame.
+-- `clocked::frames::clock_all` meets its contract: a byte a turn, and what came back is kept.
 -- Assumes nothing.
 use mathlib.Core.Path.{◌≡◌}
-use Prim.Native.Nat.{◌-◌, ◌≤◌}
-use lib.ListN.{length}
 use Rattle.clocking.specs.Bytes.{clock_of}
 use Rattle.clocked.specs.Frames.{kept_back}
 use Rattle.clocked.proofs.Clocking.{clock-at, back_at}
@@ -10,9 +8,5 @@ use Rattle.clocked.proofs.frames.clock_all.Given as goal
 
 abbrev pub invariant-loop-i : goal.invariant-loop-i
 invariant-loop-i l =
-    (l.i ≤ length l.frame)
-    × (clock_of l.state ≡ clock-at l.table l.frame (clock_of l.initial.state) l.i)
+    (clock_of l.state ≡ clock-at l.table l.frame (clock_of l.initial.state) l.i)
     × (l.back ≡ kept_back (back_at l.table l.frame (clock_of l.initial.state) l.i) l.initial.back)
-
-abbrev pub decreases-loop-i : goal.decreases-loop-i
-decreases-loop-i l = length l.frame - l.i

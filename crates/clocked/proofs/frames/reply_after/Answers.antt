@@ -4,5 +4,5 @@ use mathlib.Core.Path.{sym, ap, ◌∙◌}
 use Rattle.clocked.specs.Frames.{reply_of}
 use Rattle.clocked.proofs.frames.reply_after.Goals as goal
 
-pub returns-in-Good : goal.returns-in-Good
-returns-in-Good c = c.reply_size.ensures ∙ ap reply_of (sym c.in-Good.is)
+pub returns-in-Ok : goal.returns-in-Ok
+returns-in-Ok c = c.reply_size.ensures ∙ ap reply_of (sym c.in-Ok.is)

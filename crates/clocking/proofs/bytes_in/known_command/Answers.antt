@@ -11,19 +11,19 @@ unfolding chained_by
 returns-then-count-eq0 c =
     let s = c in
     let t = s.args.table.now in
-    sym (known_unsound t s.args.head.now (none t s.requires.1 c.if-count-eq0.true))
+    sym (known_unsound t s.args.head.now (none t s.requires c.if-count-eq0.true))
 
 pub returns-then-not-command_right : goal.returns-then-not-command_right
 unfolding chained_by
 returns-then-not-command_right c =
     let s = c in
     let t = s.args.table.now in
-    sym (known_wrong t s.args.head.now (not_none t s.requires.1 c.if-count-eq0.false) (sym c.command_right.ensures ∙ c.if-not-command_right.true))
+    sym (known_wrong t s.args.head.now (not_none t s.requires c.if-count-eq0.false) (sym c.command_right.ensures ∙ c.if-not-command_right.true))
 
 pub returns : goal.returns
 unfolding chained_by
 returns c =
     let s = c in
     let t = s.args.table.now in
-    c.command_in-command.ensures
-    ∙ sym (known-right t s.args.head.now (not_none t s.requires.1 c.if-count-eq0.false) (sym c.command_right.ensures ∙ c.if-not-command_right.false))
+    c.command_in.ensures
+    ∙ sym (known-right t s.args.head.now (not_none t s.requires c.if-count-eq0.false) (sym c.command_right.ensures ∙ c.if-not-command_right.false))

@@ -7,14 +7,13 @@ use Rattle.clock_state.specs.State.{kind_in}
 use Rattle.clock_state.proofs.Widths.{wide_fills}
 use Rattle.clocking.specs.Bytes.{moved_on}
 use Rattle.clocking.proofs.Leaving.{fills_leaves, drains_leaves, still_leaves}
-use borrow.Author.Rules.{rules}
 use Rattle.clocking.proofs.bytes_in.move_on.Goals as goal
 
 pub shift_windows-requires : goal.shift_windows-requires
 shift_windows-requires c =
     let s = c.args.state.now in
     let kind = sym c.in-Fills.ensures in
-    (search rules, (wide_fills s kind).most)
+    (wide_fills s kind).most
 
 pub returns-in-Fills : goal.returns-in-Fills
 unfolding moved_on

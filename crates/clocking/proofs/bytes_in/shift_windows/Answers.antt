@@ -6,13 +6,13 @@ use borrow.Author.Rules.{rules}
 use Rattle.clocking.proofs.bytes_in.shift_windows.Goals as goal
 
 pub overflow_mul-end : goal.overflow_mul-end
-overflow_mul-end c = let most = mul-le-mul c.requires.1 c.chained_in.ensures.upper_bound in search rules
+overflow_mul-end c = let most = mul-le-mul c.requires c.chained_in.ensures.upper_bound in search rules
 
 pub overflow_add-end : goal.overflow_add-end
-overflow_add-end c = let most = mul-le-mul c.requires.1 c.chained_in.ensures.upper_bound in search rules
+overflow_add-end c = let most = mul-le-mul c.requires c.chained_in.ensures.upper_bound in search rules
 
 pub slice_bounds-shift-end : goal.slice_bounds-shift-end
-slice_bounds-shift-end c = let most = mul-le-mul c.requires.1 c.chained_in.ensures.upper_bound in search rules
+slice_bounds-shift-end c = let most = mul-le-mul c.requires c.chained_in.ensures.upper_bound in search rules
 
 pub returns : goal.returns
 returns c =

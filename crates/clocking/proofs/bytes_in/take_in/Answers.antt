@@ -3,10 +3,9 @@
 use mathlib.Core.Path.{◌≡◌, sym, ap, ◌∙◌}
 use Prim.Native.Nat.{ℕ, ◌+◌, ◌<◌, ◌≤◌}
 use native.Mathlib.Omega.{arith}
-use lib.ListN.{length, set}
+use lib.ListN.{set}
 use Rattle.clock_state.specs.State.{head_at, seen_in}
 use Rattle.clocking.specs.Bytes.{headed, noted}
-use Rattle.clocking.proofs.Lengths.{length-taken_in}
 use Rattle.clocking.proofs.View.{taken-early, taken-fourth, taken-later}
 use Rattle.clocking.proofs.Leaving.{answered-early, answered-later}
 use Rattle.clocking.proofs.bytes_in.take_in.Goals as goal
@@ -19,11 +18,6 @@ returns-then-seen-eq3 c =
     let its = c.seen_in-seen.ensures.value in
     let third : seen_in s ≡ 3 = sym its ∙ c.if-seen-eq3.true in
     record { value = answered-early s (omega arith); state_after = c.note.ensures ∙ ap (λ (k : ℕ). noted a.table.now (set s (head_at + k) a.byte)) its ∙ sym (taken-fourth a.table.now a.byte s third) }
-
-pub shape_of-state-then-seen-eq3 : goal.shape_of-state-then-seen-eq3
-shape_of-state-then-seen-eq3 c =
-    let start = c in
-    ap length (returns-then-seen-eq3 c).state_after ∙ length-taken_in start.args.table.now start.args.byte start.args.state.now start.requires ∙ sym start.requires
 
 pub returns-else-seen-eq3 : goal.returns-else-seen-eq3
 unfolding headed

@@ -12,14 +12,14 @@ pub overflow_cast-size : goal.overflow_cast-size
 overflow_cast-size c =
     let call = c in
     let a = call.args in
-    omega (arith, (fits_as_told built_parts (sym call.build.ensures.value ∙ c.in-Length.is) (built-fits a.command a.monitors a.values.now (length a.out.now))).second_fits)
+    omega (arith, (fits_as_told built_parts (sym call.build.ensures.value ∙ c.in-Ok.is) (built-fits a.command a.monitors a.values.now (length a.out.now))).second_fits)
 
-pub returns-in-Unbuilt : goal.returns-in-Unbuilt
-returns-in-Unbuilt c =
+pub returns-in-Err : goal.returns-in-Err
+returns-in-Err c =
     let done = c.build.ensures in
-    record { value = as_told built_parts c.refused.ensures (sym done.value ∙ c.in-Unbuilt.is); out_after = done.buffer_after }
+    record { value = as_told built_parts c.refused.ensures (sym done.value ∙ c.in-Err.is); out_after = done.buffer_after }
 
-pub returns-in-Length : goal.returns-in-Length
-returns-in-Length c =
+pub returns-in-Ok : goal.returns-in-Ok
+returns-in-Ok c =
     let done = c.build.ensures in
-    record { value = as_told built_parts c.accepted.ensures (sym done.value ∙ c.in-Length.is); out_after = done.buffer_after }
+    record { value = as_told built_parts c.accepted.ensures (sym done.value ∙ c.in-Ok.is); out_after = done.buffer_after }

@@ -12,25 +12,26 @@ use Rattle.records.proofs.Answers.{is-record, no_record}
 use Rattle.measuring.specs.Measuring.{measured}
 use Rattle.messages.specs.Messages.{count_in, flags_in, is_pass}
 use Rattle.heartbeats.specs.declared.steps.Beat.{Beat}
-use Rattle.heartbeats.specs.declared.steps.Beat.TheVariants.{Silent, Sends}
 use Rattle.heartbeats.specs.Steps.{is_timeout, counted_down, joined_to, hears, judged, reached, answers}
 use Rattle.heartbeats.proofs.steps.reach.Goals as goal
+use Rattle.std.specs.Prelude.{Option, None}
+use Rattle.heartbeats.specs.Steps.{sends}
 
 module _ (m r : List ℕ) where
-  abbrev sent : Beat
-  sent = Sends (counted_down r (count_in m)) (joined_to r (flags_in m))
+  abbrev sent : Option Beat
+  sent = sends (counted_down r (count_in m)) (joined_to r (flags_in m))
 
   abbrev marked : List ℕ → List ℕ
   marked l = set l cmf1.at (judged m r (get_or l cmf1.at 0))
 
   -- by whether it is a record, takes the message in, and is a timeout monitor
   by_tests : {is takes out : Bool} → is_record r ≡ is → hears m r ≡ takes → is_timeout r ≡ out
-      → (cond is (cond (takes && not out) sent Silent) Silent ≡ cond (is_record r) (answers m r) Silent)
+      → (cond is (cond (takes && not out) sent None) None ≡ cond (is_record r) (answers m r) None)
       × (cond is (cond takes (cond out (marked (measured r)) (measured r)) r) r ≡ cond (is_record r) (reached m r) r)
   unfolding answers reached on_bytes anew
   by_tests e h o = (
     sym
-        (ap₂ (λ (is : Bool) (b : Beat). cond is b Silent) e (ap₂ (λ (takes out : Bool). cond (takes && not out) sent Silent) h o)),
+        (ap₂ (λ (is : Bool) (b : Option Beat). cond is b None) e (ap₂ (λ (takes out : Bool). cond (takes && not out) sent None) h o)),
     sym
         (ap₂ (λ (is : Bool) (l : List ℕ). cond is l r) e
         (ap₂ (λ (takes out : Bool). cond takes (cond out (marked (measured r)) (measured r)) r) h o)),
@@ -84,4 +85,4 @@ returns c =
     let both = by_tests a.message.now a.rec.now (is-record _ first.if-rec-ne-RECORD_SIZE.false) (sym test.hears.ensures ∙ not-false _ test.if-not-hears.false-raw) (sym asked.is_timeout-is_last.ensures ∙ c.if-is_last.false) in
     let own = own.own_step-own.ensures in
     let left = left-with a.message.now a.rec.now read.byte_at-count.ensures read.byte_at-flags.ensures own.count_value own.flags_value in
-    record { value = ap₂ Sends left.0 left.1 ∙ both.0; rec_after = own.rec_after ∙ both.1 }
+    record { value = ap₂ sends left.0 left.1 ∙ both.0; rec_after = own.rec_after ∙ both.1 }

@@ -6,52 +6,49 @@ use native.Mathlib.Omega.{arith}
 use mathlib.Core.List.{List}
 use Prim.Native.Nat.{ℕ}
 use lib.ListN.{length}
+use Rattle.refusals.proofs.PassedOn.{passed_on}
 use Rattle.laying.specs.Placed.{placed}
 use Rattle.records.specs.declared.commands.Command.{Command}
 use Rattle.records.specs.Commands.{commands, command_of}
-use Rattle.host.specs.declared.frames.Built.{Built}
-use Rattle.host.specs.declared.frames.Built.TheVariants.{Length}
 use Rattle.host.specs.Frames.{head_size, body, judged, built}
 use Rattle.host.proofs.Judging.{Buildable, accepted_buildable, built-by}
 use Rattle.host.proofs.FrameFor.{head, head-fits, built-refused, placed-accepted}
 use Rattle.host.proofs.frames.build.Goals as goal
+use Rattle.std.specs.Prelude.{Result, Ok}
+use Rattle.refusals.specs.declared.Refusal.{Refusal}
 
 module _ (code n : ℕ) (values : List ℕ) (room : ℕ) {command : Command} (named : command ≡ command_of code commands)
-    {judgement : Built} (asked : judgement ≡ judged command n (length values) room) where
+    {answer : Result ℕ Refusal} (asked : answer ≡ judged command n (length values) room) where
   -- the judgement is the answer
-  answer : judgement ≡ built code n values room
-  answer = asked ∙ ap (λ (k : Command). judged k n (length values) room) named ∙ sym (built-by code n values room)
+  answered : answer ≡ built code n values room
+  answered = asked ∙ ap (λ (k : Command). judged k n (length values) room) named ∙ sym (built-by code n values room)
 
-  -- behind the judgement no refusal holds
-  buildable : {l : ℕ} → judgement ≡ Length l → Buildable command n (length values) room
-  buildable e = accepted_buildable command n (length values) room (sym asked ∙ e)
-
-pub returns-in_default : goal.returns-in_default
-returns-in_default c =
+pub returns-in_err-length : goal.returns-in_err-length
+returns-in_err-length c =
     let q = c.args in
-    let answered = answer q.code q.n q.values.now (length q.buffer.now) c.command_of-command.ensures c.judge-built.ensures in
-    record { value = answered; buffer_after = sym (built-refused q.code q.n q.values.now q.buffer.now _ (sym answered ∙ c.in_default.is)) }
+    let answer = answered q.code q.n q.values.now (length q.buffer.now) c.command_of-command.ensures c.in_err-length.ensures in
+    record { value = passed_on c.from_residual.ensures.1 ∙ answer; buffer_after = sym (built-refused q.code q.n q.values.now q.buffer.now _ (sym answer)) }
 
 pub put_head-requires : goal.put_head-requires
 put_head-requires c =
     let q = c.args in
-    let b = buildable q.code q.n q.values.now (length q.buffer.now) c.command_of-command.ensures c.judge-built.ensures c.in-Length.is in
+    let b = accepted_buildable c.command_of-command.result q.n (length q.values.now) (length q.buffer.now) (sym c.in_ok-length.ensures) in
     omega (arith, head-fits c.command_of-command.result q.n, b.fits)
 
 pub put_body-requires : goal.put_body-requires
 put_body-requires c =
     let q = c.args in
-    let b = buildable q.code q.n q.values.now (length q.buffer.now) c.command_of-command.ensures c.judge-built.ensures c.in-Length.is in
+    let b = accepted_buildable c.command_of-command.result q.n (length q.values.now) (length q.buffer.now) (sym c.in_ok-length.ensures) in
     (b.most, b.count, omega (arith, b.fits, c.put_head.auto.buffer))
 
 pub returns : goal.returns
 returns c =
     let q = c.args in
-    let answered = answer q.code q.n q.values.now (length q.buffer.now) c.command_of-command.ensures c.judge-built.ensures in
+    let answer = answered q.code q.n q.values.now (length q.buffer.now) c.command_of-command.ensures c.in_ok-length.ensures in
     record {
-      value = answered;
+      value = answer;
       buffer_after = c.put_body.ensures
           ∙ ap (placed head_size (body c.command_of-command.result q.n q.values.now)) c.put_head.ensures
           ∙ ap (λ (k : Command). placed head_size (body k q.n q.values.now) (placed 0 (head q.code) q.buffer.now)) c.command_of-command.ensures
-          ∙ placed-accepted q.code q.n q.values.now q.buffer.now (sym answered ∙ c.in-Length.is);
+          ∙ placed-accepted q.code q.n q.values.now q.buffer.now (sym answer);
     }

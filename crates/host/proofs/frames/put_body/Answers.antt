@@ -19,7 +19,7 @@ pub put_filler-requires : goal.put_filler-requires
 put_filler-requires c =
     let start = c in
     let told = c.in-Reads.is in
-    (omega (arith, start.requires.0), omega (arith, start.requires.2, ap (λ (k : Command). frame_length k start.args.n) told))
+    omega (arith, start.requires.2, ap (λ (k : Command). frame_length k start.args.n) told)
 
 pub put_payloads-requires : goal.put_payloads-requires
 put_payloads-requires c =

@@ -1,38 +1,33 @@
--- `host::frames::put_filler` meets its contract: what is put is the front of an array of one byte again and again.
+-- `host::frames::put_filler` meets its contract: behind the head a part of the buffer is filled.
 -- Assumes nothing.
-use mathlib.Core.Path.{◌≡◌, sym, ap, ◌∙◌}
-use mathlib.Core.List.{List}
+use mathlib.Core.Path.{◌≡◌, sym, ap, ap₂, ◌∙◌}
+use mathlib.Core.List.{List, ◌++◌, append_assoc}
 use Prim.Native.Nat.{ℕ, ◌+◌, ◌-◌, ◌≤◌}
 use native.Mathlib.Omega.{arith}
-use lib.ListN.{length, take, replicate, length-replicate, replicate-append-replicate}
-use lib.Seq.{take_at}
-use Rattle.laying.proofs.Placed.{tried, laid}
+use lib.ListN.{length, length-drop, take, drop, replicate, length-replicate}
+use lib.Seq.{length-take-le, drop-drop}
+use Rattle.laying.specs.Placed.{placed}
 use Rattle.host.specs.Frames.{head_size}
 use Rattle.host.proofs.frames.put_filler.Goals as goal
 
-abbrev filler : ℕ → List ℕ
-filler size = replicate size 0xFF
+module _ (size : ℕ) (buffer : List ℕ) (room : head_size + size ≤ length buffer) where
+  -- the part that is lent
+  abbrev span : ℕ
+  span = 4 + size - 4
 
-length-filler : (size : ℕ) → length (filler size) ≡ size
-length-filler size = length-replicate size 0xFF
+  whole : span ≡ size
+  whole = omega arith
 
-front : (size most : ℕ) → size ≤ most → take size (filler most) ≡ filler size
-front size most h =
-    let all : size + (most - size) ≡ most = omega arith in
-    ap (take size) (sym (replicate-append-replicate size (most - size) 0xFF ∙ ap filler all))
-    ∙ take_at (filler size) (filler (most - size)) size (length-filler size)
+  long : length (take span (drop 4 buffer)) ≡ size
+  long = length-take-le span (drop 4 buffer) (omega (arith, length-drop 4 buffer)) ∙ whole
 
-pub slice_bounds-put-end : goal.slice_bounds-put-end
-slice_bounds-put-end c =
-    let start = c in
-    let size = start.args.size in
-    sym (ap length (front size 256 start.requires.0) ∙ length-filler size)
+  filled : {part : List ℕ} → part ≡ replicate (length (take span (drop 4 buffer))) 0xFF
+      → take 4 buffer ++ (part ++ drop span (drop 4 buffer)) ≡ placed head_size (replicate size 0xFF) buffer
+  unfolding placed
+  filled e =
+      ap₂ (λ (p r : List ℕ). take 4 buffer ++ (p ++ r)) (e ∙ ap (λ (n : ℕ). replicate n 0xFF) long)
+      (drop-drop span 4 buffer ∙ ap (λ (n : ℕ). drop (4 + n) buffer) (whole ∙ sym (length-replicate size 0xFF)))
+      ∙ sym (append_assoc (take 4 buffer) (replicate size 0xFF) (drop (4 + length (replicate size 0xFF)) buffer))
 
 pub returns : goal.returns
-returns c =
-    let start = c in
-    let q = start.args in
-    let room : head_size + length (filler q.size) ≤ length q.buffer.now = omega (arith, start.requires.1, length-filler q.size) in
-    c.put.ensures
-    ∙ ap (λ (bytes : List ℕ). tried head_size bytes q.buffer.now) (front q.size 256 start.requires.0)
-    ∙ laid head_size (filler q.size) q.buffer.now room
+returns c = filled c.args.size c.args.buffer.now c.requires (c.fill.ensures.after (λ y e. e))

@@ -8,11 +8,11 @@ use lib.ListN.{take}
 use Rattle.pec.specs.Words.{word_at, command_right}
 use Rattle.records.specs.declared.commands.Command.{Command}
 use Rattle.records.specs.Commands.{commands, command_of, is_listed, frame_length, most_monitors}
-use Rattle.judging.specs.declared.heads.Judged.TheVariants.{Good}
 use Rattle.judging.specs.Refusals.{command_in}
 use Rattle.judging.specs.Heads.{head_judged}
 use Rattle.judging.proofs.Judging.{from, stop_few, stop_many, pass-count, stop_short, pass_short, stop_command, pass_command, stop_listed, pass_listed, stop_length, pass_length, within_most}
 use Rattle.judging.proofs.heads.judge_head.Goals as goal
+use Rattle.judging.specs.Heads.{good}
 
 -- ---- what the tests have left to judge, test after test
 
@@ -81,7 +81,7 @@ returns c =
     let right = check-of a.frame.now c.head_of.ensures c.command_right.ensures ∙ c.if-not-command_right.false in
     let its = command-of-head a.frame.now c.code_in.ensures c.command_of-command.ensures in
     let length = within_most a.n _ c.if-n-gt-MOST_MONITORS.false c.frame_length.ensures ∙ ap (λ (k : Command). frame_length k a.n) its in
-    ap (λ (k : Command). Good k a.n) its
+    ap (λ (k : Command). good k a.n) its
     ∙ sym (after-listed a.frame.now a.bytes a.n c.if-n-lt1.false c.if-n-gt-MOST_MONITORS.false c.if-bytes-lt4.false right
     (ap is_listed (sym its) ∙ sym c.is_listed.ensures ∙ c.if-not-is_listed.false)
     ∙ pass_length a.frame.now a.bytes a.n (c.if-bytes-frame_length.false ∙ length))

@@ -1,27 +1,16 @@
--- `judging::tables::all_sound` meets its contract: every record so far is sound. The measure is what is left of them.
+-- `judging::tables::all_sound` meets its contract.
 -- Assumes nothing.
-use mathlib.Core.Path.{◌≡◌, refl, sym, ap, ◌∙◌}
-use Prim.Native.Nat.{ℕ}
-use native.Mathlib.Omega.{arith}
-use Rattle.laws.specs.Counts.{all}
-use Rattle.laws.specs.Rows.{rows}
-use Rattle.records.specs.Record.{record_size, record_sound}
-use Rattle.judging.proofs.Soundness.{one_more_lem, one_fails}
+use Rattle.std.proofs.Common.{◌≡◌, arith, rules, refl}
+use Rattle.records.specs.Record.{record_size}
+use Rattle.std.specs.Iterator.Runs.{IsChunksExactRun}
+use Rattle.judging.proofs.Chunks.{chunks-sound}
 use Rattle.judging.proofs.tables.all_sound.Goals as goal
-
-pub loop-k-init : goal.loop-k-init
-unfolding all rows
-loop-k-init c = (omega arith, refl)
-
-pub returns-then-not-record_sound : goal.returns-then-not-record_sound
-returns-then-not-record_sound c =
-    sym (one_fails c.args.table.now c.loop-k.k (omega arith) c.loop-k-test.true c.record_sound.ensures c.if-not-record_sound.true)
-
-pub loop-k-preserved : goal.loop-k-preserved
-loop-k-preserved c =
-    (omega arith, one_more_lem c.args.table.now c.loop-k.k (omega arith) c.record_sound.ensures c.if-not-record_sound.false c.loop-k.invariant.1)
 
 pub returns : goal.returns
 returns c =
-    let all-of-them : c.loop-k.k ≡ c.args.n = omega arith in
-    sym (ap (λ (k : ℕ). all record_sound (rows record_size k c.args.table.now)) (sym all-of-them) ∙ c.loop-k.invariant.1)
+    let p = c.all.ensures.runs.0 in
+    let from = c.all.ensures.runs.1 in
+    let size : p.from.size ≡ record_size = cc in
+    let rest : p.from.rest.now ≡ c.args.table.now = cc in
+    let cut : IsChunksExactRun p record_size c.args.table.now = rw (size, rest) at (c.chunks_exact.ensures.runs p p.seen (omega arith)) in
+    chunks-sound p c.args.table.now cut _ _ (λ a r f h. refl) (λ x r h. search rules) c.all.result c.all.ensures.runs.2

@@ -13,5 +13,5 @@ pub returns : goal.returns
 unfolding message seal two_bytes
 returns c =
     let own : List ℕ = c.args.count ∷ c.args.flags ∷ [] in
-    ap (λ (l : List ℕ). 0x00 ∷ 0x43 ∷ 0x47 ∷ 0xB2 ∷ get_or l 0 0 ∷ get_or l 1 0 ∷ get_or l 2 0 ∷ get_or l 3 0 ∷ []) c.sealed_two-own.ensures
+    ap (λ (l : List ℕ). 0x00 ∷ 0x43 ∷ 0x47 ∷ 0xB2 ∷ get_or l 0 0 ∷ get_or l 1 0 ∷ get_or l 2 0 ∷ get_or l 3 0 ∷ []) c.sealed_two.ensures
     ∙ ap (λ (l : List ℕ). l ++ own ++ seal own 0) (sym head)

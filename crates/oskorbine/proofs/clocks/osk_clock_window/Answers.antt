@@ -12,14 +12,14 @@ pub overflow_cast-size : goal.overflow_cast-size
 overflow_cast-size c =
     let call = c in
     let a = call.args in
-    omega (arith, (fits_as_told looked_parts (sym call.look.ensures.value ∙ c.in-Holds.is) (look_fits a.state.now a.position (length a.out.now))).second_fits)
+    omega (arith, (fits_as_told looked_parts (sym call.look.ensures.value ∙ c.in-Ok.is) (look_fits a.state.now a.position (length a.out.now))).second_fits)
 
-pub returns-in-Refused : goal.returns-in-Refused
-returns-in-Refused c =
+pub returns-in-Err : goal.returns-in-Err
+returns-in-Err c =
     let done = c.look.ensures in
-    record { value = as_told looked_parts c.refused.ensures (sym done.value ∙ c.in-Refused.is); out_after = done.out_after }
+    record { value = as_told looked_parts c.refused.ensures (sym done.value ∙ c.in-Err.is); out_after = done.out_after }
 
-pub returns-in-Holds : goal.returns-in-Holds
-returns-in-Holds c =
+pub returns-in-Ok : goal.returns-in-Ok
+returns-in-Ok c =
     let done = c.look.ensures in
-    record { value = as_told looked_parts c.accepted.ensures (sym done.value ∙ c.in-Holds.is); out_after = done.out_after }
+    record { value = as_told looked_parts c.accepted.ensures (sym done.value ∙ c.in-Ok.is); out_after = done.out_after }

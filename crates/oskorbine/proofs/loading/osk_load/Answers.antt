@@ -2,11 +2,12 @@
 -- Assumes nothing.
 use mathlib.Core.Path.{ap, ◌∙◌}
 use borrow.Author.Rules.{rules}
-use Rattle.loads.specs.declared.loads.Loaded.{Loaded}
 use Rattle.packing.specs.Packed.{packed}
 use Rattle.oskorbine.specs.Answers.{load_parts}
 use Rattle.oskorbine.proofs.loading.osk_load.Goals as goal
+use Rattle.std.specs.Prelude.{Result}
+use Rattle.refusals.specs.declared.Refusal.{Refusal}
 
 pub returns : goal.returns
 returns c =
-    record { value = c.load_answer.ensures ∙ ap (λ (l : Loaded). packed (load_parts l)) c.load.ensures.value; table_after = search rules }
+    record { value = c.load_answer.ensures ∙ ap (λ (l : Result (Unit {0}) Refusal). packed (load_parts l)) c.load.ensures.value; table_after = search rules }

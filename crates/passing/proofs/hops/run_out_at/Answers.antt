@@ -1,15 +1,18 @@
 -- `passing::hops::run_out_at` meets its contract: the record is lent and comes back.
 -- Assumes nothing.
-use mathlib.Core.Path.{ap, ◌∙◌}
+use mathlib.Core.Path.{ap, ap₂, ◌∙◌}
 use mathlib.Core.Bool.{Bool, ◌&&◌}
-use Rattle.judging.proofs.Lent.{lent, lent_record, came-back}
+use mathlib.Core.List.{List}
+use Prim.Native.Nat.{ℕ}
+use Rattle.judging.proofs.Lies.{part-row, part_record, back_record}
 use Rattle.heartbeats.specs.Steps.{is_timeout, late}
-use Rattle.passing.proofs.Lent.{as_it_lies}
 use Rattle.passing.proofs.hops.run_out_at.Goals as goal
 
-pub returns : goal.returns
-returns c =
-    let start = c in
-    let a = start.args in
-    let whole = lent_record a.k a.table.now start.requires.1 in
-    record { value = as_it_lies a.k a.table.now is_timeout (c.run_out.ensures.value ∙ ap (λ (b : Bool). b && is_timeout (lent a.k a.table.now)) whole); table_after = came-back a.k a.table.now late whole c.run_out.ensures.rec_after }
+pub returns-in-Some : goal.returns-in-Some
+returns-in-Some c =
+    let a = c.args in
+    let lies = c.in-Some.ensures in
+    record {
+      value = c.run_out.ensures.value ∙ ap₂ (λ (b : Bool) (r : List ℕ). b && is_timeout r) (part_record a.k a.table.now lies) (part-row a.k a.table.now lies);
+      table_after = back_record a.k a.table.now lies late c.run_out.ensures.rec_after;
+    }

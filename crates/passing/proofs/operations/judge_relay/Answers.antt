@@ -2,42 +2,43 @@
 -- Assumes nothing.
 use mathlib.Core.Path.{sym, ◌∙◌}
 use mathlib.Core.List.{[], ◌∷◌}
-use Rattle.judging.specs.declared.places.Placed.TheVariants.{Nowhere}
+use Rattle.refusals.proofs.PassedOn.{passed_on}
 use Rattle.judging.specs.Places.{place_refusals}
 use Rattle.passing.specs.Operations.{message_row, out_row, relay_refusals}
 use Rattle.passing.proofs.Judged.{no_place, then-later, no_room, has_room, wrong_length, right-length}
 use Rattle.passing.proofs.operations.judge_relay.Goals as goal
+use Rattle.std.specs.Prelude.{Err}
 
 pub returns-then-bytes-ne-MESSAGE_SIZE : goal.returns-then-bytes-ne-MESSAGE_SIZE
 unfolding relay_refusals place_refusals
 returns-then-bytes-ne-MESSAGE_SIZE c =
     let a = c.args in
-    let e = sym c.in-At.ensures in
-    sym (then-later a.table.now a.position (message_row a.bytes ∷ out_row a.room ∷ []) e ∙ wrong_length a.room Nowhere _ a.bytes c.if-bytes-ne-MESSAGE_SIZE.true)
+    let e = sym c.in_ok-k.ensures in
+    sym (then-later a.table.now a.position (message_row a.bytes ∷ out_row a.room ∷ []) e ∙ wrong_length a.room Err _ a.bytes c.if-bytes-ne-MESSAGE_SIZE.true)
 
 pub returns-then-room-lt-MESSAGE_SIZE : goal.returns-then-room-lt-MESSAGE_SIZE
 unfolding relay_refusals place_refusals
 returns-then-room-lt-MESSAGE_SIZE c =
     let a = c.args in
-    let e = sym c.in-At.ensures in
+    let e = sym c.in_ok-k.ensures in
     sym
     (then-later a.table.now a.position (message_row a.bytes ∷ out_row a.room ∷ []) e
-    ∙ right-length a.room Nowhere _ a.bytes c.if-bytes-ne-MESSAGE_SIZE.false
-    ∙ no_room a.room Nowhere _ c.if-room-lt-MESSAGE_SIZE.true)
+    ∙ right-length a.room Err _ a.bytes c.if-bytes-ne-MESSAGE_SIZE.false
+    ∙ no_room a.room Err _ c.if-room-lt-MESSAGE_SIZE.true)
 
-pub returns-in-Nowhere : goal.returns-in-Nowhere
+pub returns-in_err-k : goal.returns-in_err-k
 unfolding relay_refusals place_refusals
-returns-in-Nowhere c =
+returns-in_err-k c =
     let a = c.args in
-    let e = sym c.in-Nowhere.ensures in
-    sym (no_place a.table.now a.position (message_row a.bytes ∷ out_row a.room ∷ []) e)
+    let e = sym c.in_err-k.ensures in
+    passed_on c.from_residual.ensures.1 ∙ sym (no_place a.table.now a.position (message_row a.bytes ∷ out_row a.room ∷ []) e)
 
-pub returns-else-room-lt-MESSAGE_SIZE : goal.returns-else-room-lt-MESSAGE_SIZE
+pub returns : goal.returns
 unfolding relay_refusals place_refusals
-returns-else-room-lt-MESSAGE_SIZE c =
+returns c =
     let a = c.args in
-    let e = sym c.in-At.ensures in
+    let e = sym c.in_ok-k.ensures in
     sym
     (then-later a.table.now a.position (message_row a.bytes ∷ out_row a.room ∷ []) e
-    ∙ right-length a.room Nowhere _ a.bytes c.if-bytes-ne-MESSAGE_SIZE.false
-    ∙ has_room a.room Nowhere _ c.if-room-lt-MESSAGE_SIZE.false)
+    ∙ right-length a.room Err _ a.bytes c.if-bytes-ne-MESSAGE_SIZE.false
+    ∙ has_room a.room Err _ c.if-room-lt-MESSAGE_SIZE.false)

@@ -12,6 +12,7 @@ use Rattle.laws.proofs.Counts.{flag_counts, flag_at_most_one}
 use Rattle.records.specs.Record.{cell_count}
 use Rattle.priorities.specs.declared.outputs.Events.{Events}
 use Rattle.priorities.specs.declared.outputs.Output.{Output}
+use Rattle.priorities.specs.Table27.{output_of}
 use Rattle.priorities.specs.Outputs.{outputs, count_on}
 use Rattle.priorities.proofs.Deciding.{row_range}
 use Rattle.priorities.proofs.Putting.{putting_start, putting_more, putting_end}
@@ -36,27 +37,21 @@ returns-then-out-lt-CELL_COUNT c =
 pub loop-i-init : goal.loop-i-init
 loop-i-init c = putting_start _ _ _ _
 
-pub output_of-output-requires : goal.output_of-output-requires
-output_of-output-requires c = (omega arith, omega arith)
-
 pub shown-requires : goal.shown-requires
 shown-requires c = subst⁻¹ (λ (o : Output). o.row ≤ 7) c.output_of-output.ensures (row_range _ _ _ _).1
 
-pub overflow_cast-on : goal.overflow_cast-on
-overflow_cast-on c = omega (arith, flag_at_most_one c.output_of-output.result.on)
-
 pub overflow_add-on : goal.overflow_add-on
-overflow_add-on c = omega (arith, c.loop-i.invariant.few, flag_at_most_one c.output_of-output.result.on)
+overflow_add-on c = omega (arith, c.loop-i.invariant.few, flag_at_most_one c.output_of-output.result.on, c.from-on.ensures)
 
 pub loop-i-preserved : goal.loop-i-preserved
 loop-i-preserved c =
     let l = c.loop-i in
     let on = c.output_of-output.result.on in
-    putting_more _ _ _ _ l.invariant c.loop-i-test.true c.if-out-lt-CELL_COUNT.false c.output_of-output.ensures
-    c.shown.ensures (ap (λ (n : ℕ). l.on + n) (flag_counts on)) (omega (arith, l.invariant.few, flag_at_most_one on))
-
-pub shape_of-out : goal.shape_of-out
-shape_of-out c = c.loop-i.invariant.size
+    let its : c.output_of-output.result ≡ output_of c.args.events c.args.phase c.args.rec.now (l.i + 1) =
+    c.output_of-output.ensures ∙ ap (output_of c.args.events c.args.phase c.args.rec.now) c.after.ensures in
+    putting_more _ _ _ _ l.invariant (omega arith) c.if-out-lt-CELL_COUNT.false its c.shown.ensures
+    (ap (λ (n : ℕ). l.on + n) (c.from-on.ensures ∙ flag_counts on))
+    (omega (arith, l.invariant.few, flag_at_most_one on, c.from-on.ensures))
 
 pub returns : goal.returns
 returns c =

@@ -1,12 +1,7 @@
 -- `priorities::outputs::put_outputs` meets its contract: a loop that puts one output a turn.
 -- Assumes nothing.
-use Prim.Native.Nat.{◌-◌}
-use Rattle.records.specs.Record.{cell_count}
 use Rattle.priorities.proofs.Putting.{Putting}
 use Rattle.priorities.proofs.outputs.put_outputs.Given as goal
 
 abbrev pub invariant-loop-i : goal.invariant-loop-i
 invariant-loop-i l = Putting l.rec l.events l.phase l.initial.out l.out l.on l.i
-
-abbrev pub decreases-loop-i : goal.decreases-loop-i
-decreases-loop-i l = cell_count - l.i

@@ -9,4 +9,5 @@ use Rattle.reads.proofs.replies.part_bytes.Goals as goal
 pub returns-then-at-rec : goal.returns-then-at-rec
 returns-then-at-rec c =
     let a = c.args in
-    c.six_of.ensures ∙ shows_whole a.part a.rec.now (omega arith) (omega arith)
+    c.copy_from_slice.ensures.after
+    ∙ shows_whole a.part a.rec.now (omega (arith, c.from-at.ensures)) c.from-at.ensures (omega (arith, c.from.ensures)) c.if-at-rec.true

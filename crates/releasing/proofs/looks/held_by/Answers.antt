@@ -4,8 +4,8 @@ use native.Mathlib.Nat.{mul-le-mul, le_of_lt}
 use borrow.Author.Rules.{rules}
 use Rattle.releasing.proofs.looks.held_by.Goals as goal
 
-pub overflow_mul-before : goal.overflow_mul-before
-overflow_mul-before c = let most = mul-le-mul c.requires.1 (le_of_lt c.requires.0) in search rules
+pub overflow_mul-width : goal.overflow_mul-width
+overflow_mul-width c = let most = mul-le-mul c.requires.1 (le_of_lt c.requires.0) in search rules
 
-pub overflow_add-before : goal.overflow_add-before
-overflow_add-before c = let most = mul-le-mul c.requires.1 (le_of_lt c.requires.0) in search rules
+pub overflow_add-width : goal.overflow_add-width
+overflow_add-width c = let most = mul-le-mul c.requires.1 (le_of_lt c.requires.0) in search rules

@@ -33,31 +33,31 @@ lies s k e f = ap₂ (λ (kind : Kind) (n : ℕ). get_or (windows_in kind (seen_
 pub overflow_mul-end : goal.overflow_mul-end
 overflow_mul-end c =
     let start = c in
-    let fits = place start.args.state.now (sym c.in-Fills.ensures) start.requires.2 start.requires.3 in
+    let fits = place start.args.state.now (sym c.in-Fills.ensures) start.requires.1 start.requires.2 in
     search rules
 
 pub overflow_add-end : goal.overflow_add-end
 overflow_add-end c =
     let start = c in
-    let fits = place start.args.state.now (sym c.in-Fills.ensures) start.requires.2 start.requires.3 in
+    let fits = place start.args.state.now (sym c.in-Fills.ensures) start.requires.1 start.requires.2 in
     search rules
 
 pub held_by-requires : goal.held_by-requires
 held_by-requires c =
     let start = c in
-    let fits = place start.args.state.now (sym c.in-Fills.ensures) start.requires.2 start.requires.3 in
+    let fits = place start.args.state.now (sym c.in-Fills.ensures) start.requires.1 start.requires.2 in
     search rules
 
 pub overflow_sub-at : goal.overflow_sub-at
 overflow_sub-at c =
     let start = c in
-    let fits = place start.args.state.now (sym c.in-Fills.ensures) start.requires.2 start.requires.3 in
+    let fits = place start.args.state.now (sym c.in-Fills.ensures) start.requires.1 start.requires.2 in
     search rules
 
 pub slice_bounds-result-end : goal.slice_bounds-result-end
 slice_bounds-result-end c =
     let start = c in
-    let fits = place start.args.state.now (sym c.in-Fills.ensures) start.requires.2 start.requires.3 in
+    let fits = place start.args.state.now (sym c.in-Fills.ensures) start.requires.1 start.requires.2 in
     search rules
 
 pub returns-in-Fills : goal.returns-in-Fills
@@ -69,11 +69,11 @@ returns-in-Fills c =
     let kind : kind_in s ≡ Fills w = sym c.in-Fills.ensures in
     let end = windows_at + w * (a.n - a.k) in
     let held : c.held_by.result ≡ come w (seen_in s) a.k = c.held_by.ensures ∙ ap (λ (seen : ℕ). come w seen a.k) c.seen_in.ensures.value in
-    let own = (place s kind start.requires.2 start.requires.3).own in
+    let own = (place s kind start.requires.1 start.requires.2).own in
     let size : end - (end - c.held_by.result) ≡ come w (seen_in s) a.k = omega (arith, held) in
     ap₂ (λ (m at : ℕ). take m (drop at s)) size (ap (λ (m : ℕ). end - m) held)
-    ∙ sym (fills_at w (seen_in s) a.n a.k s start.requires.3)
-    ∙ lies s a.k kind start.requires.1
+    ∙ sym (fills_at w (seen_in s) a.n a.k s start.requires.2)
+    ∙ lies s a.k kind start.requires.0
 
 pub returns-in-Drains : goal.returns-in-Drains
 returns-in-Drains c =
@@ -82,12 +82,12 @@ returns-in-Drains c =
     let at = windows_at + payload_size * a.k in
     let size : at + payload_size - at ≡ payload_size = omega arith in
     ap (λ (m : ℕ). take m (drop at s)) size
-    ∙ sym (drains_at (seen_in s) a.n a.k s c.requires.3)
-    ∙ lies s a.k (sym c.in-Drains.ensures) c.requires.1
+    ∙ sym (drains_at (seen_in s) a.n a.k s c.requires.2)
+    ∙ lies s a.k (sym c.in-Drains.ensures) c.requires.0
 
 pub returns-in-Still : goal.returns-in-Still
 returns-in-Still c =
     let a = c.args in
     let s = a.state.now in
     sym (still_at (seen_in s) a.n a.k (register_in payload_size a.n s))
-    ∙ lies s a.k (sym c.in-Still.ensures) c.requires.1
+    ∙ lies s a.k (sym c.in-Still.ensures) c.requires.0

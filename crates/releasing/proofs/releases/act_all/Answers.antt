@@ -1,4 +1,4 @@
--- `releasing::releases::act_all` meets its contract: a monitor a turn, from the front of the table. The measure is what is left of the monitors.
+-- `releasing::releases::act_all` meets its contract: a monitor a turn, from the front of the table.
 -- Assumes nothing.
 use mathlib.Core.Path.{◌≡◌, sym, ap, ◌∙◌}
 use mathlib.Core.Bool.{Bool, cond}
@@ -7,7 +7,6 @@ use Prim.Native.Nat.{ℕ, ◌+◌, ◌*◌, ◌≤◌, ◌<◌}
 use native.Mathlib.Nat.{add-zero}
 use native.Mathlib.Omega.{arith}
 use lib.ListN.{length}
-use borrow.Author.Rules.{rules}
 use Rattle.records.specs.Record.{record_size}
 use Rattle.serving.proofs.EachActs.{acted-none, acted_more, acted-taken, acted-table}
 use Rattle.clock_state.specs.State.{kind_in, seen_in, chained_in}
@@ -25,12 +24,12 @@ as_many s e = length-windows (kind_in s) (seen_in s) (chained_in s) _ ∙ sym e
 pub loop-k-init : goal.loop-k-init
 loop-k-init c =
     let a = c.args in
-    (omega arith, acted-none a.command a.table.now (windowsOf a.state.now))
+    acted-none a.command a.table.now (windowsOf a.state.now)
 
 pub window_in-window-requires : goal.window_in-window-requires
 window_in-window-requires c =
     let p = c.requires in
-    (search rules, p.1, p.2, c.loop-k-test.true)
+    (p.1, p.2, c.loop-k-test.true)
 
 pub serve_at-requires : goal.serve_at-requires
 serve_at-requires c = tt
@@ -47,17 +46,15 @@ loop-k-preserved c =
       | then-serve_at w ↦ w.taken-is ∙ ap (λ (b : Bool). l.taken + cond b 1 0) (sym w.if-serve_at.true)
       | else-serve_at w ↦ w.taken-is ∙ sym (add-zero l.taken) ∙ ap (λ (b : Bool). l.taken + cond b 1 0) (sym w.if-serve_at.false)
     ]
-    in (
-      omega arith,
-      acted_more a.command a.table.now (windowsOf a.state.now) l.k within _ l.invariant.1 fits
-          c.window_in-window.ensures
-          c.serve_at.ensures.value
-          c.serve_at.ensures.table_after
-          one,
-    )
+    in
+    acted_more a.command a.table.now (windowsOf a.state.now) l.k within _ l.invariant fits
+    c.window_in-window.ensures
+    c.serve_at.ensures.value
+    c.serve_at.ensures.table_after
+    one
 
 pub shape_of-table : goal.shape_of-table
-shape_of-table c = c.loop-k.invariant.1.filling.size
+shape_of-table c = c.loop-k.invariant.filling.size
 
 pub returns : goal.returns
 returns c =
@@ -65,4 +62,4 @@ returns c =
     let p = c.requires in
     let l = c.loop-k in
     let last : l.k ≡ a.n = omega arith in
-    record { value = acted-taken a.command a.table.now (windowsOf a.state.now) a.n (as_many a.state.now p.1) last l.invariant.1; table_after = acted-table a.command a.table.now (windowsOf a.state.now) a.n (as_many a.state.now p.1) last l.invariant.1 p.0 }
+    record { value = acted-taken a.command a.table.now (windowsOf a.state.now) a.n (as_many a.state.now p.1) last l.invariant; table_after = acted-table a.command a.table.now (windowsOf a.state.now) a.n (as_many a.state.now p.1) last l.invariant p.0 }

@@ -1,20 +1,13 @@
--- `remainders::bit_by_bit::over_bytes` meets its contract: a loop along the bytes. The measure is what is left of them.
+-- `remainders::bit_by_bit::over_bytes` meets its contract: a loop along the bytes.
 -- Assumes nothing.
-use Rattle.remainders.proofs.Along.{along-start, along_more, along_end}
+use Rattle.pec.specs.Remainder.{Fitting}
+use Rattle.remainders.proofs.Along.{along_more, along_end}
 use Rattle.remainders.proofs.bit_by_bit.over_bytes.Goals as goal
 
-pub loop-i-init : goal.loop-i-init
-loop-i-init c = along-start _ _ _ _ c.requires.below
-
-pub step_byte-r-requires : goal.step_byte-r-requires
-step_byte-r-requires c =
-    let pre = c.requires in
-    record { width = pre.width; polynomial = pre.polynomial; below = c.loop-i.invariant.below }
-
-pub loop-i-preserved : goal.loop-i-preserved
-loop-i-preserved c =
-    let l = c in
-    along_more _ _ _ _ l.loop-i.invariant c.loop-i-test.true l.requires.polynomial c.step_byte-r.ensures
+pub loop-byte-preserved : goal.loop-byte-preserved
+loop-byte-preserved g c =
+    let fit : Fitting g.W.CheckWord.WIDTH g.W.CheckWord.POLYNOMIAL 16 = g.met.W.CheckWord.fitting in
+    along_more _ _ _ _ c.loop-byte.invariant c.loop-byte-test.true fit.polynomial c.step_byte-r.ensures
 
 pub returns : goal.returns
-returns c = along_end _ _ _ _ c.loop-i.invariant c.loop-i-test.false
+returns g c = along_end _ _ _ _ c.loop-byte.invariant c.loop-byte-test.false

@@ -1,25 +1,19 @@
--- `remainders::through_table::over_bytes` meets its contract: a loop along the bytes. The measure is what is left of them.
+-- `remainders::through_table::over_bytes` meets its contract: a loop along the bytes.
 -- Assumes nothing.
-use native.Mathlib.Omega.{arith}
-use Rattle.remainders.proofs.Along.{along-start, along_more, along_end}
+use mathlib.Core.Path.{ap, ◌∙◌}
+use Prim.Native.Nat.{ℕ}
+use Rattle.laws.specs.Bits.{bits_of}
+use Rattle.pec.specs.Remainder.{remainder, Fitting}
+use Rattle.remainders.proofs.Along.{along_more, along_end}
 use Rattle.remainders.proofs.through_table.over_bytes.Goals as goal
 
-pub loop-i-init : goal.loop-i-init
-loop-i-init c = along-start _ _ _ _ c.requires.fitting.below
-
-pub overflow_cast-bytes : goal.overflow_cast-bytes
-overflow_cast-bytes c = omega (arith, c.shared_slice_known-in-loop-i-1.given c.loop-i.i)
-
-pub step_bits-r-requires : goal.step_bits-r-requires
-step_bits-r-requires c =
-    let pre = c.requires in
-    let l = c.loop-i in
-    record { fitting = record { width = pre.fitting.width; polynomial = pre.fitting.polynomial; below = l.invariant.below }; table_value = pre.table_value; k_bound = (omega arith, (c.shared_slice_known-in-loop-i-1.given l.i).fits) }
-
-pub loop-i-preserved : goal.loop-i-preserved
-loop-i-preserved c =
-    let l = c in
-    along_more _ _ _ _ l.loop-i.invariant c.loop-i-test.true l.requires.fitting.polynomial c.step_bits-r.ensures
+pub loop-byte-preserved : goal.loop-byte-preserved
+loop-byte-preserved g c =
+    let w = g.W.CheckWord.WIDTH in
+    let p = g.W.CheckWord.POLYNOMIAL in
+    let fit : Fitting w p 16 = g.met.W.CheckWord.fitting in
+    along_more _ _ _ _ c.loop-byte.invariant c.loop-byte-test.true fit.polynomial
+    (c.step_bits-r.ensures ∙ ap (λ (n : ℕ). remainder w p c.loop-byte.r (bits_of 8 n)) c.from.ensures)
 
 pub returns : goal.returns
-returns c = along_end _ _ _ _ c.loop-i.invariant c.loop-i-test.false
+returns g c = along_end _ _ _ _ c.loop-byte.invariant c.loop-byte-test.false

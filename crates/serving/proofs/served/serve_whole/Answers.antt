@@ -1,4 +1,4 @@
--- `serving::served::serve_whole` meets its contract: a monitor a turn, from the front of the table. The measure is what is left of the monitors.
+-- `serving::served::serve_whole` meets its contract: a monitor a turn, from the front of the table.
 -- Assumes nothing.
 use mathlib.Core.Path.{◌≡◌, sym, ap, ◌∙◌}
 use mathlib.Core.Bool.{Bool, cond}
@@ -19,7 +19,7 @@ use Rattle.serving.proofs.served.serve_whole.Goals.{then-act_at, else-act_at}
 pub loop-k-init : goal.loop-k-init
 loop-k-init c =
     let a = c.args in
-    (omega arith, acted-none a.command a.table.now (write_payloads (width_of a.command) a.n a.payloads.now))
+    acted-none a.command a.table.now (write_payloads (width_of a.command) a.n a.payloads.now)
 
 pub payload_in-own-requires : goal.payload_in-own-requires
 payload_in-own-requires c = (omega arith, omega arith, c.width_of-width.ensures.upper_bound)
@@ -41,19 +41,17 @@ loop-k-preserved c =
       | then-act_at w ↦ w.taken-is ∙ ap (λ (b : Bool). l.taken + cond b 1 0) (sym w.if-act_at.true)
       | else-act_at w ↦ w.taken-is ∙ sym (add-zero l.taken) ∙ ap (λ (b : Bool). l.taken + cond b 1 0) (sym w.if-act_at.false)
     ]
-    in (
-      omega arith,
-      acted_more a.command a.table.now owns l.k within _ l.invariant.1 fits
-          (c.payload_in-own.ensures
-          ∙ ap (λ (w : ℕ). row_at w (a.n - suc l.k) a.payloads.now) s.width_of-width.ensures.value
-          ∙ sym (write_at (width_of a.command) a.n a.payloads.now l.k [] more))
-          c.act_at.ensures.value
-          c.act_at.ensures.table_after
-          one,
-    )
+    in
+    acted_more a.command a.table.now owns l.k within _ l.invariant fits
+    (c.payload_in-own.ensures
+    ∙ ap (λ (w : ℕ). row_at w (a.n - suc l.k) a.payloads.now) s.width_of-width.ensures.value
+    ∙ sym (write_at (width_of a.command) a.n a.payloads.now l.k [] more))
+    c.act_at.ensures.value
+    c.act_at.ensures.table_after
+    one
 
 pub shape_of-table : goal.shape_of-table
-shape_of-table c = c.loop-k.invariant.1.filling.size
+shape_of-table c = c.loop-k.invariant.filling.size
 
 pub returns : goal.returns
 returns c =
@@ -63,4 +61,4 @@ returns c =
     let owns = write_payloads (width_of a.command) a.n a.payloads.now in
     let as_many = length-write_payloads (width_of a.command) a.n a.payloads.now in
     let last : l.k ≡ a.n = omega arith in
-    record { value = acted-taken a.command a.table.now owns a.n as_many last l.invariant.1; table_after = acted-table a.command a.table.now owns a.n as_many last l.invariant.1 s.requires.0 }
+    record { value = acted-taken a.command a.table.now owns a.n as_many last l.invariant; table_after = acted-table a.command a.table.now owns a.n as_many last l.invariant s.requires.0 }

@@ -1,20 +1,13 @@
 -- `writing::writing::change` meets its contract: a loop that makes so many bytes anew.
 -- Assumes nothing.
-use native.Mathlib.Omega.{arith}
 use Rattle.records.proofs.Making.{making_start, making_more, making_end}
 use Rattle.writing.proofs.writing.change.Goals as goal
 
 pub loop-i-init : goal.loop-i-init
 loop-i-init c = making_start _ _ _ _
 
-pub changed_byte-requires : goal.changed_byte-requires
-changed_byte-requires c = (omega arith, omega arith)
-
 pub loop-i-preserved : goal.loop-i-preserved
 loop-i-preserved c = making_more _ _ _ _ c.loop-i.invariant c.loop-i-test.true c.changed_byte.ensures
-
-pub shape_of-rec : goal.shape_of-rec
-shape_of-rec c = c.loop-i.invariant.size
 
 pub returns : goal.returns
 returns c = making_end _ _ _ _ c.loop-i.invariant c.loop-i-test.false

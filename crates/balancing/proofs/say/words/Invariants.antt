@@ -1,9 +1,0 @@
--- `balancing::say::words` is safe and ends: the measure is the number of bytes that are left. Assumes nothing.
-use Rattle.std.proofs.Common.{◌-◌}
-use Rattle.balancing.proofs.say.words.Given as goal
-
-abbrev pub invariant-loop-i : goal.invariant-loop-i
-invariant-loop-i l = Unit {0}
-
-abbrev pub decreases-loop-i : goal.decreases-loop-i
-decreases-loop-i l = 1790 - l.i

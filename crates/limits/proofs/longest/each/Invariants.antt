@@ -1,9 +1,0 @@
--- `limits::longest::each` is safe and ends: the measure is the number of monitors that are left. Assumes nothing.
-use Prim.Native.Nat.{◌-◌}
-use Rattle.limits.proofs.longest.each.Given as goal
-
-abbrev pub invariant-loop-i : goal.invariant-loop-i
-invariant-loop-i l = Unit {0}
-
-abbrev pub decreases-loop-i : goal.decreases-loop-i
-decreases-loop-i l = 32 - l.i

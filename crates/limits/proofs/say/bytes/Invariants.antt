@@ -1,9 +1,0 @@
--- `limits::say::bytes` is safe and ends: the measure is the number of bytes that are left. Assumes nothing.
-use Prim.Native.Nat.{◌-◌}
-use Rattle.limits.proofs.say.bytes.Given as goal
-
-abbrev pub invariant-loop-i : goal.invariant-loop-i
-invariant-loop-i l = Unit {0}
-
-abbrev pub decreases-loop-i : goal.decreases-loop-i
-decreases-loop-i l = l.to - l.i

@@ -1,0 +1,96 @@
+// Which discharge outputs of a monitor are on. The table is lent to be read only, so that it stays needs no case.
+use crate::begun::TWO;
+use crate::bench::{RECORD, UNTOUCHED};
+use crate::case::{Case, as_wanted};
+use crate::say::{Bytes, Refused};
+use crate::starts::Start;
+use discharge::discharge;
+use priorities::Events;
+use refusals::Refusal;
+use std::alloc::{AllocError, Global};
+use std::io;
+
+#[derive(Clone, Copy)]
+pub(crate) struct Question {
+    pub name: &'static str,
+    pub start: Start,
+    pub monitors: u8,
+    pub position: u8,
+    pub events: Events,
+    pub phase: u8,
+    pub room: usize,
+    // What the monitor that is asked about holds: its DCC bytes, configuration B bytes 4 and 5, and its duties, PWM group A and bytes 0 and 1
+    // of group B, as they lie in its record.
+    pub dcc: u16,
+    pub duties: u64,
+    // How many outputs are on.
+    pub outcome: Result<usize, Refusal>,
+    // The outputs of cells 1 to 8 and of 9 to 16: the row, and 80 more where the output is on. Every other byte of the buffer stays, and all do
+    // after a refusal.
+    pub outputs: [u64; 2],
+}
+
+pub(crate) const NONE: Events = Events {
+    shutdown: false,
+    measurement: false,
+    wrcfgb: false,
+    wrpwm: false,
+};
+
+// All duties are 15.
+pub(crate) const ASKED: Question = Question {
+    name: "",
+    start: TWO,
+    monitors: 2,
+    position: 1,
+    events: NONE,
+    phase: 0,
+    room: 16,
+    dcc: 0,
+    duties: 0xffff_ffff_ffff_ffff,
+    outcome: Ok(0),
+    outputs: [0, 0],
+};
+
+impl Question {
+    fn table(&self, alloc: Global) -> Result<Vec<u8>, AllocError> {
+        let mut table = self.start.table(alloc, self.monitors)?;
+        for (position, record) in (1_u8..34).zip(table.chunks_mut(RECORD)) {
+            if position == self.position {
+                laying::put(record, 10, &self.dcc.to_be_bytes());
+                laying::put(record, 70, &self.duties.to_be_bytes());
+            }
+        }
+        Ok(table)
+    }
+
+    // The buffer expected.
+    fn buffer(&self, alloc: Global) -> Result<Vec<u8>, AllocError> {
+        let mut buffer = vec![in alloc; UNTOUCHED; self.room]?;
+        if self.outcome.is_ok() {
+            laying::put(&mut buffer, 0, &self.outputs[0].to_be_bytes());
+            laying::put(&mut buffer, 8, &self.outputs[1].to_be_bytes());
+        }
+        Ok(buffer)
+    }
+}
+
+impl Case for Question {
+    fn tried<R: Print + Alloc<A = Global>>(&self, rt: &R) -> io::Result<bool> {
+        let alloc = rt.alloc();
+        let table = self.table(alloc)?;
+        let mut out = vec![in alloc; UNTOUCHED; self.room]?;
+        let position = usize::from(self.position);
+        let came = discharge(&table, position, self.events, self.phase, &mut out);
+        let right = as_wanted(came, self.outcome) && out == self.buffer(alloc)?;
+        print!(rt; "{}", self.name)?;
+        match came {
+            Err(refusal) => print!(rt; "{}", Refused(refusal))?,
+            Ok(on) => print!(rt; ": on {on};{}", Bytes(&out))?,
+        }
+        if came.is_err() && right {
+            print!(rt; ", buffer as before")?;
+        }
+        Ok(right)
+    }
+}

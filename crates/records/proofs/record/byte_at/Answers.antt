@@ -1,8 +1,0 @@
--- `records::record::byte_at` meets its contract, by its test.
--- Assumes nothing.
-use mathlib.Core.Path.{sym}
-use lib.ListN.{get_or-eq_default}
-use Rattle.records.proofs.record.byte_at.Goals as goal
-
-pub returns-else-i-bytes : goal.returns-else-i-bytes
-returns-else-i-bytes c = sym (get_or-eq_default c.args.bytes.now 0 c.if-i-bytes.false)
