@@ -1,5 +1,6 @@
 // The chain of the two monitors: what our host sends to it and reads from it, and its outputs.
 
+use crate::commands::Command;
 use crate::fifteenths::Fifteenths;
 use crate::frames::Frame;
 use crate::halves::Half;
@@ -29,17 +30,21 @@ impl Cabinet {
     }
 
     // A write or a bare command goes to both monitors: its frame, and how many took it. It counts, and after 63 comes 1.
-    pub(crate) fn send(&mut self, code: u16, values: &[u8]) -> Result<(Frame, usize), Refusal> {
+    pub(crate) fn send(
+        &mut self,
+        command: Command,
+        values: &[u8],
+    ) -> Result<(Frame, usize), Refusal> {
         self.counter = self.counter % 63 + 1;
-        let frame = Frame::build(code, values)?;
+        let frame = Frame::build(command.code(), values)?;
         let mut no_reply = [0; 16];
         let answer = chain::handle(&mut self.table, frame.bytes(), &mut no_reply)?;
         Ok((frame, answer.taken))
     }
 
     // The six data bytes that a half replies to a read. There are none where our host finds the check wrong, or another counter than its own.
-    pub(crate) fn read(&mut self, code: u16, half: Half) -> Option<[u8; 6]> {
-        let frame = Frame::build(code, b"").ok()?;
+    pub(crate) fn read(&mut self, command: Command, half: Half) -> Option<[u8; 6]> {
+        let frame = Frame::build(command.code(), b"").ok()?;
         let mut reply = [0; 16];
         chain::handle(&mut self.table, frame.bytes(), &mut reply).ok()?;
         let payload = half.part(&reply);

@@ -8,6 +8,7 @@ use std::fmt;
 // The most is a write: a command and its check, and eight bytes for each monitor.
 const MOST_BYTES: usize = 20;
 
+// The length stands beside the bytes: in a `Vec` a build could fail in two ways, by a refusal and for want of memory.
 // `night` has it too, as it has the halves.
 #[derive(Drop)]
 pub(crate) struct Frame {
@@ -29,7 +30,7 @@ impl Frame {
     }
 }
 
-// In hexadecimal. Bars part the command with its check from the payloads.
+// In hexadecimal. Bars part the command with its check from the payloads. `cabinet` and `spikes` show them too: a function of a library needs a promise and its line in the first demand.
 impl fmt::Display for Frame {
     fn fmt<W: fmt::Write>(&self, f: &mut fmt::Formatter<W>) -> fmt::Result {
         for (i, byte) in self.bytes().iter().enumerate() {

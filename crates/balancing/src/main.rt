@@ -3,6 +3,7 @@
 #![tactic(auto)]
 
 mod cabinet;
+mod commands;
 mod fifteenths;
 mod frames;
 mod halves;

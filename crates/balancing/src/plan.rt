@@ -1,5 +1,6 @@
 // What is done with the cabinet, step by step, and what is expected of its halves.
 
+use crate::commands::Command;
 use crate::fifteenths::Fifteenths;
 use crate::halves::Halves;
 use crate::outputs::{Output, Outputs, Row};
@@ -15,7 +16,10 @@ pub(crate) struct Step {
 #[derive(Clone, Copy)]
 pub(crate) enum Deed {
     // Our host sends a command, in a write with six bytes for each monitor, the near half's first.
-    Send { code: u16, values: &'static [u8] },
+    Send {
+        command: Command,
+        values: &'static [u8],
+    },
     Ask(Question),
 }
 
@@ -37,16 +41,6 @@ pub(crate) enum Question {
         expected: Halves<Outputs>,
     },
 }
-
-const WRPWMA: u16 = 0x0020;
-
-const WRPWMB: u16 = 0x0021;
-
-const WRCFGB: u16 = 0x0024;
-
-const MUTE: u16 = 0x0028;
-
-const UNMUTE: u16 = 0x0029;
 
 // The duties that are ordered.
 pub(crate) const DUTIES: Halves<Fifteenths> = Halves {
@@ -94,23 +88,23 @@ pub(crate) const PLAN: [Step; 17] = [
     // The duties, the thresholds and the DCC bit are written. The odd cell's duty is the low half of a byte. The last four bytes of PWM group B
     // are fixed, whatever is sent. Configuration B has the thresholds, and the DCC bit of cell 13 of the far half.
     Step {
-        says: "\n  WRPWMA",
+        says: "",
         does: Deed::Send {
-            code: WRPWMA,
+            command: Command::WritePwmA,
             values: b"\x24\xf0\x08\x31\xa0\x21\x38\xe1\x50\xb2\x71\x20",
         },
     },
     Step {
-        says: "\n  WRPWMB",
+        says: "",
         does: Deed::Send {
-            code: WRPWMB,
+            command: Command::WritePwmB,
             values: b"\x50\x1c\x00\x00\x00\x00\x09\x24\x00\x00\x00\x00",
         },
     },
     Step {
-        says: "\n  WRCFGB",
+        says: "",
         does: Deed::Send {
-            code: WRCFGB,
+            command: Command::WriteConfigurationB,
             values: b"\xfa\xb0\x36\x00\x00\x00\xf4\x51\x46\x00\x00\x10",
         },
     },
@@ -225,9 +219,9 @@ pub(crate) const PLAN: [Step; 17] = [
         }),
     },
     Step {
-        says: "\n\nMuted.\n  MUTE",
+        says: "\n\nMuted.",
         does: Deed::Send {
-            code: MUTE,
+            command: Command::Mute,
             values: b"",
         },
     },
@@ -244,9 +238,9 @@ pub(crate) const PLAN: [Step; 17] = [
         does: Deed::Ask(Question::Portal { expected: MUTED }),
     },
     Step {
-        says: "\n\nNo longer muted.\n  UNMUTE",
+        says: "\n\nNo longer muted.",
         does: Deed::Send {
-            code: UNMUTE,
+            command: Command::Unmute,
             values: b"",
         },
     },

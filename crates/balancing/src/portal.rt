@@ -1,15 +1,12 @@
 // What the licence portal sees of a half.
 
 use crate::cabinet::Cabinet;
+use crate::commands::Command;
 use crate::fifteenths::Fifteenths;
 use crate::halves::Half;
 use crate::outputs::Outputs;
 use crate::plan::{DUTIES, MUTED, QUIET, RUNNING};
 use std::{fmt, io};
-
-const RDPWMA: u16 = 0x0022;
-
-const RDPWMB: u16 = 0x0023;
 
 // What is to be said of a half.
 #[derive(Clone, Copy, Debug, PartialEq, Eq)]
@@ -61,8 +58,8 @@ pub(crate) fn look(
     cabinet: &mut Cabinet,
     half: Half,
 ) -> io::Result<Option<Outputs>> {
-    let a = cabinet.read(RDPWMA, half);
-    let b = cabinet.read(RDPWMB, half);
+    let a = cabinet.read(Command::ReadPwmA, half);
+    let b = cabinet.read(Command::ReadPwmB, half);
     let duties = Fifteenths::of_groups(a.unwrap_or_default(), b.unwrap_or_default());
     print!(rt; " | duties{duties} | outputs")?;
     let outputs = cabinet.outputs(half, QUIET, 0);

@@ -1,6 +1,7 @@
 // A step of the plan: what is done at it, and is it as expected?
 
 use crate::cabinet::Cabinet;
+use crate::commands::Command;
 use crate::halves::Half;
 use crate::outputs::{Output, Outputs, Row};
 use crate::plan::{DUTIES, Deed, Question, Step};
@@ -10,7 +11,7 @@ use std::{fmt, io};
 pub(crate) fn take(rt: &impl Print, cabinet: &mut Cabinet, step: &Step) -> io::Result<bool> {
     print!(rt; "{}", step.says)?;
     match &step.does {
-        Deed::Send { code, values } => send(rt, cabinet, *code, values),
+        Deed::Send { command, values } => send(rt, cabinet, *command, values),
         Deed::Ask(question) => {
             let near = ask(rt, cabinet, Half::Near, question)?;
             let far = ask(rt, cabinet, Half::Far, question)?;
@@ -20,8 +21,14 @@ pub(crate) fn take(rt: &impl Print, cabinet: &mut Cabinet, step: &Step) -> io::R
 }
 
 // A frame is sent and shown. Did both monitors take it?
-fn send(rt: &impl Print, cabinet: &mut Cabinet, code: u16, values: &[u8]) -> io::Result<bool> {
-    if let Ok((frame, taken)) = cabinet.send(code, values) {
+fn send(
+    rt: &impl Print,
+    cabinet: &mut Cabinet,
+    command: Command,
+    values: &[u8],
+) -> io::Result<bool> {
+    print!(rt; "\n  {command}")?;
+    if let Ok((frame, taken)) = cabinet.send(command, values) {
         print!(rt; "{frame} | taken by {taken} of 2 monitors")?;
         if taken == 2 {
             return Ok(true);
@@ -62,7 +69,7 @@ fn ask(
     }
 }
 
-// Did that come which is expected?
+// Did that come which is expected? `night` asks it too: a function of a library needs a promise and its line in the first demand.
 fn compare<T: Copy + PartialEq + fmt::Display>(
     rt: &impl Print,
     came: Option<T>,

@@ -16,14 +16,45 @@ pub(crate) static CELLS: [i16; 32] = [
     7000, 13009, 13024, 12991, 13013, 13006,
 ];
 
-const WRCFGB: u16 = 0x0024;
+// The commands that our host sends.
+#[derive(Clone, Copy)]
+enum Command {
+    WriteConfigurationB,
+    ReadConfigurationB,
+    ReadStatusD,
+    ReadCellsA,
+    ReadCellsB,
+    ReadCellsC,
+    ReadCellsD,
+    ReadCellsE,
+    ReadCellsF,
+}
 
-const RDCFGB: u16 = 0x0026;
+impl Command {
+    // Three cells in each but the last, which has cell 16.
+    const CELL_READS: [Command; CELL_REGISTERS] = [
+        Command::ReadCellsA,
+        Command::ReadCellsB,
+        Command::ReadCellsC,
+        Command::ReadCellsD,
+        Command::ReadCellsE,
+        Command::ReadCellsF,
+    ];
 
-const RDSTATD: u16 = 0x0033;
-
-// The reads of the cells: three cells in each but the last, which has cell 16.
-const CELL_READS: [u16; CELL_REGISTERS] = [0x0004, 0x0006, 0x0008, 0x000a, 0x0009, 0x000b];
+    fn code(self) -> u16 {
+        match self {
+            Command::WriteConfigurationB => 0x0024,
+            Command::ReadConfigurationB => 0x0026,
+            Command::ReadStatusD => 0x0033,
+            Command::ReadCellsA => 0x0004,
+            Command::ReadCellsB => 0x0006,
+            Command::ReadCellsC => 0x0008,
+            Command::ReadCellsD => 0x000a,
+            Command::ReadCellsE => 0x0009,
+            Command::ReadCellsF => 0x000b,
+        }
+    }
+}
 
 // A command, and eight bytes for each of two monitors: its payload, or what its reply is clocked over.
 pub(crate) type Frame = [u8; 20];
@@ -35,9 +66,9 @@ pub(crate) struct Cabinet {
 }
 
 // Our host's frame for both monitors.
-fn frame_of(code: u16, values: &[u8]) -> Result<Frame, Refusal> {
+fn frame_of(command: Command, values: &[u8]) -> Result<Frame, Refusal> {
     let mut frame = [0; 20];
-    host::build(code, 2, values, &mut frame)?;
+    host::build(command.code(), 2, values, &mut frame)?;
     Ok(frame)
 }
 
@@ -49,7 +80,7 @@ pub(crate) fn thresholds_for(halves: [Half; 2]) -> Result<Frame, Refusal> {
     let (for_first, for_second) = values.split_at_mut(6);
     for_first.copy_from_slice(&first.configuration_b());
     for_second.copy_from_slice(&second.configuration_b());
-    frame_of(WRCFGB, &values)
+    frame_of(Command::WriteConfigurationB, &values)
 }
 
 // A frame as it comes after a spike on the third byte for the far half.
@@ -80,8 +111,8 @@ impl Cabinet {
     }
 
     // Both monitors' replies to a read, as they come at the near end: monitor 1 first.
-    fn reply_to(&mut self, code: u16) -> Result<[u8; 16], Refusal> {
-        let frame = frame_of(code, &[])?;
+    fn reply_to(&mut self, command: Command) -> Result<[u8; 16], Refusal> {
+        let frame = frame_of(command, &[])?;
         let mut reply = [0; 16];
         chain::handle(&mut self.table, &frame, &mut reply)?;
         Ok(reply)
@@ -89,8 +120,8 @@ impl Cabinet {
 
     // A half's part of a register, as the host picks it from the two replies by the counter that it expects. What comes to port A from monitor 2 is
     // damaged, each time: one bit is turned over on the way. At the other end the same payloads come, monitor 2 first.
-    fn read(&mut self, code: u16, half: Half, expected: u8) -> Register {
-        let sent = self.reply_to(code).unwrap_or([0; 16]);
+    fn read(&mut self, command: Command, half: Half, expected: u8) -> Register {
+        let sent = self.reply_to(command).unwrap_or([0; 16]);
         let mut a = sent;
         a[8] ^= 1;
         let mut b = sent;
@@ -105,17 +136,17 @@ impl Cabinet {
 
     // All the registers of a half, each read from both ends.
     pub(crate) fn look(&mut self, half: Half, expected: u8) -> Seen {
-        let configuration_b = self.read(RDCFGB, half, expected);
-        let status_d = self.read(RDSTATD, half, expected);
+        let configuration_b = self.read(Command::ReadConfigurationB, half, expected);
+        let status_d = self.read(Command::ReadStatusD, half, expected);
         let mut cells = [Register::UNREAD; CELL_REGISTERS];
-        for (register, code) in cells.iter_mut().zip(CELL_READS) {
-            *register = self.read(code, half, expected);
+        for (register, command) in cells.iter_mut().zip(Command::CELL_READS) {
+            *register = self.read(command, half, expected);
         }
         Seen::of(half, expected, configuration_b, status_d, cells)
     }
 }
 
-// The bytes of a frame: a command, and payloads with a bar before each.
+// The bytes of a frame: a command, and payloads with a bar before each. `balancing` and `spikes` show them too: a function of a library needs a promise and its line in the first demand.
 #[derive(Drop)]
 pub(crate) struct OnTheWire<'a>(pub &'a [u8]);
 

@@ -1,4 +1,4 @@
-// The two halves of the cabinet, and what was ordered for each.
+// The two halves of the cabinet, and what was ordered for each. `night` and `balancing` have halves too: a function of a library needs a promise and its line in the first demand.
 use crate::limits::Limits;
 use crate::microvolts::Microvolts;
 use std::fmt;

@@ -12,7 +12,7 @@ impl Microvolts {
     }
 
     pub(crate) fn of_cell(code: i16) -> Microvolts {
-        Microvolts::of_result(ResultCode(i32::from(code)))
+        Microvolts::of_result(ResultCode(code.into()))
     }
 
     // No total of this program comes near the largest number.
@@ -26,6 +26,7 @@ impl Microvolts {
     }
 }
 
+// `night` prints hundredths of a volt and `spikes` tenths of a millivolt: a function of a library needs a promise and its line in the first demand.
 impl fmt::Display for Microvolts {
     fn fmt<W: fmt::Write>(&self, f: &mut fmt::Formatter<W>) -> fmt::Result {
         write!(f, "{}.{:06} V", self.0 / 1_000_000, self.0 % 1_000_000)

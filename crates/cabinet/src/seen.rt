@@ -87,11 +87,16 @@ impl Cell {
 // Sixteen cells. A register has three of them, low byte first; status D has the flags of four cells to a byte.
 fn cells_of(registers: &[Register; CELL_REGISTERS], status_d: &Register) -> [Cell; 16] {
     let mut cells = [Cell::UNREAD; 16];
-    for (number, cell) in cells.iter_mut().enumerate() {
-        let bytes = registers[number / 3].bytes;
-        let at = number % 3 * 2;
-        cell.code = i16::from_le_bytes([bytes[at], bytes[at + 1]]);
-        cell.flags = Flags::of_bits(status_d.bytes[number / 4] >> (number % 4 * 2));
+    for (three, register) in cells.chunks_mut(3).zip(registers) {
+        let (codes, _) = register.bytes.as_chunks::<2>();
+        for (cell, code) in three.iter_mut().zip(codes) {
+            cell.code = i16::from_le_bytes(*code);
+        }
+    }
+    for (four, byte) in cells.chunks_mut(4).zip(status_d.bytes) {
+        for (cell, bits) in four.iter_mut().zip([byte, byte >> 2, byte >> 4, byte >> 6]) {
+            cell.flags = Flags::of_bits(bits);
+        }
     }
     cells
 }

@@ -17,7 +17,7 @@ impl Code {
     }
 }
 
-// In volts, to hundredths.
+// In volts, to hundredths. `cabinet` and `spikes` print other parts of a volt: a function of a library needs a promise and its line in the first demand.
 impl fmt::Display for Code {
     fn fmt<W: fmt::Write>(&self, f: &mut fmt::Formatter<W>) -> fmt::Result {
         let hundredths = (1_500_000 + 150 * i32::from(self.0)) / 10_000;

@@ -8,6 +8,7 @@ use std::fmt;
 // The most is a write: a command and its check, and eight bytes for each monitor.
 const MOST_BYTES: usize = 20;
 
+// The length stands beside the bytes: in a `Vec` a build could fail in two ways, by a refusal and for want of memory.
 // `balancing` has it too, as it has the halves.
 #[derive(Drop)]
 pub(crate) struct Frame {

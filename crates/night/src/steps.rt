@@ -70,7 +70,7 @@ fn send(
     compare(rt, taken, expected)
 }
 
-// Did that come which is expected?
+// Did that come which is expected? `balancing` asks it too: a function of a library needs a promise and its line in the first demand.
 pub(crate) fn compare<T: Copy + PartialEq + fmt::Debug>(
     rt: &impl Print,
     came: T,

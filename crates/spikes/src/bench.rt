@@ -11,7 +11,7 @@ const TABLE_SIZE: usize = 2 * RECORD_SIZE;
 // The records of both monitors, the near one's first.
 pub(crate) type Table = [u8; TABLE_SIZE];
 
-// What a reply buffer holds before.
+// What a reply buffer holds before a frame.
 const NO_REPLY: [u8; 16] = [0xa5; 16];
 
 // What comes of a frame: the table, the whole reply buffer and the answer.
@@ -22,7 +22,7 @@ pub(crate) struct Outcome {
     pub answer: Result<Answer, Refusal>,
 }
 
-// The engine that takes a frame whole, and the one that clocks it a byte at a time.
+// The engine that takes a frame whole, and the one that clocks it a byte at a time. `limits` has them too: a function of a library needs a promise and its line in the first demand.
 #[derive(Clone, Copy)]
 pub(crate) enum Engine {
     WholeFrame,
@@ -69,10 +69,28 @@ pub(crate) fn muted_in(table: &Table) -> usize {
         .count()
 }
 
+// The commands that our host sends.
+#[derive(Clone, Copy)]
+pub(crate) enum Command {
+    WriteConfigurationB,
+    WriteRetention,
+    Mute,
+}
+
+impl Command {
+    fn code(self) -> u16 {
+        match self {
+            Command::WriteConfigurationB => 0x0024,
+            Command::WriteRetention => 0x0039,
+            Command::Mute => 0x0028,
+        }
+    }
+}
+
 // A frame for both monitors. Where our host refuses it is all zeros, which the chain refuses.
-pub(crate) fn built(code: u16, values: &[u8]) -> Frame {
+pub(crate) fn built(command: Command, values: &[u8]) -> Frame {
     let mut frame = [0; 20];
-    let _ = host::build(code, 2, values, &mut frame);
+    let _ = host::build(command.code(), 2, values, &mut frame);
     frame
 }
 

@@ -9,7 +9,7 @@ mod shown;
 mod spike;
 mod tally;
 
-use crate::bench::{Engine, Frame, Outcome, Table, built, muted_in, start};
+use crate::bench::{Command, Engine, Frame, Outcome, Table, built, muted_in, start};
 use crate::due::{Trial, due_of_mute};
 use crate::shown::{NearMonitor, OnTheWire};
 use crate::spike::Spike;
@@ -153,7 +153,7 @@ fn show_bare(
 // The spike that the check of a command does not tell, after MUTE as it was sent.
 fn sixteen(rt: &impl Print, before: &Table) -> io::Result<u64> {
     println!(rt; "16 places, on a command: a MUTE comes as UNMUTE.")?;
-    let mute = built(0x0028, b"");
+    let mute = built(Command::Mute, b"");
     let came = SIXTEEN_PLACES.strike(&mute);
     let muted = due_of_mute(before, true);
     let unmuted = due_of_mute(&muted.table, false);
@@ -174,13 +174,13 @@ fn run(rt: &impl Print) -> io::Result<()> {
     let before = start();
     let thresholds = Trial {
         before,
-        sent: built(0x0024, &THRESHOLDS),
+        sent: built(Command::WriteConfigurationB, &THRESHOLDS),
         at: CONFIGURATION_B,
         needs_check: true,
     };
     let licences = Trial {
         before,
-        sent: built(0x0039, &LICENCES),
+        sent: built(Command::WriteRetention, &LICENCES),
         at: RETENTION,
         needs_check: false,
     };

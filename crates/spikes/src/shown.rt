@@ -7,11 +7,11 @@ use std::fmt;
 #[derive(Drop)]
 struct Bytes<'a>(&'a [u8]);
 
-// The bytes of a frame: bars part the command and the payloads.
+// The bytes of a frame: bars part the command and the payloads. `cabinet` and `balancing` show them too: a function of a library needs a promise and its line in the first demand.
 #[derive(Drop)]
 pub(crate) struct OnTheWire<'a>(pub &'a [u8]);
 
-// Tenths of a millivolt, as volts.
+// Tenths of a millivolt, as volts. `cabinet` and `night` print other parts of a volt: a function of a library needs a promise and its line in the first demand.
 #[derive(Clone, Copy)]
 struct Volts(u32);
 

@@ -26,7 +26,7 @@ pub(crate) fn is_wrong(before: &Table, frame: &[u8], after: &Outcome, due: &Outc
     *after != *due || clocked != *due
 }
 
-// One more where it is so. No count here comes near the largest number.
+// One more where it is so. No count here comes near the largest number. `vectors` has it too: a function of a library needs a promise and its line in the first demand.
 fn count(n: &mut u64, so: bool) {
     *n = n.saturating_add(u64::from(so));
 }

@@ -134,7 +134,7 @@ use Rattle.story.proofs.EitherSide.{EitherSide, either_side}
 use Rattle.std.specs.Prelude.{Some, None, Ok, Err}
 use Rattle.chain.specs.Frame.{took}
 use Rattle.heartbeats.specs.Steps.{sends}
-use Rattle.passing.specs.declared.operations.End.TheVariants.{A, B}
+use Rattle.passing.specs.declared.operations.End.TheVariants.{A as EndA, B as EndB}
 
 pub record Demand2 : Type 0 where
   -- ---- a frame: `chain::handle`, and `clocked::handle`, which promises the same
@@ -730,7 +730,7 @@ pub record Demand2 : Type 0 where
   nothing_handed : (out : List ℕ) → handed_out [] out ≡ out
   message-handed : (c f : ℕ) (out : List ℕ) → handed_out (message c f) out ≡ message c f ++ drop 8 out
   nothing_told : (r : List ℕ) → (sent_towards r [] ≡ None) × (sent_on [] ≡ Stopped)
-  message-told : (r : List ℕ) (c f : ℕ) → (sent_towards r (message c f) ≡ cond (towards_a r) (Some A) (Some B)) × (sent_on (message c f) ≡ SentOn)
+  message-told : (r : List ℕ) (c f : ℕ) → (sent_towards r (message c f) ≡ cond (towards_a r) (Some EndA) (Some EndB)) × (sent_on (message c f) ≡ SentOn)
   -- a whole heartbeat hands out what leaves the chain, and leaves what every monitor's turn leaves: from the one that wakes to the others on its way, nearest
   -- to it first, each reached by what the one before it sent. Towards port A its way goes down to the first monitor, else up to the last
   beat_done : (table : List ℕ) (position : ℕ) (out : List ℕ) → Passed (wake_refusals table position (length out))

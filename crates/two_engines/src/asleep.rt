@@ -123,37 +123,77 @@ fn put_monitor(record: &mut Record, calm: bool, luck: &mut Luck) {
     put_settings(record, calm, luck);
 }
 
-// A manager. CMC_NDEV is the number of monitors and 42 (hex) more, or near that.
-fn put_manager(record: &mut Record, monitors: Monitors, way: usize)
-    requires { way < 64 }
+// A manager. The lower bits of its configuration are drawn; CMC_NDEV is the number of monitors and 42 (hex) more, or near that.
+fn put_manager(record: &mut Record, monitors: Monitors, bits: usize)
+    requires { bits < 64 }
 {
-    let near = if way / 2 % 4 == 0 { way / 8 % 4 } else { 1 };
-    record[LPCM_CONFIGURATION] = (0x80 + way) as u8;
+    let near = if bits / 2 % 4 == 0 { bits / 8 % 4 } else { 1 };
+    record[LPCM_CONFIGURATION] = (0x80 + bits) as u8;
     record[LPCM_CONFIGURATION + 1] = (0x41 + monitors.n + near) as u8;
-    record[LPCM_CONFIGURATION + 4] = if way % 2 == 0 { 0xdf } else { 0xff };
+    record[LPCM_CONFIGURATION + 4] = if bits % 2 == 0 { 0xdf } else { 0xff };
 }
 
-// Something on the way: a monitor not in LPCM, a timeout monitor, another manager; or nothing.
-fn put_other(record: &mut Record, what: usize) {
-    match what {
-        0 => record[CMF1] = 0x03,
-        1 | 3 | 4 => record[LPCM_CONFIGURATION] = 0x08,
-        2 => record[LPCM_CONFIGURATION] = 0x80,
-        _ => {}
+// Which of the monitors.
+#[derive(Clone, Copy)]
+enum Place {
+    First,
+    Last,
+    Any,
+}
+
+impl Place {
+    // Of a manager. At times there is none.
+    fn of_manager(luck: &mut Luck) -> Option<Place> {
+        match luck.draw(6) {
+            0 => Some(Place::First),
+            1 => Some(Place::Last),
+            2 | 3 => Some(Place::Any),
+            _ => None,
+        }
+    }
+
+    // Counted from 0.
+    fn index(self, any: usize, monitors: Monitors) -> usize
+        requires { any < monitors.n }
+        ensures { result < monitors.n }
+    {
+        match self {
+            Place::First => 0,
+            Place::Last => monitors.n - 1,
+            Place::Any => any,
+        }
     }
 }
 
-// One of the monitors, counted from 0: the first, the last, or any.
-fn place_of(way: usize, first: usize, any: usize, monitors: Monitors) -> usize
-    requires { (any < monitors.n) × (first < 8) }
-    ensures { result < monitors.n }
-{
-    if way == first {
-        0
-    } else if way == first + 1 {
-        monitors.n - 1
-    } else {
-        any
+// What is on the way.
+#[derive(Clone, Copy)]
+enum Other {
+    NotInLpcm,
+    TimeoutMonitor,
+    Manager,
+    Nothing,
+}
+
+impl Other {
+    // And where.
+    fn draw(luck: &mut Luck) -> (Other, Place) {
+        match luck.draw(8) {
+            0 => (Other::NotInLpcm, Place::Any),
+            1 => (Other::TimeoutMonitor, Place::Any),
+            2 => (Other::Manager, Place::Any),
+            3 => (Other::TimeoutMonitor, Place::First),
+            4 => (Other::TimeoutMonitor, Place::Last),
+            _ => (Other::Nothing, Place::Any),
+        }
+    }
+
+    fn put(self, record: &mut Record) {
+        match self {
+            Other::NotInLpcm => record[CMF1] = 0x03,
+            Other::TimeoutMonitor => record[LPCM_CONFIGURATION] = 0x08,
+            Other::Manager => record[LPCM_CONFIGURATION] = 0x80,
+            Other::Nothing => {}
+        }
     }
 }
 
@@ -164,21 +204,21 @@ pub(crate) struct Asleep {
     pub other: usize,
 }
 
-// The manager, and something on the way. At times there is no manager.
+// The manager, and something on the way.
 fn put_roles(records: &mut [Record], monitors: Monitors, luck: &mut Luck) -> Asleep
     requires { length records.old ≡ 32 }
 {
-    let side = luck.draw(6);
+    let side = Place::of_manager(luck);
     let one = luck.draw(monitors.n);
-    let way = luck.draw(64);
-    let what = luck.draw(8);
+    let bits = luck.draw(64);
+    let (what, place) = Other::draw(luck);
     let another = luck.draw(monitors.n);
-    let manager = place_of(side, 0, one, monitors);
-    let other = place_of(what, 3, another, monitors);
-    if side < 4 {
-        put_manager(&mut records[manager], monitors, way);
+    let manager = side.unwrap_or(Place::Any).index(one, monitors);
+    let other = place.index(another, monitors);
+    if side.is_some() {
+        put_manager(&mut records[manager], monitors, bits);
     }
-    put_other(&mut records[other], what);
+    what.put(&mut records[other]);
     Asleep {
         manager: manager + 1,
         other: other + 1,

@@ -79,14 +79,12 @@ impl Operation {
     fn draw(
         alloc: Global,
         kind: Kind,
-        size: usize,
+        lent: Loan,
         monitors: Monitors,
         luck: &mut Luck,
-    ) -> Result<Operation, AllocError>
-        requires { size ≤ 5441 }
-    {
+    ) -> Result<Operation, AllocError> {
         let position = luck.draw(monitors.n + 2);
-        let size = size.saturating_sub(usize::from(luck.once_in(16)));
+        let size = lent.size.saturating_sub(usize::from(luck.once_in(16)));
         let length = near_eight(luck);
         let room = near_eight(luck);
         let mut message = message(luck).to_vec(alloc)?;
@@ -133,18 +131,16 @@ impl World {
     // Now and then an operation, at times after the chain was put to sleep.
     pub(crate) fn now_and_then_operate(
         &mut self,
-        size: usize,
+        lent: Loan,
         one: Table,
         other: Table,
-    ) -> Result<(), AllocError>
-        requires { size ≤ 5441 }
-    {
+    ) -> Result<(), AllocError> {
         let kind = Kind::draw(&mut self.luck);
         let sleep = self.luck.once_in(2);
         let Some(kind) = kind else {
             return Ok(());
         };
-        let operation = Operation::draw(self.alloc, kind, size, self.monitors, &mut self.luck)?;
+        let operation = Operation::draw(self.alloc, kind, lent, self.monitors, &mut self.luck)?;
         if sleep {
             self.operate_asleep(operation, one, other);
         } else {

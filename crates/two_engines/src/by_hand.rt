@@ -1,13 +1,12 @@
 // A frame clocked by hand: a byte at a time, with looks at the windows between, and a release. The table that is lent with a byte
 // matters with byte four alone; another N or an unsound table there, or another N at the release, is refusal 1.
-ghost use Rattle.std.specs.Prelude.{◌≤◌};
-
 use crate::digest::Digested;
 use crate::engines::whole;
 use crate::luck::Luck;
 use crate::outcomes::{BEFORE, Head, Loan, Outcome, REPLY_ROOM, Reply, Table};
 use crate::world::{Monitors, World};
 use records::RECORD_SIZE;
+use refusals::Refusal;
 
 // What is wrong with the tables that are lent.
 #[derive(Clone, Copy)]
@@ -43,12 +42,10 @@ impl Way {
         }
     }
 
-    // How many bytes of the table are lent.
-    fn lent(self, time: Time, monitors: Monitors) -> usize
-        ensures { result ≤ 5441 }
-    {
+    // How much of the table is lent. Of a reply buffer there is room for all.
+    fn lent(self, time: Time, monitors: Monitors) -> Loan {
         let n = monitors.n;
-        match (self, time) {
+        let size = match (self, time) {
             (Way::AnotherAtFour, Time::ByteFour) | (Way::AnotherAtRelease, Time::Release) => {
                 let another = if n == 1 { 2 } else { n - 1 };
                 RECORD_SIZE * another
@@ -58,6 +55,10 @@ impl Way {
             }
             (Way::NoneElsewhere, Time::AnotherByte) => 0,
             _ => RECORD_SIZE * n,
+        };
+        Loan {
+            size,
+            room: REPLY_ROOM,
         }
     }
 
@@ -65,15 +66,16 @@ impl Way {
     fn due(self, table: &Table, monitors: Monitors, frame: &[u8]) -> Outcome {
         match self {
             Way::AnotherAtFour | Way::UnsoundAtFour | Way::AnotherAtRelease => {
-                Outcome::refused(table, if frame.len() < 4 { 2 } else { 1 })
-            }
-            Way::UnsoundAtRelease => Outcome::refused(table, 1),
-            Way::Right | Way::NoneElsewhere => {
-                let loan = Loan {
-                    size: RECORD_SIZE * monitors.n,
-                    room: REPLY_ROOM,
+                let refusal = if frame.len() < 4 {
+                    Refusal::FrameShort
+                } else {
+                    Refusal::TableNotSound
                 };
-                whole(loan, table, frame)
+                Outcome::refused(table, refusal)
+            }
+            Way::UnsoundAtRelease => Outcome::refused(table, Refusal::TableNotSound),
+            Way::Right | Way::NoneElsewhere => {
+                whole(self.lent(Time::Release, monitors), table, frame)
             }
         }
     }
@@ -111,8 +113,8 @@ impl World {
             } else {
                 Time::AnotherByte
             };
-            let size = way.lent(time, self.monitors);
-            let answer = clocking::clock(&mut self.state, &self.table[..size], *byte);
+            let loan = way.lent(time, self.monitors);
+            let answer = clocking::clock(&mut self.state, &self.table[..loan.size], *byte);
             self.by_hand.add(&[answer]);
             if let Some(place) = i.checked_sub(4)
                 && let Some(slot) = back.get_mut(place)
@@ -127,8 +129,8 @@ impl World {
     // What was answered after byte four is a reply only where a read is accepted.
     fn release(&mut self, way: Way, back: &Reply) -> Outcome {
         let mut table = self.table;
-        let size = way.lent(Time::Release, self.monitors);
-        let head = Head::from(releasing::release(&mut self.state, &mut table[..size]));
+        let loan = way.lent(Time::Release, self.monitors);
+        let head = Head::from(releasing::release(&mut self.state, &mut table[..loan.size]));
         let reply = if head.length == 0 { BEFORE } else { *back };
         Outcome { head, table, reply }
     }

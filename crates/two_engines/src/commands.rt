@@ -2,6 +2,7 @@
 ghost use Rattle.std.specs.Prelude.{◌≤◌, ◌<◌, ◌*◌};
 
 use crate::luck::Luck;
+use crate::world::Monitors;
 
 pub(crate) const COMMAND_COUNT: usize = 38;
 
@@ -89,13 +90,12 @@ impl Command {
     }
 
     // How many bytes behind the command are right, for so many monitors.
-    pub(crate) fn size(self, n: usize) -> usize
-        requires { n ≤ 32 }
+    pub(crate) fn size(self, monitors: Monitors) -> usize
         ensures { result ≤ 256 }
     {
         match self.kind() {
             Kind::Bare => 0,
-            Kind::Read | Kind::Write => self.width() * n,
+            Kind::Read | Kind::Write => self.width() * monitors.n,
         }
     }
 }

@@ -2,7 +2,7 @@
 use crate::outcomes::Head;
 use std::fmt;
 
-// How often something came up. No count here comes near the greatest number.
+// How often something came up. No count here comes near the greatest number. `spikes` and `vectors` count alike: a function of a library needs a promise and its line in the first demand.
 #[derive(Clone, Copy, Default)]
 pub(crate) struct Count(usize);
 

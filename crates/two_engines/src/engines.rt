@@ -27,9 +27,9 @@ impl World {
         let one = whole(loan, &table, frame);
         let other = clocked(loan, &table, frame);
         self.weigh(&one, &other);
-        self.ask(loan.size, &one.table, &other.table);
+        self.ask(loan, &one.table, &other.table);
         self.note(command, &table, &one);
-        self.now_and_then_operate(loan.size, one.table, other.table)
+        self.now_and_then_operate(loan, one.table, other.table)
     }
 
     // What became of a frame, from the table that was lent.
@@ -41,7 +41,9 @@ impl World {
             self.table = came.table;
             self.book.accept(command, came.head.first);
         } else {
-            self.book.compare(*came == Outcome::refused(lent, number));
+            let refused = Head::without_answer(number);
+            self.book
+                .compare(*came == Outcome::unchanged(lent, refused));
         }
     }
 }

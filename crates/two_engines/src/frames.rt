@@ -4,6 +4,7 @@ ghost use Rattle.std.specs.Prelude.{◌*◌, ◌<◌, ◌≤◌, length};
 
 use crate::commands::{Command, UNLISTED};
 use crate::luck::Luck;
+use crate::world::Monitors;
 use std::alloc::{AllocError, Global};
 
 // More bytes than any frame has, by more than 256.
@@ -48,11 +49,11 @@ pub(crate) fn seal(payload: &mut [u8]) {
     }
 }
 
-// The payloads of n monitors. In some frames now and then a bit of one is turned over.
-fn put_payloads(payloads: &mut [u8], n: usize, command: Command, luck: &mut Luck) {
+// The payloads of all monitors. In some frames now and then a bit of one is turned over.
+fn put_payloads(payloads: &mut [u8], monitors: Monitors, command: Command, luck: &mut Luck) {
     let some = luck.once_in(2);
     let width = command.width();
-    for payload in payloads.chunks_exact_mut(width).take(n) {
+    for payload in payloads.chunks_exact_mut(width).take(monitors.n) {
         seal(payload);
         if some && let Some(bit) = luck.now_and_then(3, 8 * width) {
             flip(payload, bit);
@@ -62,8 +63,8 @@ fn put_payloads(payloads: &mut [u8], n: usize, command: Command, luck: &mut Luck
 
 // The length in one of 32 ways, mostly the right one, which is so many bytes behind the command; the rest of what was drawn says how short
 // or how long, where that is open.
-fn length_in(drawn: usize, size: usize, n: usize) -> usize
-    requires { (drawn < 10880) × (size ≤ 256) × (n ≤ 32) }
+fn length_in(drawn: usize, size: usize, monitors: Monitors) -> usize
+    requires { (drawn < 10880) × (size ≤ 256) }
 {
     match drawn % 32 {
         0 => drawn / 32 % 4,
@@ -71,8 +72,8 @@ fn length_in(drawn: usize, size: usize, n: usize) -> usize
         2 => size + 5,
         3 => size + 12,
         // the longest and the shortest with payloads, of every command
-        4 => 4 + 8 * n,
-        8 => 4 + 4 * n,
+        4 => 4 + 8 * monitors.n,
+        8 => 4 + 4 * monitors.n,
         // a read or write with none
         5 => 4,
         // a count of bytes that wraps at 256 would take these for right
@@ -91,15 +92,18 @@ pub(crate) struct Frame {
 }
 
 impl Frame {
-    pub(crate) fn draw(alloc: Global, n: usize, luck: &mut Luck) -> Result<Frame, AllocError>
-        requires { n ≤ 32 }
-    {
+    pub(crate) fn draw(
+        alloc: Global,
+        monitors: Monitors,
+        luck: &mut Luck,
+    ) -> Result<Frame, AllocError> {
         let command = Command::draw(luck);
         let mut bytes = vec![in alloc; 0; LONGEST]?;
         luck.fill(&mut bytes);
         begin(&mut bytes, command, luck);
-        put_payloads(&mut bytes[4..], n, command, luck);
-        bytes.truncate(length_in(luck.draw(10880), command.size(n), n));
+        put_payloads(&mut bytes[4..], monitors, command, luck);
+        let size = command.size(monitors);
+        bytes.truncate(length_in(luck.draw(10880), size, monitors));
         Ok(Frame { bytes, command })
     }
 }

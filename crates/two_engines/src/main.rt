@@ -36,7 +36,7 @@ impl World {
     // One frame, now and then by hand, and through both engines; and what may come between two.
     fn turn(&mut self) -> Result<(), AllocError> {
         self.now_and_then_stir(2);
-        let frame = Frame::draw(self.alloc, self.monitors.n, &mut self.luck)?;
+        let frame = Frame::draw(self.alloc, self.monitors, &mut self.luck)?;
         self.now_and_then_by_hand(&frame.bytes);
         self.both(frame.command, &frame.bytes)?;
         self.now_and_then_load();

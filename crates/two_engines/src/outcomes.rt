@@ -16,13 +16,14 @@ pub(crate) const REPLY_ROOM: usize = 272;
 
 pub(crate) type Reply = [u8; REPLY_ROOM];
 
-// What a reply buffer holds before.
+// What a reply buffer holds before a frame or an operation.
 pub(crate) const BEFORE: Reply = [0xa5; REPLY_ROOM];
 
 // How many bytes a message has that an operation hands out.
 const MESSAGE_SIZE: u16 = 8;
 
 // The number that it came to; how many monitors took the frame, or what an operation answered; and how many bytes were handed out.
+// These are the bytes that the digest is of, as tools/two-engines-model has them; so acceptance is number 0, and no Result.
 #[derive(Clone, Copy, PartialEq, Eq)]
 pub(crate) struct Head {
     pub number: u8,
@@ -31,12 +32,17 @@ pub(crate) struct Head {
 }
 
 impl Head {
-    fn refused(number: u8) -> Head {
+    // Nothing was answered, and nothing was handed out.
+    pub(crate) fn without_answer(number: u8) -> Head {
         Head {
             number,
             first: 0,
             length: 0,
         }
+    }
+
+    fn refused(refusal: Refusal) -> Head {
+        Head::without_answer(refusals::number_of(refusal))
     }
 
     fn answered(first: u8, length: u16) -> Head {
@@ -60,7 +66,7 @@ impl From<Result<Answer, Refusal>> for Head {
                 first,
                 length,
             },
-            _ => Head::refused(255),
+            _ => Head::without_answer(255),
         }
     }
 }
@@ -68,7 +74,7 @@ impl From<Result<Answer, Refusal>> for Head {
 impl From<Result<Option<End>, Refusal>> for Head {
     fn from(came: Result<Option<End>, Refusal>) -> Head {
         match came {
-            Err(refusal) => Head::refused(refusals::number_of(refusal)),
+            Err(refusal) => Head::refused(refusal),
             Ok(None) => Head::answered(0, 0),
             Ok(Some(End::A)) => Head::answered(1, MESSAGE_SIZE),
             Ok(Some(End::B)) => Head::answered(2, MESSAGE_SIZE),
@@ -79,7 +85,7 @@ impl From<Result<Option<End>, Refusal>> for Head {
 impl From<Result<Relayed, Refusal>> for Head {
     fn from(came: Result<Relayed, Refusal>) -> Head {
         match came {
-            Err(refusal) => Head::refused(refusals::number_of(refusal)),
+            Err(refusal) => Head::refused(refusal),
             Ok(Relayed::Stopped) => Head::answered(0, 0),
             Ok(Relayed::SentOn) => Head::answered(1, MESSAGE_SIZE),
         }
@@ -89,7 +95,7 @@ impl From<Result<Relayed, Refusal>> for Head {
 impl From<Result<TimedOut, Refusal>> for Head {
     fn from(came: Result<TimedOut, Refusal>) -> Head {
         match came {
-            Err(refusal) => Head::refused(refusals::number_of(refusal)),
+            Err(refusal) => Head::refused(refusal),
             Ok(TimedOut::NoTimeoutMonitor) => Head::answered(0, 0),
             Ok(TimedOut::RanOut) => Head::answered(1, 0),
         }
@@ -104,13 +110,18 @@ pub(crate) struct Outcome {
 }
 
 impl Outcome {
-    // A refusal changes nothing.
-    pub(crate) fn refused(table: &Table, number: u8) -> Outcome {
+    // Neither the table nor the reply buffer is changed.
+    pub(crate) fn unchanged(table: &Table, head: Head) -> Outcome {
         Outcome {
-            head: Head::refused(number),
+            head,
             table: *table,
             reply: BEFORE,
         }
+    }
+
+    // A refusal changes nothing.
+    pub(crate) fn refused(table: &Table, refusal: Refusal) -> Outcome {
+        Outcome::unchanged(table, Head::refused(refusal))
     }
 }
 

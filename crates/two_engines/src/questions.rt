@@ -1,8 +1,6 @@
 // After a frame: the question about one monitor's discharge, put to both engines' tables.
-ghost use Rattle.std.specs.Prelude.{◌≤◌};
-
 use crate::digest::{Digest, Digested};
-use crate::outcomes::Table;
+use crate::outcomes::{Loan, Table};
 use crate::world::World;
 use priorities::Events;
 use records::CELL_COUNT;
@@ -41,13 +39,11 @@ fn ask(table: &[u8], position: usize, way: usize) -> Answer {
 
 impl World {
     // At times of no monitor of the chain.
-    pub(crate) fn ask(&mut self, size: usize, one: &Table, other: &Table)
-        requires { size ≤ 5441 }
-    {
+    pub(crate) fn ask(&mut self, loan: Loan, one: &Table, other: &Table) {
         let way = self.luck.draw(65536);
         let position = way / 8 % (self.monitors.n + 2);
-        let one = ask(&one[..size], position, way);
-        let other = ask(&other[..size], position, way);
+        let one = ask(&one[..loan.size], position, way);
+        let other = ask(&other[..loan.size], position, way);
         self.weigh(&one, &other);
         self.note_outputs(one);
     }

@@ -1,5 +1,5 @@
 // The tables: 32 sound records, of which a chain of N is the first N; what makes one unsound; and what comes between two frames.
-ghost use Rattle.std.specs.Prelude.{◌<◌, ◌≤◌};
+ghost use Rattle.std.specs.Prelude.{◌<◌};
 
 use crate::book::Book;
 use crate::luck::Luck;
@@ -29,6 +29,15 @@ impl Kind {
             1 => Some(Kind::Compare),
             2 => Some(Kind::Load),
             _ => None,
+        }
+    }
+
+    // Is it done, and not refused?
+    fn is_done(self, table: &mut [u8], position: usize, codes: &[i16]) -> bool {
+        match self {
+            Kind::Store => loads::store(table, position, codes).is_ok(),
+            Kind::Compare => loads::compare(table, position).is_ok(),
+            Kind::Load => loads::load(table, position, codes).is_ok(),
         }
     }
 }
@@ -101,26 +110,12 @@ impl World {
             2 => 17,
             _ => 16,
         };
-        self.load(kind, size, position, &CODES[from..from + count]);
-    }
-
-    fn load(&mut self, kind: Kind, size: usize, position: usize, codes: &[i16])
-        requires { size ≤ 5441 }
-    {
-        let table = &mut self.table[..size];
+        let codes = &CODES[from..from + count];
+        let done = kind.is_done(&mut self.table[..size], position, codes);
         match kind {
-            Kind::Store => {
-                let came = loads::store(table, position, codes);
-                self.book.stores.add(came.is_ok());
-            }
-            Kind::Compare => {
-                let came = loads::compare(table, position);
-                self.book.compares.add(came.is_ok());
-            }
-            Kind::Load => {
-                let came = loads::load(table, position, codes);
-                self.book.loads.add(came.is_ok());
-            }
+            Kind::Store => self.book.stores.add(done),
+            Kind::Compare => self.book.compares.add(done),
+            Kind::Load => self.book.loads.add(done),
         }
     }
 }

@@ -1,5 +1,5 @@
-// Compares the functions of the crate pec with check words from outside, and says how many were right. The words come on
-// standard input; tools/make-vectors makes that file, and describes it.
+// Compares the functions of the crates check_words and remainders with check words from outside, and says how many were right. The words come
+// on standard input; tools/make-vectors makes that file, and describes it.
 #![tactic(auto)]
 
 mod commands;
