@@ -65,13 +65,14 @@ impl Cabinet {
 
     // In how many of the fifteen phases each output is on while nothing else goes on.
     pub(crate) fn phases_on(&self, half: Half) -> Fifteenths {
-        Fifteenths(array::from_fn(|i| {
-            (0..15)
-                .filter(|phase| {
-                    self.outputs(half, QUIET, *phase)
-                        .is_some_and(|outputs| outputs.0[i].is_on())
-                })
-                .count() as u8
-        }))
+        let mut on = [0u8; 16];
+        for phase in 0..15 {
+            if let Some(outputs) = self.outputs(half, QUIET, phase) {
+                for (count, output) in on.iter_mut().zip(outputs.0) {
+                    *count = count.saturating_add(u8::from(output.is_on()));
+                }
+            }
+        }
+        Fifteenths(on)
     }
 }

@@ -10,10 +10,12 @@ mod halves;
 mod outputs;
 mod plan;
 mod portal;
+mod said;
 mod steps;
 
 use cabinet::Cabinet;
 use plan::{DUTIES, PLAN};
+use said::ToItsEnd;
 use std::io;
 
 fn run(rt: &impl Print) -> io::Result<()> {
@@ -40,7 +42,7 @@ fn run(rt: &impl Print) -> io::Result<()> {
     }
 }
 
-// Where a write to standard output fails, nothing more is written.
+// The status is 0 also where a write has failed.
 fn main(rt: HostRuntime) {
-    let _ = run(&rt);
+    let _ = run(&ToItsEnd { by: &rt });
 }

@@ -1,4 +1,6 @@
 // The bench: the chain of two monitors, what is sent to it, and what comes back at its two ends.
+ghost use Rattle.std.specs.Prelude.{◌≤◌};
+
 use crate::half::Half;
 use crate::seen::{CELL_REGISTERS, Register, Seen};
 use chain::Answer;
@@ -56,8 +58,14 @@ impl Command {
     }
 }
 
-// A command, and eight bytes for each of two monitors: its payload, or what its reply is clocked over.
-pub(crate) type Frame = [u8; 20];
+// A frame of our host for two monitors. The most is a command and its check, and eight bytes for each monitor: its payload, or what its reply is
+// clocked over. `night` and `balancing` have it too.
+#[derive(Clone, Copy)]
+pub(crate) struct Frame {
+    bytes: [u8; 20],
+    length: usize,
+    ghost within: { length ≤ 20 },
+}
 
 // A cabinet: its chain of two monitors, the near half's first.
 #[derive(Drop)]
@@ -65,11 +73,24 @@ pub(crate) struct Cabinet {
     table: [u8; TABLE_SIZE],
 }
 
-// Our host's frame for both monitors.
-fn frame_of(command: Command, values: &[u8]) -> Result<Frame, Refusal> {
-    let mut frame = [0; 20];
-    host::build(command.code(), 2, values, &mut frame)?;
-    Ok(frame)
+impl Frame {
+    #[tactic(auto, unfolding(host::specs::Frames::built, host::specs::Frames::build_refusals, refusals::specs::Order::decide))]
+    fn build(command: Command, values: &[u8]) -> Result<Frame, Refusal> {
+        let mut bytes = [0; 20];
+        let length = host::build(command.code(), 2, values, &mut bytes)?;
+        Ok(Frame { bytes, length })
+    }
+
+    // What our host sends of it: as many bytes as were built.
+    pub(crate) fn bytes(&self) -> &[u8] {
+        &self.bytes[..self.length]
+    }
+
+    // The same as it comes after a spike on the third byte for the far half.
+    pub(crate) fn struck(mut self, spike: u8) -> Frame {
+        self.bytes[6] ^= spike;
+        self
+    }
 }
 
 // The write of the thresholds that were ordered for two halves, each to the monitor at that place. The halves are in the order in which our host
@@ -80,13 +101,7 @@ pub(crate) fn thresholds_for(halves: [Half; 2]) -> Result<Frame, Refusal> {
     let (for_first, for_second) = values.split_at_mut(6);
     for_first.copy_from_slice(&first.configuration_b());
     for_second.copy_from_slice(&second.configuration_b());
-    frame_of(Command::WriteConfigurationB, &values)
-}
-
-// A frame as it comes after a spike on the third byte for the far half.
-pub(crate) fn struck(mut frame: Frame, spike: u8) -> Frame {
-    frame[6] ^= spike;
-    frame
+    Frame::build(Command::WriteConfigurationB, &values)
 }
 
 impl Cabinet {
@@ -99,7 +114,7 @@ impl Cabinet {
 
     // A write goes to the chain.
     pub(crate) fn send(&mut self, frame: &Frame) -> Result<Answer, Refusal> {
-        chain::handle(&mut self.table, frame, &mut [])
+        chain::handle(&mut self.table, frame.bytes(), &mut [])
     }
 
     // The codes of both halves, each to its own monitor.
@@ -112,9 +127,9 @@ impl Cabinet {
 
     // Both monitors' replies to a read, as they come at the near end: monitor 1 first.
     fn reply_to(&mut self, command: Command) -> Result<[u8; 16], Refusal> {
-        let frame = frame_of(command, &[])?;
+        let frame = Frame::build(command, &[])?;
         let mut reply = [0; 16];
-        chain::handle(&mut self.table, &frame, &mut reply)?;
+        chain::handle(&mut self.table, frame.bytes(), &mut reply)?;
         Ok(reply)
     }
 

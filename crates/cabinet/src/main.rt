@@ -9,6 +9,7 @@ mod half;
 mod limits;
 mod microvolts;
 mod plays;
+mod said;
 mod say;
 mod seen;
 mod sums;
@@ -16,9 +17,9 @@ mod sums;
 use crate::bench::{Cabinet, OnTheWire};
 use crate::half::{Half, Owner};
 use crate::plays::Play;
+use crate::said::ToItsEnd;
 use crate::seen::{Found, Seen};
 use crate::sums::Sums;
-use std::alloc::Global;
 use std::io;
 
 // The thresholds go out, and are shown as they come. How many monitors took them?
@@ -26,29 +27,25 @@ fn write(rt: &impl Print, cabinet: &mut Cabinet, play: &Play) -> io::Result<usiz
     let Ok(frame) = bench::thresholds_for(play.sent) else {
         return Ok(0);
     };
-    let comes = bench::struck(frame, play.spike);
-    print!(rt; "{}", OnTheWire(&comes))?;
+    let comes = frame.struck(play.spike);
+    print!(rt; "{}", OnTheWire(comes.bytes()))?;
     Ok(cabinet.send(&comes).map_or(0, |answer| answer.taken))
 }
 
 // What is read of a half, in words. Is it as expected?
-fn half_is_as_due(rt: &impl Print, alloc: Global, seen: &Seen, due: &Found) -> io::Result<bool> {
+fn half_is_as_due(rt: &impl Print, seen: &Seen, due: &Found) -> io::Result<bool> {
     let found = seen.found();
-    let sums = Sums::of(&seen.codes(alloc)?);
+    let sums = Sums::of(&seen.codes());
     say::half(rt, seen, &found, &sums)?;
     Ok(found == *due)
 }
 
 // The whole pack, in words where that is asked for. Is it what was loaded, by the host's own summary too?
-fn pack_is_as_loaded(
-    rt: &impl Print,
-    alloc: Global,
-    near: &Seen,
-    far: &Seen,
-    said: bool,
-) -> io::Result<bool> {
-    let mut codes = near.codes(alloc)?;
-    codes.extend_from_slice(&far.codes(alloc)?)?;
+fn pack_is_as_loaded(rt: &impl Print, near: &Seen, far: &Seen, said: bool) -> io::Result<bool> {
+    let mut codes = [0; 32];
+    let (of_near, of_far) = codes.split_at_mut(16);
+    of_near.copy_from_slice(&near.codes());
+    of_far.copy_from_slice(&far.codes());
     let sums = Sums::of(&codes);
     let count = sums.cells_in_summary(&codes);
     if said {
@@ -58,12 +55,7 @@ fn pack_is_as_loaded(
 }
 
 // The frame, the cells, and all that can be read. Is it as expected?
-fn is_played(
-    rt: &impl Print,
-    alloc: Global,
-    cabinet: &mut Cabinet,
-    play: &Play,
-) -> io::Result<bool> {
+fn is_played(rt: &impl Print, cabinet: &mut Cabinet, play: &Play) -> io::Result<bool> {
     print!(rt; "\n{}\n  on the wire:", play.heading)?;
     let taken = write(rt, cabinet, play)?;
     let loaded = cabinet.load().is_ok();
@@ -74,10 +66,10 @@ fn is_played(
     };
     println!(rt; "\n  taken by {taken} of 2 monitors; cells {into}")?;
     let near = cabinet.look(Half::Near, play.near.counter);
-    let near_so = half_is_as_due(rt, alloc, &near, &play.near.found)?;
+    let near_so = half_is_as_due(rt, &near, &play.near.found)?;
     let far = cabinet.look(Half::Far, play.far.counter);
-    let far_so = half_is_as_due(rt, alloc, &far, &play.far.found)?;
-    let whole = pack_is_as_loaded(rt, alloc, &near, &far, play.says_pack)?;
+    let far_so = half_is_as_due(rt, &far, &play.far.found)?;
+    let whole = pack_is_as_loaded(rt, &near, &far, play.says_pack)?;
     let so = near_so && far_so;
     if so {
         print!(rt; "{}", play.closing)?;
@@ -105,7 +97,7 @@ fn passed_by_the_old_bench(rt: &impl Print, cabinet: &mut Cabinet) -> io::Result
     Ok(passed)
 }
 
-fn run(rt: &impl Print, alloc: Global) -> io::Result<()> {
+fn run(rt: &impl Print) -> io::Result<()> {
     println!(rt;
         "A backup-battery cabinet: two halves of 16 cells, one monitor each, on one chain."
     )?;
@@ -113,11 +105,11 @@ fn run(rt: &impl Print, alloc: Global) -> io::Result<()> {
     println!(rt; "ordered for the far half:  {}", Half::Far.ordered())?;
     let mut ours = Cabinet::new();
     let mut old = Cabinet::new();
-    let ordered = is_played(rt, alloc, &mut ours, &plays::IN_OUR_ORDER)?;
-    let reversed = is_played(rt, alloc, &mut old, &plays::IN_LIST_ORDER)?;
+    let ordered = is_played(rt, &mut ours, &plays::IN_OUR_ORDER)?;
+    let reversed = is_played(rt, &mut old, &plays::IN_LIST_ORDER)?;
     let passed = passed_by_the_old_bench(rt, &mut old)?;
-    let missed = is_played(rt, alloc, &mut old, &plays::WITH_A_SPIKE)?;
-    let mended = is_played(rt, alloc, &mut old, &plays::MENDED)?;
+    let missed = is_played(rt, &mut old, &plays::WITH_A_SPIKE)?;
+    let mended = is_played(rt, &mut old, &plays::MENDED)?;
     if ordered && reversed && passed && missed && mended {
         println!(rt;
             "\nAll as it should be: each half has its own thresholds and the low cell is flagged; \
@@ -128,7 +120,7 @@ fn run(rt: &impl Print, alloc: Global) -> io::Result<()> {
     }
 }
 
-// The status is 0 also where a line could not be written.
+// The status is 0 also where a write has failed.
 fn main(rt: HostRuntime) {
-    let _ = run(&rt, rt.alloc());
+    let _ = run(&ToItsEnd { by: &rt });
 }

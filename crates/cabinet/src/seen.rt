@@ -4,7 +4,7 @@ use crate::limits::{Flags, Limits};
 use crate::microvolts::Microvolts;
 use ports::{Checked, Port};
 use records::Part;
-use std::alloc::{AllocError, Global};
+use std::array;
 
 pub(crate) const CELL_REGISTERS: usize = 6;
 
@@ -121,8 +121,8 @@ impl Seen {
         }
     }
 
-    pub(crate) fn codes(&self, alloc: Global) -> Result<Vec<i16>, AllocError> {
-        self.cells.iter().map(|cell| cell.code).collect(alloc)
+    pub(crate) fn codes(&self) -> [i16; 16] {
+        array::from_fn(|i| self.cells[i].code)
     }
 
     pub(crate) fn found(&self) -> Found {

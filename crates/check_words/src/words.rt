@@ -33,16 +33,17 @@ pub fn command_check(code: u16) -> [u8; 2]
 }
 
 // Are four bytes a command and its check?
+#[tactic(auto, unfolding(pec::specs::Words::command_right))]
 pub fn command_right(four: &[u8]) -> bool
     ensures { result ≡ command_right four.now }
 {
-    let Ok(four) = <[u8; 4]>::try_from(four) else {
+    let [a, b, c, d] = *four else {
         return false;
     };
-    let [a, b, c, d] = four;
     let check = of_command(u16::from_be_bytes([a, b]));
-    let sent = u16::from_be_bytes([c, d]);
-    sent == check * 2
+    // Byte by byte: the last may have been clocked in just before, and a load of two or four would wait for it to be written.
+    let sent = u32::from(c) * 256 + u32::from(d);
+    sent == u32::from(check) * 2
 }
 
 // What the start value leaves of 54 zero bits. The remainder is linear: from the start value it is that from 0, and this added.
@@ -72,7 +73,9 @@ pub fn sealed(six: &[u8; 6], counter: u8) -> [u8; 8]
 {
     let [a, b, c, d, e, f] = *six;
     let number = u64::from_be_bytes([0, 0, a, b, c, d, e, f]);
-    sealed_number(number, counter).to_be_bytes()
+    // The six go on as they came: taken from the number again each would cost a shift, in every reply.
+    let [.., g, h] = sealed_number(number, counter).to_be_bytes();
+    [a, b, c, d, e, f, g, h]
 }
 
 // Eight bytes as one number, and 0 for another length. This and the next are the two halves of `payload_right`, each small enough for

@@ -5,8 +5,9 @@ use mathlib.Core.Path.{◌≡◌, sym, ap, ◌∙◌}
 use mathlib.Core.Bool.{Bool, cond}
 use mathlib.Core.List.{List, [], ◌∷◌, ◌++◌}
 use Prim.Native.Nat.{ℕ, ◌+◌, ◌-◌, ◌*◌, ◌≤◌, ◌<◌}
+use native.Mathlib.Omega.{arith}
 use lib.Dec.{leb}
-use lib.ListN.{length, drop}
+use lib.ListN.{length, take, drop}
 use borrow.Author.Tests.{lt-ltb, le-ltb, le-leb}
 use Rattle.laws.specs.Rows.{row_at}
 use Rattle.refusals.specs.declared.Refusal.{Refusal}
@@ -15,8 +16,8 @@ use Rattle.refusals.specs.Order.{decide}
 use Rattle.refusals.proofs.Deciding.{holds_here, holds_not, none_left, decide_append}
 use Rattle.records.specs.Record.{cell_count, record_size}
 use Rattle.judging.specs.Places.{place_refusals, placed}
-use Rattle.judging.proofs.Lies.{part, part-row}
-use Rattle.judging.proofs.Place.{by_place, as_placed, its_index}
+use Rattle.judging.proofs.Lies.{part-row}
+use Rattle.judging.proofs.Place.{by_place, as_placed, its_index, at-fits}
 use Rattle.priorities.specs.declared.outputs.Events.{Events}
 use Rattle.priorities.specs.Table27.{last_phase}
 use Rattle.priorities.specs.Outputs.{outputs, count_on}
@@ -59,12 +60,16 @@ module _ {A : Type 0} (table : List ℕ) (position phase room : ℕ) (refused : 
 
 module _ (table : List ℕ) (position : ℕ) (events : Events) (phase : ℕ) (out : List ℕ) {k : ℕ} (e : placed table position ≡ Ok k)
     (h : phase ≤ last_phase) (room : cell_count ≤ length out)
-    {start end : ℕ} (lies : (start ≡ k * record_size) × (end ≡ k * record_size + record_size) × (end ≤ length table)) where
+    {start end : ℕ} (lies : (start ≡ k * record_size) × (end ≡ k * record_size + record_size)) where
+  -- a place is one of a record, which lies in the table
+  within : (start ≡ k * record_size) × (end ≡ k * record_size + record_size) × (end ≤ length table)
+  within = (lies.0, lies.1, omega (arith, lies.1, at-fits table position e))
+
   abbrev its : List ℕ
-  its = part k table lies
+  its = take (end - start) (drop start table)
 
   own : its ≡ row_at record_size (position - 1) table
-  own = part-row k table lies ∙ ap (λ (j : ℕ). row_at record_size j table) (its_index table position e)
+  own = part-row k table within ∙ ap (λ (j : ℕ). row_at record_size j table) (its_index table position e)
 
   pub so_many_on : {n : ℕ} → n ≡ cond (leb cell_count (length out)) (count_on events phase its) 0
       → Ok n ≡ discharged table position events phase (length out)

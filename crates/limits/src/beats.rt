@@ -1,12 +1,12 @@
 // A chain in LPCM, what is done to it of a heartbeat, and the host's verdict.
 use crate::bench::{RECORD, UNTOUCHED};
+use crate::buffers::{Buffer, extend, filled, holding, lay, resize};
 use crate::case::{Case, as_wanted};
 use crate::operations::{Judged, Operation, Outcome};
 use crate::say::{Bytes, Changes, Refused};
 use messages::Verdict;
 use passing::End;
 use refusals::Refusal;
-use std::alloc::{AllocError, Global};
 use std::io;
 
 // Bytes at a place of the table.
@@ -60,42 +60,43 @@ pub(crate) const PASSED: Beat = Beat {
 
 // So many monitors of 0 after CMEN, which makes CMF1 83. The last one is the manager: CMC_NDEV is their number and 42 (hex) more, and CMC_DIR
 // is set. Since 0 is no code below 0 nor above it, all pass.
-fn sleeping(alloc: Global, monitors: u8) -> Result<Vec<u8>, AllocError> {
-    let mut table = vec![in alloc; 0; RECORD * usize::from(monitors)]?;
+fn sleeping(monitors: u8) -> Buffer {
+    let mut table = filled(0, RECORD * usize::from(monitors));
     let _ = chain::handle(&mut table, &0x0041_dae4_u32.to_be_bytes(), &mut []);
     if let Some(manager) = table.chunks_mut(RECORD).last() {
-        laying::put(
+        lay(
             manager,
             114,
             &[0x80, monitors.wrapping_add(0x42), 0x00, 0x00, 0x20],
         );
     }
-    Ok(table)
+    table
 }
 
-fn lay(table: &mut [u8], patches: &[Patch]) {
+fn lay_all(table: &mut [u8], patches: &[Patch]) {
     for Patch(at, bytes) in patches {
-        laying::put(table, *at, bytes);
+        lay(table, *at, bytes);
     }
 }
 
 impl Beat {
-    fn table(&self, alloc: Global) -> Result<Vec<u8>, AllocError> {
-        let mut table = sleeping(alloc, self.monitors)?;
-        lay(&mut table, self.before);
+    fn table(&self) -> Buffer {
+        let mut table = sleeping(self.monitors);
+        lay_all(&mut table, self.before);
         if let Some(bytes) = self.lent {
-            table.resize(bytes, 0)?;
+            resize(&mut table, bytes, 0);
         }
-        Ok(table)
+        table
     }
 
     // The buffer expected.
-    fn buffer(&self, alloc: Global) -> Result<Vec<u8>, AllocError> {
-        let mut buffer = vec![in alloc; UNTOUCHED; self.room]?;
+    fn buffer(&self) -> Buffer {
+        let mut buffer = Buffer::new();
         if let Some(message) = self.handed_out {
-            laying::put(&mut buffer, 0, &message.to_be_bytes());
+            extend(&mut buffer, &message.to_be_bytes());
         }
-        Ok(buffer)
+        resize(&mut buffer, self.room, UNTOUCHED);
+        buffer
     }
 
     // Writes what is done: to so many monitors, at a position, with so much room and so many bytes.
@@ -134,40 +135,40 @@ fn sent(came: Result<Outcome, Refusal>, buffer: &[u8]) -> &[u8] {
 // The table and the buffer after it, what came of it, and the verdict.
 #[derive(Drop)]
 struct Came {
-    table: Vec<u8>,
-    buffer: Vec<u8>,
+    table: Buffer,
+    buffer: Buffer,
     outcome: Result<Outcome, Refusal>,
     verdict: Option<Result<Verdict, Refusal>>,
 }
 
 impl Beat {
-    fn done(&self, alloc: Global, before: &[u8]) -> Result<Came, AllocError> {
-        let mut table = Vec::from_slice(alloc, before)?;
-        let mut buffer = vec![in alloc; UNTOUCHED; self.room]?;
+    fn done(&self, before: &[u8]) -> Came {
+        let mut table = holding(before);
+        let mut buffer = filled(UNTOUCHED, self.room);
         let outcome = self
             .operation
-            .done(alloc, &mut table, self.position, self.bytes, &mut buffer)?;
+            .done(&mut table, self.position, self.bytes, &mut buffer);
         let message = sent(outcome, &buffer);
         let verdict = if self.operation == Operation::Heartbeat && !message.is_empty() {
             Some(messages::verdict_on(message, false))
         } else {
             None
         };
-        Ok(Came {
+        Came {
             table,
             buffer,
             outcome,
             verdict,
-        })
+        }
     }
 
-    fn is_right(&self, alloc: Global, before: &[u8], came: &Came) -> Result<bool, AllocError> {
-        let mut table = Vec::from_slice(alloc, before)?;
-        lay(&mut table, self.after);
-        let buffer = self.buffer(alloc)?;
+    fn is_right(&self, before: &[u8], came: &Came) -> bool {
+        let mut table = holding(before);
+        lay_all(&mut table, self.after);
+        let buffer = self.buffer();
         let same = came.table == table && came.buffer == buffer;
         let verdict = self.verdict.map(|verdict| Ok(verdict));
-        Ok(same && as_wanted(came.outcome, self.outcome) && came.verdict == verdict)
+        same && as_wanted(came.outcome, self.outcome) && came.verdict == verdict
     }
 
     // Writes what came. The time that runs out has no buffer.
@@ -192,11 +193,11 @@ impl Beat {
 }
 
 impl Case for Beat {
-    fn tried<R: Print + Alloc<A = Global>>(&self, rt: &R) -> io::Result<bool> {
-        let before = self.table(rt.alloc())?;
-        let came = self.done(rt.alloc(), &before)?;
+    fn tried<R: Print>(&self, rt: &R) -> io::Result<bool> {
+        let before = self.table();
+        let came = self.done(&before);
         self.asked(rt)?;
         self.told(rt, &before, &came)?;
-        Ok(self.is_right(rt.alloc(), &before, &came)?)
+        Ok(self.is_right(&before, &came))
     }
 }

@@ -65,6 +65,8 @@ pub(crate) static CASES: [FrameCase; 11] = [
         command: 0x0024_b19f,
         body: Body::Eights([0x0102_0304_0506_0131, 0x1e62_e3e4_e5e6_02ec]),
         outcome: Err(Refusal::CommandWrong),
+        counters: [6, 10],
+        unlocked: [true, true],
         shown: ALL_STAYS,
         ..READ
     },
@@ -74,6 +76,8 @@ pub(crate) static CASES: [FrameCase; 11] = [
         start: UNLOCKED,
         command: 0x0028_633c,
         outcome: Err(Refusal::CommandWrong),
+        counters: [6, 10],
+        unlocked: [true, true],
         shown: ALL_STAYS,
         ..TAKEN
     },
@@ -92,6 +96,8 @@ pub(crate) static CASES: [FrameCase; 11] = [
         start: UNLOCKED,
         command: 0x0028_2d97,
         outcome: Err(Refusal::CommandWrong),
+        counters: [6, 10],
+        unlocked: [true, true],
         shown: ALL_STAYS,
         ..TAKEN
     },
@@ -101,6 +107,8 @@ pub(crate) static CASES: [FrameCase; 11] = [
         start: UNLOCKED,
         command: 0x003a_5189,
         outcome: Err(Refusal::CommandWrong),
+        counters: [6, 10],
+        unlocked: [true, true],
         shown: ALL_STAYS,
         ..READ
     },

@@ -1,11 +1,10 @@
 // What a kind of case has to do, and when what came is as expected.
 use refusals::Refusal;
-use std::alloc::Global;
 use std::io;
 
 pub(crate) trait Case {
     // Writes the case's line but for its end. Is what came as the case expects it?
-    fn tried<R: Print + Alloc<A = Global>>(&self, rt: &R) -> io::Result<bool>;
+    fn tried<R: Print>(&self, rt: &R) -> io::Result<bool>;
 }
 
 // The paper's number of a refusal.

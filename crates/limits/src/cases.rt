@@ -1,6 +1,7 @@
 // A frame put to a table by both engines, and what is expected of it.
 use crate::begun::TWO;
 use crate::bench::{RECORD, UNTOUCHED};
+use crate::buffers::{Buffer, extend, holding, lay, resize};
 use crate::case::{Case, as_wanted};
 use crate::engines::{Came, Engine};
 use crate::frames::{Body, frame};
@@ -9,7 +10,6 @@ use crate::say::{Answered, Bytes, Changes};
 use crate::starts::Start;
 use chain::Answer;
 use refusals::Refusal;
-use std::alloc::{AllocError, Global};
 use std::io;
 
 // What is shown of the outcome.
@@ -35,8 +35,8 @@ pub(crate) struct FrameCase {
     pub outcome: Result<usize, Refusal>,
     // The reply of each monitor.
     pub replies: &'static [u64],
-    // What the two end with: the counter and byte 69, which says that the retention is unlocked, other bytes, and copies of the cells. Every
-    // other byte stays as it was, and all do after a refusal.
+    // What the two end with, after a refusal too: the counter and byte 69, which says that the retention is unlocked, other bytes, and copies
+    // of the cells. Every other byte stays as it was.
     pub counters: [u8; 2],
     pub unlocked: [bool; 2],
     pub held: Option<Held>,
@@ -87,44 +87,41 @@ pub(crate) const REFUSED: FrameCase = FrameCase {
 
 impl FrameCase {
     // The table expected. Monitors past the second end as the second does.
-    fn table(&self, alloc: Global, before: &[u8]) -> Result<Vec<u8>, AllocError> {
-        let mut table = Vec::from_slice(alloc, before)?;
-        if self.outcome.is_err() {
-            return Ok(table);
-        }
+    fn table(&self, before: &[u8]) -> Buffer {
+        let mut table = holding(before);
         if let Some(held) = self.held {
             held.put(&mut table);
         }
         self.copied.put(&mut table);
         for (k, record) in table.chunks_mut(RECORD).enumerate() {
             let of = k.min(1);
-            laying::put(
+            lay(
                 record,
                 68,
                 &[self.counters[of], u8::from(self.unlocked[of])],
             );
         }
-        Ok(table)
+        table
     }
 
     // The reply buffer expected.
-    fn buffer(&self, alloc: Global) -> Result<Vec<u8>, AllocError> {
-        let mut buffer = Vec::new(alloc);
+    fn buffer(&self) -> Buffer {
+        let mut buffer = Buffer::new();
         for reply in self.replies {
-            buffer.extend_from_slice(&reply.to_be_bytes())?;
+            extend(&mut buffer, &reply.to_be_bytes());
         }
-        buffer.resize(self.room, UNTOUCHED)?;
-        Ok(buffer)
+        resize(&mut buffer, self.room, UNTOUCHED);
+        buffer
     }
 
-    fn is_right(&self, alloc: Global, before: &[u8], came: &Came) -> Result<bool, AllocError> {
-        let table = self.table(alloc, before)?;
-        let buffer = self.buffer(alloc)?;
+    fn is_right(&self, before: &[u8], came: &Came) -> bool {
+        let table = self.table(before);
+        let buffer = self.buffer();
         let answer = self.outcome.map(|taken| Answer {
             taken,
             reply: 8 * self.replies.len(),
         });
-        Ok(as_wanted(came.answer, answer) && came.table == table && came.buffer == buffer)
+        as_wanted(came.answer, answer) && came.table == table && came.buffer == buffer
     }
 
     // Writes what was done and what came.
@@ -149,14 +146,13 @@ impl FrameCase {
 }
 
 impl Case for FrameCase {
-    fn tried<R: Print + Alloc<A = Global>>(&self, rt: &R) -> io::Result<bool> {
-        let alloc = rt.alloc();
-        let before = self.start.table(alloc, self.monitors)?;
-        let frame = frame(alloc, self.command, self.body)?;
-        let came = Engine::WholeFrame.handled(alloc, &before, &frame, self.room)?;
-        let clocked = Engine::Clocked.handled(alloc, &before, &frame, self.room)?;
+    fn tried<R: Print>(&self, rt: &R) -> io::Result<bool> {
+        let before = self.start.table(self.monitors);
+        let frame = frame(self.command, self.body);
+        let came = Engine::WholeFrame.handled(&before, &frame, self.room);
+        let clocked = Engine::Clocked.handled(&before, &frame, self.room);
         self.told(rt, &before, &frame, &came)?;
-        let right = came == clocked && self.is_right(alloc, &before, &came)?;
+        let right = came == clocked && self.is_right(&before, &came);
         if let Shown::Words(words) = self.shown
             && right
         {

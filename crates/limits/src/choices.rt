@@ -1,10 +1,10 @@
 // What our host makes of the replies at its two ports, at its limits.
+use crate::buffers::{Buffer, filled, lay, resize};
 use crate::case::{Case, as_wanted};
 use crate::payloads::{CHECK_OF_63, COUNTER_0, COUNTER_62, COUNTER_63, LAST_BIT_WRONG, Payload};
 use crate::say::Refused;
 use ports::Port;
 use refusals::Refusal;
-use std::alloc::{AllocError, Global};
 use std::io;
 
 // What the monitor that is asked about sends, in a reply of so many bytes. Every other payload of the reply is damaged.
@@ -333,18 +333,18 @@ pub(crate) static CASES: [Choice; 41] = [
 
 impl Reply {
     // The payload stands behind so many others; where it would stand outside of the chain it is not there.
-    fn bytes(self, alloc: Global, monitors: u8, before: Option<u8>) -> Result<Vec<u8>, AllocError> {
+    fn bytes(self, monitors: u8, before: Option<u8>) -> Buffer {
         let Reply(payload, size) = self;
-        let mut bytes = vec![in alloc; 0; 8 * usize::from(monitors)]?;
+        let mut bytes = filled(0, 8 * usize::from(monitors));
         if let Some(before) = before {
-            laying::put(
+            lay(
                 &mut bytes,
                 8 * usize::from(before),
                 &payload.bytes.to_be_bytes(),
             );
         }
-        bytes.resize(size, 0)?;
-        Ok(bytes)
+        resize(&mut bytes, size, 0);
+        bytes
     }
 }
 
@@ -383,17 +383,13 @@ fn told<R: Print>(rt: &R, came: Result<Port, Refusal>) -> io::Result<()> {
 }
 
 impl Case for Choice {
-    fn tried<R: Print + Alloc<A = Global>>(&self, rt: &R) -> io::Result<bool> {
+    fn tried<R: Print>(&self, rt: &R) -> io::Result<bool> {
         let n = usize::from(self.monitors);
         let k = usize::from(self.position);
-        let a = self
-            .a
-            .bytes(rt.alloc(), self.monitors, self.position.checked_sub(1))?;
-        let b = self.b.bytes(
-            rt.alloc(),
-            self.monitors,
-            self.monitors.checked_sub(self.position),
-        )?;
+        let a = self.a.bytes(self.monitors, self.position.checked_sub(1));
+        let b = self
+            .b
+            .bytes(self.monitors, self.monitors.checked_sub(self.position));
         let part = ports::part_of(&a, &b, n, k, self.expected);
         let came = ports::port_of(&a, &b, n, k, self.expected);
         self.asked(rt)?;

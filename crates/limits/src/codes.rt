@@ -1,13 +1,13 @@
 // Codes loaded, stored or compared in two monitors, and what is expected of it.
 use crate::begun::TWO;
 use crate::bench::RECORD;
+use crate::buffers::{Buffer, holding, lay};
 use crate::case::{Case, as_wanted};
 use crate::deeds::Deed;
 use crate::held::Held;
 use crate::say::{Bytes, Changes, Refused};
 use crate::starts::{Start, Step};
 use refusals::Refusal;
-use std::alloc::{AllocError, Global};
 use std::io;
 
 #[derive(Clone, Copy)]
@@ -16,13 +16,13 @@ pub(crate) struct CodeCase {
     pub start: Start,
     pub deed: Deed,
     pub outcome: Result<(), Refusal>,
-    // The flags that are expected at that position, status D bytes 0 to 3, and other bytes. Every other byte stays as it was, and all do after
-    // a refusal.
+    // The flags that are expected at that position, after a refusal too, status D bytes 0 to 3, and other bytes. Every other byte stays as it
+    // was.
     pub flags: u32,
     pub held: Option<Held>,
 }
 
-// What a refusal leaves, or what is done with no flag set.
+// What is done with no flag set.
 pub(crate) const PLAIN: CodeCase = CodeCase {
     name: "",
     start: TWO,
@@ -30,6 +30,12 @@ pub(crate) const PLAIN: CodeCase = CodeCase {
     outcome: Ok(()),
     flags: 0,
     held: None,
+};
+
+// What is refused at the first monitor of `TWO`, whose flags stay, or at no monitor.
+pub(crate) const REFUSED: CodeCase = CodeCase {
+    flags: 0x5354_5556,
+    ..PLAIN
 };
 
 // WRCFGB with these thresholds.
@@ -43,20 +49,17 @@ pub(crate) const VUV_2047_VOV_0: Step = Step::Thresholds(0xff07_0000_0000_02a4);
 
 impl CodeCase {
     // The table expected.
-    fn table(&self, alloc: Global, before: &[u8]) -> Result<Vec<u8>, AllocError> {
-        let mut table = Vec::from_slice(alloc, before)?;
-        if self.outcome.is_err() {
-            return Ok(table);
-        }
+    fn table(&self, before: &[u8]) -> Buffer {
+        let mut table = holding(before);
         if let Some(held) = self.held {
             held.put(&mut table);
         }
         for (position, record) in (1_usize..3).zip(table.chunks_mut(RECORD)) {
             if position == self.deed.position() {
-                laying::put(record, 50, &self.flags.to_be_bytes());
+                lay(record, 50, &self.flags.to_be_bytes());
             }
         }
-        Ok(table)
+        table
     }
 }
 
@@ -70,12 +73,11 @@ fn told<R: Print>(rt: &R, deed: Deed, before: &[u8], after: &[u8]) -> io::Result
 }
 
 impl Case for CodeCase {
-    fn tried<R: Print + Alloc<A = Global>>(&self, rt: &R) -> io::Result<bool> {
-        let alloc = rt.alloc();
-        let before = self.start.table(alloc, 2)?;
-        let mut table = Vec::from_slice(alloc, &before)?;
+    fn tried<R: Print>(&self, rt: &R) -> io::Result<bool> {
+        let before = self.start.table(2);
+        let mut table = holding(&before);
         let came = self.deed.done(&mut table);
-        let wanted = self.table(alloc, &before)?;
+        let wanted = self.table(&before);
         let right = as_wanted(came, self.outcome) && table == wanted;
         print!(rt; "{}", self.name)?;
         match came {

@@ -1,6 +1,6 @@
 // Compares.
 use crate::begun::{CLRCELL, UNLOCKED, UNSOUND};
-use crate::codes::{CodeCase, PLAIN, VUV_0_VOV_100, VUV_2047_VOV_0, VUV_MINUS_1_VOV_0};
+use crate::codes::{CodeCase, PLAIN, REFUSED, VUV_0_VOV_100, VUV_2047_VOV_0, VUV_MINUS_1_VOV_0};
 use crate::deeds::{CODE_1600_AT_6, CODE_1601_AT_6, CODE_MINUS_16_AT_6, CODE_MINUS_17_AT_6, Deed};
 use crate::held::Held;
 use crate::starts::{Start, Step};
@@ -13,26 +13,26 @@ pub(crate) static CASES: [CodeCase; 15] = [
         start: UNSOUND,
         deed: Deed::Compare(1),
         outcome: Err(Refusal::TableNotSound),
-        ..PLAIN
+        ..REFUSED
     },
     CodeCase {
         name: "unsound table, position 0",
         start: UNSOUND,
         deed: Deed::Compare(0),
         outcome: Err(Refusal::TableNotSound),
-        ..PLAIN
+        ..REFUSED
     },
     CodeCase {
         name: "position 0",
         deed: Deed::Compare(0),
         outcome: Err(Refusal::PositionWrong),
-        ..PLAIN
+        ..REFUSED
     },
     CodeCase {
         name: "position 3 of 2",
         deed: Deed::Compare(3),
         outcome: Err(Refusal::PositionWrong),
-        ..PLAIN
+        ..REFUSED
     },
     CodeCase {
         name: "VUV 0, VOV 100, code 1600",

@@ -1,8 +1,8 @@
 // A frame put to either engine.
 use crate::bench::UNTOUCHED;
+use crate::buffers::{Buffer, filled, holding};
 use chain::Answer;
 use refusals::Refusal;
-use std::alloc::{AllocError, Global};
 
 #[derive(Clone, Copy)]
 pub(crate) enum Engine {
@@ -13,8 +13,8 @@ pub(crate) enum Engine {
 // The table and the reply buffer after a frame, and what came of it.
 #[derive(Drop, PartialEq)]
 pub(crate) struct Came {
-    pub table: Vec<u8>,
-    pub buffer: Vec<u8>,
+    pub table: Buffer,
+    pub buffer: Buffer,
     pub answer: Result<Answer, Refusal>,
 }
 
@@ -27,20 +27,14 @@ impl Engine {
     }
 
     // What becomes of a table, with so much room for a reply.
-    pub(crate) fn handled(
-        self,
-        alloc: Global,
-        before: &[u8],
-        frame: &[u8],
-        room: usize,
-    ) -> Result<Came, AllocError> {
-        let mut table = Vec::from_slice(alloc, before)?;
-        let mut buffer = vec![in alloc; UNTOUCHED; room]?;
+    pub(crate) fn handled(self, before: &[u8], frame: &[u8], room: usize) -> Came {
+        let mut table = holding(before);
+        let mut buffer = filled(UNTOUCHED, room);
         let answer = self.handle(&mut table, frame, &mut buffer);
-        Ok(Came {
+        Came {
             table,
             buffer,
             answer,
-        })
+        }
     }
 }

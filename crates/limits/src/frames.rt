@@ -1,5 +1,5 @@
 // The frames that are tried.
-use std::alloc::{AllocError, Global};
+use crate::buffers::{Buffer, extend, holding, resize};
 
 // What follows the command.
 #[derive(Clone, Copy)]
@@ -12,20 +12,20 @@ pub(crate) enum Body {
 }
 
 // A command with its check, and what follows: the bytes of the farthest monitor first.
-pub(crate) fn frame(alloc: Global, command: u32, body: Body) -> Result<Vec<u8>, AllocError> {
-    let mut bytes = Vec::from_slice(alloc, &command.to_be_bytes())?;
+pub(crate) fn frame(command: u32, body: Body) -> Buffer {
+    let mut bytes = holding(&command.to_be_bytes());
     match body {
-        Body::Ones(size) => bytes.resize(size, 0xff)?,
+        Body::Ones(size) => resize(&mut bytes, size, 0xff),
         Body::Eights(eights) => {
             for eight in eights.into_iter().rev() {
-                bytes.extend_from_slice(&eight.to_be_bytes())?;
+                extend(&mut bytes, &eight.to_be_bytes());
             }
         }
         Body::Fours(fours) => {
             for four in fours.into_iter().rev() {
-                bytes.extend_from_slice(&four.to_be_bytes())?;
+                extend(&mut bytes, &four.to_be_bytes());
             }
         }
     }
-    Ok(bytes)
+    bytes
 }

@@ -1,5 +1,6 @@
 // What the records of a table hold after a case.
 use crate::bench::RECORD;
+use crate::buffers::lay;
 
 // What the first and the second record hold.
 #[derive(Clone, Copy)]
@@ -32,12 +33,12 @@ impl Copied {
     pub(crate) fn put(self, table: &mut [u8]) {
         match self {
             Copied::Nowhere => {}
-            Copied::SecondAt82 => laying::put(table, RECORD + 82, CELLS_OF_SECOND),
+            Copied::SecondAt82 => lay(table, RECORD + 82, CELLS_OF_SECOND),
             Copied::BothAt138 => {
-                laying::put(table, 138, CELLS_OF_FIRST);
-                laying::put(table, RECORD + 138, CELLS_OF_SECOND);
+                lay(table, 138, CELLS_OF_FIRST);
+                lay(table, RECORD + 138, CELLS_OF_SECOND);
             }
-            Copied::SecondAt138 => laying::put(table, RECORD + 138, CELLS_OF_SECOND),
+            Copied::SecondAt138 => lay(table, RECORD + 138, CELLS_OF_SECOND),
         }
     }
 }
@@ -48,10 +49,10 @@ impl Held {
         for (k, record) in table.chunks_mut(RECORD).enumerate() {
             let of = k.min(1);
             match self {
-                Held::Eights(at, eights) => laying::put(record, at, &eights[of].to_be_bytes()),
+                Held::Eights(at, eights) => lay(record, at, &eights[of].to_be_bytes()),
                 Held::Cells(cells) => {
                     for cell in 0..16 {
-                        laying::put(record, 12 + 2 * cell, &cells[of].to_be_bytes());
+                        lay(record, 12 + 2 * cell, &cells[of].to_be_bytes());
                     }
                 }
             }

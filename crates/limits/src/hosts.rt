@@ -1,9 +1,9 @@
 // The frames that our host builds, at their limits.
 use crate::bench::UNTOUCHED;
+use crate::buffers::filled;
 use crate::case::{Case, as_wanted};
 use crate::say::Refused;
 use refusals::Refusal;
-use std::alloc::Global;
 use std::io;
 
 #[derive(Clone, Copy)]
@@ -350,10 +350,10 @@ pub(crate) static CASES: [Build; 38] = [
 ];
 
 impl Case for Build {
-    fn tried<R: Print + Alloc<A = Global>>(&self, rt: &R) -> io::Result<bool> {
+    fn tried<R: Print>(&self, rt: &R) -> io::Result<bool> {
         let Command { name, code } = self.command;
-        let values = vec![in rt.alloc(); 0; self.values]?;
-        let mut buffer = vec![in rt.alloc(); UNTOUCHED; self.room]?;
+        let values = filled(0, self.values);
+        let mut buffer = filled(UNTOUCHED, self.room);
         let came = host::build(code, self.monitors, &values, &mut buffer);
         print!(rt;
             "{name}, monitors {}, value bytes {}, room {}",

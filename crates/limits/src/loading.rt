@@ -1,6 +1,6 @@
 // Loads.
 use crate::begun::UNSOUND;
-use crate::codes::{CodeCase, PLAIN, VUV_0_VOV_100, VUV_100_VOV_0, VUV_MINUS_1_VOV_0};
+use crate::codes::{CodeCase, PLAIN, REFUSED, VUV_0_VOV_100, VUV_100_VOV_0, VUV_MINUS_1_VOV_0};
 use crate::deeds::{
     CLEARED_AT_6, CODE_1600_AT_6, CODE_1601_AT_6, CODE_MINUS_16_AT_6, CODE_MINUS_17_AT_6, Deed,
     EACH_800, FIFTEEN, FIFTEEN_WITH_CLEARED, SEVENTEEN, ZEROS,
@@ -16,56 +16,56 @@ pub(crate) static CASES: [CodeCase; 15] = [
         start: UNSOUND,
         deed: Deed::Load(1, ZEROS),
         outcome: Err(Refusal::TableNotSound),
-        ..PLAIN
+        ..REFUSED
     },
     CodeCase {
         name: "unsound table, position 0",
         start: UNSOUND,
         deed: Deed::Load(0, ZEROS),
         outcome: Err(Refusal::TableNotSound),
-        ..PLAIN
+        ..REFUSED
     },
     CodeCase {
         name: "position 0",
         deed: Deed::Load(0, ZEROS),
         outcome: Err(Refusal::PositionWrong),
-        ..PLAIN
+        ..REFUSED
     },
     CodeCase {
         name: "position 3 of 2",
         deed: Deed::Load(3, ZEROS),
         outcome: Err(Refusal::PositionWrong),
-        ..PLAIN
+        ..REFUSED
     },
     CodeCase {
         name: "position 3 of 2, 15 codes",
         deed: Deed::Load(3, FIFTEEN),
         outcome: Err(Refusal::PositionWrong),
-        ..PLAIN
+        ..REFUSED
     },
     CodeCase {
         name: "15 codes",
         deed: Deed::Load(1, FIFTEEN),
         outcome: Err(Refusal::CountWrong),
-        ..PLAIN
+        ..REFUSED
     },
     CodeCase {
         name: "17 codes",
         deed: Deed::Load(1, SEVENTEEN),
         outcome: Err(Refusal::CountWrong),
-        ..PLAIN
+        ..REFUSED
     },
     CodeCase {
         name: "15 codes, one of them -32768",
         deed: Deed::Load(1, FIFTEEN_WITH_CLEARED),
         outcome: Err(Refusal::CountWrong),
-        ..PLAIN
+        ..REFUSED
     },
     CodeCase {
         name: "a code -32768",
         deed: Deed::Load(1, CLEARED_AT_6),
         outcome: Err(Refusal::CodeCleared),
-        ..PLAIN
+        ..REFUSED
     },
     CodeCase {
         name: "VUV 0, VOV 100, code 1600",

@@ -1,10 +1,10 @@
 // Writes to the longest chain: each of 32 monitors is sent its own position, so that any other order would show.
 use crate::bench::RECORD;
+use crate::buffers::{Buffer, extend, filled, lay};
 use crate::case::Case;
 use crate::engines::Engine;
 use crate::say::Answered;
 use chain::Answer;
-use std::alloc::{AllocError, Global};
 use std::io;
 
 // What a monitor is sent: in WRCFGB its position six times, and its check; in CLRCMFLAG twice, and its check. The flags are those that
@@ -204,53 +204,52 @@ impl Longest {
     }
 
     // The frame has the bytes of monitor 32 first.
-    fn frame(self, alloc: Global) -> Result<Vec<u8>, AllocError> {
-        let mut sent = Vec::new(alloc);
+    fn frame(self) -> Buffer {
+        let mut sent = Buffer::new();
         match self {
-            Longest::Write => sent.extend_from_slice(&0x0024_b19e_u32.to_be_bytes())?,
-            Longest::Clear => sent.extend_from_slice(&0x005e_ce3e_u32.to_be_bytes())?,
+            Longest::Write => extend(&mut sent, &0x0024_b19e_u32.to_be_bytes()),
+            Longest::Clear => extend(&mut sent, &0x005e_ce3e_u32.to_be_bytes()),
         }
         for own in MONITORS.iter().rev() {
             match self {
-                Longest::Write => sent.extend_from_slice(&own.written.to_be_bytes())?,
-                Longest::Clear => sent.extend_from_slice(&own.cleared.to_be_bytes())?,
+                Longest::Write => extend(&mut sent, &own.written.to_be_bytes()),
+                Longest::Clear => extend(&mut sent, &own.cleared.to_be_bytes()),
             }
         }
-        Ok(sent)
+        sent
     }
 
-    fn before(self, alloc: Global) -> Result<Vec<u8>, AllocError> {
-        let mut table = vec![in alloc; 0; 32 * RECORD]?;
+    fn before(self) -> Buffer {
+        let mut table = filled(0, 32 * RECORD);
         if matches!(self, Longest::Clear) {
             for record in table.chunks_mut(RECORD) {
-                laying::put(record, 132, &[0xff]);
+                lay(record, 132, &[0xff]);
             }
         }
-        Ok(table)
+        table
     }
 
     // Each monitor counts one command.
-    fn after(self, alloc: Global) -> Result<Vec<u8>, AllocError> {
-        let mut table = vec![in alloc; 0; 32 * RECORD]?;
+    fn after(self) -> Buffer {
+        let mut table = filled(0, 32 * RECORD);
         for (record, own) in table.chunks_mut(RECORD).zip(&MONITORS) {
             match self {
-                Longest::Write => laying::put(record, 6, &own.written.to_be_bytes()[..6]),
-                Longest::Clear => laying::put(record, 132, &[own.flags]),
+                Longest::Write => lay(record, 6, &own.written.to_be_bytes()[..6]),
+                Longest::Clear => lay(record, 132, &[own.flags]),
             }
-            laying::put(record, 68, &[1]);
+            lay(record, 68, &[1]);
         }
-        Ok(table)
+        table
     }
 }
 
 impl Case for Longest {
-    fn tried<R: Print + Alloc<A = Global>>(&self, rt: &R) -> io::Result<bool> {
-        let alloc = rt.alloc();
-        let before = self.before(alloc)?;
-        let frame = self.frame(alloc)?;
-        let came = Engine::WholeFrame.handled(alloc, &before, &frame, 0)?;
-        let clocked = Engine::Clocked.handled(alloc, &before, &frame, 0)?;
-        let right = came == clocked && came.table == self.after(alloc)?;
+    fn tried<R: Print>(&self, rt: &R) -> io::Result<bool> {
+        let before = self.before();
+        let frame = self.frame();
+        let came = Engine::WholeFrame.handled(&before, &frame, 0);
+        let clocked = Engine::Clocked.handled(&before, &frame, 0);
+        let right = came == clocked && came.table == self.after();
         print!(rt; "{}{}", self.name(), Answered(came.answer))?;
         if right {
             print!(rt; "{}", self.said())?;

@@ -7,6 +7,7 @@ mod beat_refusals;
 mod beats;
 mod begun;
 mod bench;
+mod buffers;
 mod bursts;
 mod case;
 mod cases;
@@ -33,6 +34,7 @@ mod outputs;
 mod packs;
 mod payloads;
 mod questions;
+mod said;
 mod say;
 mod snapshots;
 mod soundness;
@@ -46,16 +48,12 @@ mod volts;
 mod wholes;
 
 use case::Case;
-use std::alloc::Global;
+use said::ToItsEnd;
 use std::io;
 use tally::Tally;
 
 // Each case has a line of its own.
-fn lines<R: Print + Alloc<A = Global>, C: Case>(
-    rt: &R,
-    tally: &mut Tally,
-    all: &[C],
-) -> io::Result<()> {
+fn lines<R: Print, C: Case>(rt: &R, tally: &mut Tally, all: &[C]) -> io::Result<()> {
     for case in all {
         let right = case.tried(rt)?;
         tally.end_line(rt, right)?;
@@ -64,7 +62,7 @@ fn lines<R: Print + Alloc<A = Global>, C: Case>(
 }
 
 // Cases under a heading.
-fn section<R: Print + Alloc<A = Global>, C: Case>(
+fn section<R: Print, C: Case>(
     rt: &R,
     tally: &mut Tally,
     heading: &str,
@@ -75,7 +73,7 @@ fn section<R: Print + Alloc<A = Global>, C: Case>(
 }
 
 // The sizes of a table, and each command.
-fn try_commands<R: Print + Alloc<A = Global>>(rt: &R, tally: &mut Tally) -> io::Result<()> {
+fn try_commands<R: Print>(rt: &R, tally: &mut Tally) -> io::Result<()> {
     section(rt, tally, "tables", &tables::TABLES)?;
     lines(rt, tally, &soundness::CASES)?;
     section(rt, tally, "room for a reply", &tables::ROOM)?;
@@ -101,7 +99,7 @@ fn try_commands<R: Print + Alloc<A = Global>>(rt: &R, tally: &mut Tally) -> io::
 }
 
 // What is refused, and what comes damaged.
-fn try_refusals<R: Print + Alloc<A = Global>>(rt: &R, tally: &mut Tally) -> io::Result<()> {
+fn try_refusals<R: Print>(rt: &R, tally: &mut Tally) -> io::Result<()> {
     section(
         rt,
         tally,
@@ -125,7 +123,7 @@ fn try_refusals<R: Print + Alloc<A = Global>>(rt: &R, tally: &mut Tally) -> io::
 }
 
 // What is done to codes.
-fn try_codes<R: Print + Alloc<A = Global>>(rt: &R, tally: &mut Tally) -> io::Result<()> {
+fn try_codes<R: Print>(rt: &R, tally: &mut Tally) -> io::Result<()> {
     section(rt, tally, "loads", &loading::CASES)?;
     lines(rt, tally, &clearing::CASES)?;
     section(rt, tally, "stores", &storing::CASES)?;
@@ -133,12 +131,12 @@ fn try_codes<R: Print + Alloc<A = Global>>(rt: &R, tally: &mut Tally) -> io::Res
 }
 
 // Which discharge outputs are on.
-fn try_outputs<R: Print + Alloc<A = Global>>(rt: &R, tally: &mut Tally) -> io::Result<()> {
+fn try_outputs<R: Print>(rt: &R, tally: &mut Tally) -> io::Result<()> {
     section(rt, tally, "discharge outputs", &outputs::CASES)
 }
 
 // One operation of a heartbeat.
-fn try_operations<R: Print + Alloc<A = Global>>(rt: &R, tally: &mut Tally) -> io::Result<()> {
+fn try_operations<R: Print>(rt: &R, tally: &mut Tally) -> io::Result<()> {
     section(
         rt,
         tally,
@@ -154,7 +152,7 @@ fn try_operations<R: Print + Alloc<A = Global>>(rt: &R, tally: &mut Tally) -> io
 }
 
 // Whole heartbeats. A function takes a few of the long lists at most, since each makes its check longer.
-fn try_heartbeats<R: Print + Alloc<A = Global>>(rt: &R, tally: &mut Tally) -> io::Result<()> {
+fn try_heartbeats<R: Print>(rt: &R, tally: &mut Tally) -> io::Result<()> {
     section(
         rt,
         tally,
@@ -165,13 +163,13 @@ fn try_heartbeats<R: Print + Alloc<A = Global>>(rt: &R, tally: &mut Tally) -> io
 }
 
 // The rest of them, and the host's verdicts.
-fn try_verdicts<R: Print + Alloc<A = Global>>(rt: &R, tally: &mut Tally) -> io::Result<()> {
+fn try_verdicts<R: Print>(rt: &R, tally: &mut Tally) -> io::Result<()> {
     lines(rt, tally, &masked::CASES)?;
     section(rt, tally, "verdicts", &verdicts::CASES)
 }
 
 // What our host builds, and what it makes of what comes back.
-fn try_host<R: Print + Alloc<A = Global>>(rt: &R, tally: &mut Tally) -> io::Result<()> {
+fn try_host<R: Print>(rt: &R, tally: &mut Tally) -> io::Result<()> {
     section(rt, tally, "frames of our host", &hosts::CASES)?;
     section(rt, tally, "checks of one payload", &payloads::CASES)?;
     section(rt, tally, "two ports", &choices::CASES)?;
@@ -184,7 +182,7 @@ fn try_host<R: Print + Alloc<A = Global>>(rt: &R, tally: &mut Tally) -> io::Resu
     lines(rt, tally, &packs::CASES)
 }
 
-fn all<R: Print + Alloc<A = Global>>(rt: &R) -> io::Result<()> {
+fn all<R: Print>(rt: &R) -> io::Result<()> {
     let mut tally = Tally { lines: 0, right: 0 };
     try_commands(rt, &mut tally)?;
     try_refusals(rt, &mut tally)?;
@@ -199,5 +197,5 @@ fn all<R: Print + Alloc<A = Global>>(rt: &R) -> io::Result<()> {
 
 // A write that fails shows as output that is missing.
 fn main(rt: HostRuntime) {
-    let _ = all(&rt);
+    let _ = all(&ToItsEnd { by: &rt });
 }

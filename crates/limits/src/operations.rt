@@ -1,9 +1,9 @@
 // The operations of a heartbeat, and what may come of them.
+use crate::buffers::{Buffer, holding, resize};
 use crate::say::{Bytes, Refused};
 use messages::Verdict;
 use passing::{End, Relayed, TimedOut};
 use refusals::Refusal;
-use std::alloc::{AllocError, Global};
 use std::fmt;
 
 // A message that is right.
@@ -28,10 +28,10 @@ pub(crate) enum Outcome {
 }
 
 // So many bytes: those of a message, and ff past them.
-pub(crate) fn message(alloc: Global, eight: u64, size: usize) -> Result<Vec<u8>, AllocError> {
-    let mut bytes = Vec::from_slice(alloc, &eight.to_be_bytes())?;
-    bytes.resize(size, 0xff)?;
-    Ok(bytes)
+pub(crate) fn message(eight: u64, size: usize) -> Buffer {
+    let mut bytes = holding(&eight.to_be_bytes());
+    resize(&mut bytes, size, 0xff);
+    bytes
 }
 
 fn of_end(end: Option<End>) -> Outcome {
@@ -59,22 +59,20 @@ impl Operation {
     // What is done at a position, with so much room for a message; to a relay so many bytes come.
     pub(crate) fn done(
         self,
-        alloc: Global,
         table: &mut [u8],
         position: usize,
         bytes: usize,
         out: &mut [u8],
-    ) -> Result<Result<Outcome, Refusal>, AllocError> {
-        let came = match self {
+    ) -> Result<Outcome, Refusal> {
+        match self {
             Operation::Wake => passing::wake(table, position, out).map(of_end),
             Operation::Relay(eight) => {
-                let come = message(alloc, eight, bytes)?;
+                let come = message(eight, bytes);
                 passing::relay(table, position, &come, out).map(of_relayed)
             }
             Operation::Heartbeat => passing::heartbeat(table, position, out).map(of_end),
             Operation::TimeOut => passing::time_out(table, position).map(of_timed_out),
-        };
-        Ok(came)
+        }
     }
 }
 

@@ -12,6 +12,7 @@ pub(crate) static CASES: [FrameCase; 47] = [
         command: 0x0002_2b0a,
         body: Body::Ones(20),
         outcome: Err(Refusal::TableNotSound),
+        counters: [5, 64],
         ..REFUSED
     },
     FrameCase {
@@ -20,6 +21,7 @@ pub(crate) static CASES: [FrameCase; 47] = [
         command: 0x0002_2b0a,
         body: Body::Ones(3),
         outcome: Err(Refusal::TableNotSound),
+        counters: [5, 64],
         ..REFUSED
     },
     // under four bytes there is no whole check

@@ -1,9 +1,9 @@
 // The check of one payload against the counter that our host expects, at its limits.
+use crate::buffers::{holding, resize};
 use crate::case::{Case, as_wanted};
 use crate::say::Refused;
 use ports::Checked;
 use refusals::Refusal;
-use std::alloc::Global;
 use std::io;
 
 #[derive(Clone, Copy)]
@@ -216,9 +216,9 @@ pub(crate) static CASES: [Check; 26] = [
 ];
 
 impl Case for Check {
-    fn tried<R: Print + Alloc<A = Global>>(&self, rt: &R) -> io::Result<bool> {
-        let mut bytes = Vec::from_slice(rt.alloc(), &self.payload.bytes.to_be_bytes())?;
-        bytes.resize(self.size, 0)?;
+    fn tried<R: Print>(&self, rt: &R) -> io::Result<bool> {
+        let mut bytes = holding(&self.payload.bytes.to_be_bytes());
+        resize(&mut bytes, self.size, 0);
         let came = ports::check(&bytes, self.expected);
         print!(rt;
             "bytes {}, {}, expected {}",

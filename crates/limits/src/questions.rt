@@ -1,13 +1,13 @@
 // Which discharge outputs of a monitor are on. The table is lent to be read only, so that it stays needs no case.
 use crate::begun::TWO;
 use crate::bench::{RECORD, UNTOUCHED};
+use crate::buffers::{Buffer, extend, filled, lay, resize};
 use crate::case::{Case, as_wanted};
 use crate::say::{Bytes, Refused};
 use crate::starts::Start;
 use discharge::discharge;
 use priorities::Events;
 use refusals::Refusal;
-use std::alloc::{AllocError, Global};
 use std::io;
 
 #[derive(Clone, Copy)]
@@ -53,36 +53,36 @@ pub(crate) const ASKED: Question = Question {
 };
 
 impl Question {
-    fn table(&self, alloc: Global) -> Result<Vec<u8>, AllocError> {
-        let mut table = self.start.table(alloc, self.monitors)?;
+    fn table(&self) -> Buffer {
+        let mut table = self.start.table(self.monitors);
         for (position, record) in (1_u8..34).zip(table.chunks_mut(RECORD)) {
             if position == self.position {
-                laying::put(record, 10, &self.dcc.to_be_bytes());
-                laying::put(record, 70, &self.duties.to_be_bytes());
+                lay(record, 10, &self.dcc.to_be_bytes());
+                lay(record, 70, &self.duties.to_be_bytes());
             }
         }
-        Ok(table)
+        table
     }
 
     // The buffer expected.
-    fn buffer(&self, alloc: Global) -> Result<Vec<u8>, AllocError> {
-        let mut buffer = vec![in alloc; UNTOUCHED; self.room]?;
+    fn buffer(&self) -> Buffer {
+        let mut buffer = Buffer::new();
         if self.outcome.is_ok() {
-            laying::put(&mut buffer, 0, &self.outputs[0].to_be_bytes());
-            laying::put(&mut buffer, 8, &self.outputs[1].to_be_bytes());
+            extend(&mut buffer, &self.outputs[0].to_be_bytes());
+            extend(&mut buffer, &self.outputs[1].to_be_bytes());
         }
-        Ok(buffer)
+        resize(&mut buffer, self.room, UNTOUCHED);
+        buffer
     }
 }
 
 impl Case for Question {
-    fn tried<R: Print + Alloc<A = Global>>(&self, rt: &R) -> io::Result<bool> {
-        let alloc = rt.alloc();
-        let table = self.table(alloc)?;
-        let mut out = vec![in alloc; UNTOUCHED; self.room]?;
+    fn tried<R: Print>(&self, rt: &R) -> io::Result<bool> {
+        let table = self.table();
+        let mut out = filled(UNTOUCHED, self.room);
         let position = usize::from(self.position);
         let came = discharge(&table, position, self.events, self.phase, &mut out);
-        let right = as_wanted(came, self.outcome) && out == self.buffer(alloc)?;
+        let right = as_wanted(came, self.outcome) && out == self.buffer();
         print!(rt; "{}", self.name)?;
         match came {
             Err(refusal) => print!(rt; "{}", Refused(refusal))?,

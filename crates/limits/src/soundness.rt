@@ -1,6 +1,6 @@
 // The sizes and the values at which a table stops being sound.
+use crate::buffers::{filled, lay};
 use crate::case::Case;
-use std::alloc::Global;
 use std::io;
 
 #[derive(Clone, Copy)]
@@ -145,11 +145,11 @@ pub(crate) static CASES: [Soundness; 23] = [
 ];
 
 impl Case for Soundness {
-    fn tried<R: Print + Alloc<A = Global>>(&self, rt: &R) -> io::Result<bool> {
-        let mut table = vec![in rt.alloc(); 0; usize::from(self.size)]?;
+    fn tried<R: Print>(&self, rt: &R) -> io::Result<bool> {
+        let mut table = filled(0, usize::from(self.size));
         print!(rt; "table, bytes {}", self.size)?;
         if let Some(Byte { at, value }) = self.set {
-            laying::put(&mut table, usize::from(at), &[value]);
+            lay(&mut table, usize::from(at), &[value]);
             print!(rt; ", at {at} the value {value}")?;
         }
         let sound = judging::sound(&table);

@@ -1,8 +1,8 @@
 // The tables that cases begin with.
 use crate::bench::{RECORD, TWO_RECORDS};
+use crate::buffers::{Buffer, holding, lay, resize};
 use crate::deeds::Deed;
 use crate::frames::{Body, frame};
-use std::alloc::{AllocError, Global};
 
 // What comes before a case.
 #[derive(Clone, Copy)]
@@ -24,36 +24,35 @@ pub(crate) enum Start {
 }
 
 impl Step {
-    fn taken(self, alloc: Global, table: &mut [u8]) -> Result<(), AllocError> {
+    fn taken(self, table: &mut [u8]) {
         match self {
-            Step::Byte(at, value) => laying::put(table, at, &[value]),
+            Step::Byte(at, value) => lay(table, at, &[value]),
             Step::Command(command) => {
                 let _ = chain::handle(table, &command.to_be_bytes(), &mut []);
             }
             Step::Thresholds(eight) => {
-                let sent = frame(alloc, 0x0024_b19e, Body::Eights([eight, eight]))?;
+                let sent = frame(0x0024_b19e, Body::Eights([eight, eight]));
                 let _ = chain::handle(table, &sent, &mut []);
             }
             Step::Codes(deed) => {
                 let _ = deed.done(table);
             }
         }
-        Ok(())
     }
 }
 
 impl Start {
     // The table of so many monitors.
-    pub(crate) fn table(self, alloc: Global, monitors: u8) -> Result<Vec<u8>, AllocError> {
+    pub(crate) fn table(self, monitors: u8) -> Buffer {
         let (records, steps): (&[u8], &[Step]) = match self {
             Start::Zeros(steps) => (&[], steps),
             Start::Two(steps) => (TWO_RECORDS, steps),
         };
-        let mut table = Vec::from_slice(alloc, records)?;
-        table.resize(RECORD * usize::from(monitors), 0)?;
+        let mut table = holding(records);
+        resize(&mut table, RECORD * usize::from(monitors), 0);
         for step in steps {
-            step.taken(alloc, &mut table)?;
+            step.taken(&mut table);
         }
-        Ok(table)
+        table
     }
 }

@@ -1,6 +1,6 @@
 // Stores.
 use crate::begun::{UNSOUND, ZEROS_UNLOCKED};
-use crate::codes::{CodeCase, PLAIN, VUV_0_VOV_100};
+use crate::codes::{CodeCase, PLAIN, REFUSED, VUV_0_VOV_100};
 use crate::deeds::{
     CLEARED_AT_6, CODE_1601_AT_6, CODE_MINUS_32767_AT_6, Deed, EACH_800, FIFTEEN,
     FIFTEEN_WITH_CLEARED, SEVENTEEN, ZEROS,
@@ -16,56 +16,56 @@ pub(crate) static CASES: [CodeCase; 12] = [
         start: UNSOUND,
         deed: Deed::Store(1, ZEROS),
         outcome: Err(Refusal::TableNotSound),
-        ..PLAIN
+        ..REFUSED
     },
     CodeCase {
         name: "unsound table, position 0",
         start: UNSOUND,
         deed: Deed::Store(0, ZEROS),
         outcome: Err(Refusal::TableNotSound),
-        ..PLAIN
+        ..REFUSED
     },
     CodeCase {
         name: "position 0",
         deed: Deed::Store(0, ZEROS),
         outcome: Err(Refusal::PositionWrong),
-        ..PLAIN
+        ..REFUSED
     },
     CodeCase {
         name: "position 3 of 2",
         deed: Deed::Store(3, ZEROS),
         outcome: Err(Refusal::PositionWrong),
-        ..PLAIN
+        ..REFUSED
     },
     CodeCase {
         name: "position 3 of 2, 15 codes",
         deed: Deed::Store(3, FIFTEEN),
         outcome: Err(Refusal::PositionWrong),
-        ..PLAIN
+        ..REFUSED
     },
     CodeCase {
         name: "15 codes",
         deed: Deed::Store(1, FIFTEEN),
         outcome: Err(Refusal::CountWrong),
-        ..PLAIN
+        ..REFUSED
     },
     CodeCase {
         name: "17 codes",
         deed: Deed::Store(1, SEVENTEEN),
         outcome: Err(Refusal::CountWrong),
-        ..PLAIN
+        ..REFUSED
     },
     CodeCase {
         name: "15 codes, one of them -32768",
         deed: Deed::Store(1, FIFTEEN_WITH_CLEARED),
         outcome: Err(Refusal::CountWrong),
-        ..PLAIN
+        ..REFUSED
     },
     CodeCase {
         name: "a code -32768",
         deed: Deed::Store(1, CLEARED_AT_6),
         outcome: Err(Refusal::CodeCleared),
-        ..PLAIN
+        ..REFUSED
     },
     // VUV 0, VOV 100, code 1601: a store compares nothing
     CodeCase {

@@ -14,6 +14,7 @@ pub(crate) static TABLES: [FrameCase; 4] = [
         command: 0x0028_e80e,
         room: 8,
         outcome: Err(Refusal::TableNotSound),
+        counters: [0, 0],
         shown: Shown::Words(""),
         ..TAKEN
     },
@@ -48,6 +49,7 @@ pub(crate) static TABLES: [FrameCase; 4] = [
         command: 0x0028_e80e,
         room: 8,
         outcome: Err(Refusal::TableNotSound),
+        counters: [0, 0],
         shown: Shown::Words(""),
         ..TAKEN
     },
@@ -63,6 +65,7 @@ pub(crate) static ROOM: [FrameCase; 8] = [
         body: Body::Ones(12),
         room: 7,
         outcome: Err(Refusal::NoRoom),
+        counters: [0, 0],
         shown: BUFFER_STAYS,
         ..READ
     },
@@ -85,6 +88,7 @@ pub(crate) static ROOM: [FrameCase; 8] = [
         command: 0x0002_2b0a,
         room: 15,
         outcome: Err(Refusal::NoRoom),
+        counters: [0, 0],
         shown: BUFFER_STAYS,
         ..READ
     },
@@ -115,6 +119,7 @@ pub(crate) static ROOM: [FrameCase; 8] = [
         body: Body::Ones(260),
         room: 255,
         outcome: Err(Refusal::NoRoom),
+        counters: [0, 0],
         shown: BUFFER_STAYS,
         ..READ
     },

@@ -3,7 +3,6 @@ use crate::case::{Case, as_wanted};
 use crate::operations::{Judged, message};
 use messages::Verdict;
 use refusals::Refusal;
-use std::alloc::Global;
 use std::io;
 
 // So many bytes that come, of a message or more, and whether the time ran out.
@@ -169,8 +168,8 @@ pub(crate) static CASES: [Judgement; 19] = [
 ];
 
 impl Case for Judgement {
-    fn tried<R: Print + Alloc<A = Global>>(&self, rt: &R) -> io::Result<bool> {
-        let bytes = message(rt.alloc(), self.message, self.bytes)?;
+    fn tried<R: Print>(&self, rt: &R) -> io::Result<bool> {
+        let bytes = message(self.message, self.bytes);
         let came = messages::verdict_on(&bytes, self.ran_out);
         print!(rt;
             "verdict on bytes {}{}{}",

@@ -1,7 +1,6 @@
 // Voltages, at their limits.
 use crate::case::Case;
 use readings::Reading;
-use std::alloc::Global;
 use std::io;
 use thresholds::ResultCode;
 
@@ -48,7 +47,7 @@ pub(crate) fn bits_of(x: f64) -> u64 {
 
 impl Case for Voltage {
     // The microvolts are said where they are as expected.
-    fn tried<R: Print + Alloc<A = Global>>(&self, rt: &R) -> io::Result<bool> {
+    fn tried<R: Print>(&self, rt: &R) -> io::Result<bool> {
         let code = self.code;
         print!(rt; "code {code}")?;
         let right = readings::microvolts_of(ResultCode(code)) == self.microvolts;

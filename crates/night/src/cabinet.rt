@@ -13,6 +13,14 @@ use std::array;
 
 const TABLE_SIZE: usize = 2 * RECORD_SIZE;
 
+// The bytes of a wire on which nothing is sent. No message has them, and where nothing is sent a buffer stays as it was.
+const SILENCE: [u8; 8] = [0xff; 8];
+
+// What is heard on a wire: nothing only where none was told of, and where the wire is as it was.
+fn heard(told: bool, wire: [u8; 8]) -> Option<Message> {
+    (told || wire != SILENCE).then_some(Message(wire))
+}
+
 #[derive(Drop)]
 pub(crate) struct Cabinet {
     table: [u8; TABLE_SIZE],
@@ -93,29 +101,23 @@ impl Cabinet {
 
     // A whole heartbeat, and what leaves the chain of it, if anything.
     pub(crate) fn beat(&mut self) -> Option<Message> {
-        let mut message = [0; 8];
-        match passing::heartbeat(&mut self.table, 2, &mut message) {
-            Ok(Some(_)) => Some(Message(message)),
-            Ok(None) | Err(_) => None,
-        }
+        let mut wire = SILENCE;
+        let end = passing::heartbeat(&mut self.table, 2, &mut wire);
+        heard(matches!(end, Ok(Some(_))), wire)
     }
 
     // The first hop alone: what the far half sends.
     pub(crate) fn wake(&mut self) -> Option<Message> {
-        let mut message = [0; 8];
-        match passing::wake(&mut self.table, 2, &mut message) {
-            Ok(Some(_)) => Some(Message(message)),
-            Ok(None) | Err(_) => None,
-        }
+        let mut wire = SILENCE;
+        let end = passing::wake(&mut self.table, 2, &mut wire);
+        heard(matches!(end, Ok(Some(_))), wire)
     }
 
     // The last hop alone: what the near half sends on of a message that reaches it.
     pub(crate) fn relay(&mut self, message: Message) -> Option<Message> {
-        let mut on = [0; 8];
-        match passing::relay(&mut self.table, 1, &message.0, &mut on) {
-            Ok(Relayed::SentOn) => Some(Message(on)),
-            Ok(Relayed::Stopped) | Err(_) => None,
-        }
+        let mut wire = SILENCE;
+        let relayed = passing::relay(&mut self.table, 1, &message.0, &mut wire);
+        heard(matches!(relayed, Ok(Relayed::SentOn)), wire)
     }
 
     // The near half loses its supply and starts anew.

@@ -12,10 +12,12 @@ mod halves;
 mod plan;
 mod read_back;
 mod registers;
+mod said;
 mod steps;
 
 use cabinet::Cabinet;
 use plan::{PLAN, Scene};
+use said::ToItsEnd;
 use std::io;
 
 fn play(rt: &impl Print, cabinet: &mut Cabinet, scene: &Scene) -> io::Result<bool> {
@@ -48,7 +50,7 @@ fn run(rt: &impl Print) -> io::Result<()> {
     }
 }
 
-// Where a write to standard output fails, nothing more is written.
+// The status is 0 also where a write has failed.
 fn main(rt: HostRuntime) {
-    let _ = run(&rt);
+    let _ = run(&ToItsEnd { by: &rt });
 }

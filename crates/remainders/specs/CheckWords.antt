@@ -2,7 +2,7 @@
 -- Assumes nothing.
 use Rattle.pec.specs.Remainder.{Fitting}
 use Rattle.pec.specs.Words.{polynomial15, polynomial10}
-use lib.Dec.{lit<}
+use Rattle.std.proofs.Common.{lit<}
 
 pub fitting_15 : Fitting 15 polynomial15 16
 fitting_15 = record { width = lit< tt; polynomial = lit< tt; below = lit< tt }

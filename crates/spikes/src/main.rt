@@ -5,12 +5,14 @@
 
 mod bench;
 mod due;
+mod said;
 mod shown;
 mod spike;
 mod tally;
 
 use crate::bench::{Command, Engine, Frame, Outcome, Table, built, muted_in, start};
 use crate::due::{Trial, due_of_mute};
+use crate::said::ToItsEnd;
 use crate::shown::{NearMonitor, OnTheWire};
 use crate::spike::Spike;
 use crate::tally::{Tally, is_wrong};
@@ -200,7 +202,7 @@ fn run(rt: &impl Print) -> io::Result<()> {
     }
 }
 
-// The status is 0 also where a line could not be written.
+// The status is 0 also where a write has failed.
 fn main(rt: HostRuntime) {
-    let _ = run(&rt);
+    let _ = run(&ToItsEnd { by: &rt });
 }

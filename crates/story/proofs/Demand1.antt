@@ -118,6 +118,7 @@ pub record Promises : Type 2 where
   sealed : Promised check_words.sealed.Statement.statement check_words.sealed.Reads.Asked
   -- one monitor
   command-of : Promised records.command_of.Statement.statement records.command_of.Reads.Asked
+  command-from : Promised records.commands.CommandFromU16.from.Statement.statement records.commands.CommandFromU16.from.Reads.Asked
   frame-length : Promised records.frame_length.Statement.statement records.frame_length.Reads.Asked
   reply-size : Promised records.reply_size.Statement.statement records.reply_size.Reads.Asked
   is-listed : Promised records.is_listed.Statement.statement records.is_listed.Reads.Asked
@@ -157,6 +158,8 @@ pub record Promises : Type 2 where
   place-of : Promised judging.place_of.Statement.statement judging.place_of.Reads.Asked
   -- store, compare and load
   codes-of : Promised thresholds.codes_of.Statement.statement thresholds.codes_of.Reads.Asked
+  codes-from_step : Promised thresholds.thresholds.ResultCodeFromThresholdStep.from.Statement.statement thresholds.thresholds.ResultCodeFromThresholdStep.from.Reads.Asked
+  code-from_bits : Promised thresholds.thresholds.ResultCodeFromI16.from.Statement.statement thresholds.thresholds.ResultCodeFromI16.from.Reads.Asked
   lower_threshold : Promised thresholds.lower_threshold.Statement.statement thresholds.lower_threshold.Reads.Asked
   upper_threshold : Promised thresholds.upper_threshold.Statement.statement thresholds.upper_threshold.Reads.Asked
   over_threshold : Promised thresholds.over_threshold.Statement.statement thresholds.over_threshold.Reads.Asked
@@ -310,6 +313,7 @@ proved =
       seal = (λ M. remainders.seal.Met.met, λ κ a. tt);
       sealed = (λ M. check_words.sealed.Met.met, λ κ a. tt);
       command-of = (λ M. records.command_of.Met.met, λ κ a. tt);
+      command-from = (λ M. records.commands.CommandFromU16.from.Met.met, λ κ a. tt);
       frame-length = (λ M. records.frame_length.Met.met, λ κ a. tt);
       reply-size = (λ M. records.reply_size.Met.met, λ κ a. tt);
       is-listed = (λ M. records.is_listed.Met.met, λ κ a. tt);
@@ -347,6 +351,8 @@ proved =
       handle = (λ M. chain.handle.Met.met, λ κ a. tt);
       place-of = (λ M. judging.place_of.Met.met, λ κ a. tt);
       codes-of = (λ M. thresholds.codes_of.Met.met, λ κ a. tt);
+      codes-from_step = (λ M. thresholds.thresholds.ResultCodeFromThresholdStep.from.Met.met, λ κ a. tt);
+      code-from_bits = (λ M. thresholds.thresholds.ResultCodeFromI16.from.Met.met, λ κ a. tt);
       lower_threshold = (λ M. thresholds.lower_threshold.Met.met, λ κ a. tt);
       upper_threshold = (λ M. thresholds.upper_threshold.Met.met, λ κ a. tt);
       over_threshold = (λ M. thresholds.over_threshold.Met.met, λ κ a. tt);

@@ -154,6 +154,7 @@ pub record OneOutcome : Type 0 where
   seal : Settles remainders.seal.Reads.Post (λ κ z e. leaves z []) (λ κ a. leaves (seal a.0.now a.1.0) [])
   -- one monitor
   command-of : Settles records.command_of.Reads.Post (λ κ z e. leaves z []) (λ κ a. leaves (command_of a.0 commands) [])
+  command-from : Settles records.commands.CommandFromU16.from.Reads.Post (λ κ z e. leaves z []) (λ κ a. leaves (command_of a.0 commands) [])
   frame-length : Settles records.frame_length.Reads.Post (λ κ z e. leaves z [])
       (λ κ a. leaves (cond (leb a.1.0 most_monitors) (frame_length a.0 a.1.0) 0) [])
   reply-size : Settles records.reply_size.Reads.Post (λ κ z e. leaves z [])
@@ -207,6 +208,8 @@ pub record OneOutcome : Type 0 where
   place-of : Settles judging.place_of.Reads.Post (λ κ z e. leaves z []) (λ κ a. leaves (place_of a.0.now a.1.0) [])
   -- store, compare and load
   codes-of : Settles thresholds.codes_of.Reads.Post (λ κ z e. leaves z []) (λ κ a. leaves (codes_of a.0) [])
+  codes-from_step : Settles thresholds.thresholds.ResultCodeFromThresholdStep.from.Reads.Post (λ κ z e. leaves z []) (λ κ a. leaves (codes_of a.0) [])
+  code-from_bits : Settles thresholds.thresholds.ResultCodeFromI16.from.Reads.Post (λ κ z e. leaves z.0 []) (λ κ a. leaves a.0 [])
   lower_threshold : Settles thresholds.lower_threshold.Reads.Post (λ κ z e. leaves z []) (λ κ a. leaves (lower a.1.0 a.0.now) [])
   upper_threshold : Settles thresholds.upper_threshold.Reads.Post (λ κ z e. leaves z []) (λ κ a. leaves (upper a.1.0 a.0.now) [])
   over_threshold : Settles thresholds.over_threshold.Reads.Post (λ κ z e. leaves z []) (λ κ a. leaves (vov a.0.now) [])
@@ -296,6 +299,7 @@ one_outcomes =
       sealed-two = settles (λ κ a z e p i. leaves (p i) []);
       sealed = settles (λ κ a z e p i. leaves (p i) []);
       command-of = settles (λ κ a z e p i. leaves (p i) []);
+      command-from = settles (λ κ a z e p i. leaves (p i) []);
       frame-length = settles (λ κ a z e p i. leaves (p i) []);
       reply-size = settles (λ κ a z e p i. leaves (p i) []);
       is-listed = settles (λ κ a z e p i. leaves (p i) []);
@@ -333,6 +337,8 @@ one_outcomes =
       handle = settles (λ κ a z e p i. leaves (p.0 i) (p.1.0 i ∷ p.1.1 i ∷ []));
       place-of = settles (λ κ a z e p i. leaves (p i) []);
       codes-of = settles (λ κ a z e p i. leaves (p i) []);
+      codes-from_step = settles (λ κ a z e p i. leaves (p i) []);
+      code-from_bits = settles (λ κ a z e p i. leaves (p i) []);
       lower_threshold = settles (λ κ a z e p i. leaves (p i) []);
       upper_threshold = settles (λ κ a z e p i. leaves (p i) []);
       over_threshold = settles (λ κ a z e p i. leaves (p i) []);

@@ -22,20 +22,20 @@ impl From<i16> for ResultCode {
 }
 
 // A count of steps as a count of codes: the one conversion between the two.
-impl From<ThresholdStep> for ResultCode {
-    ghost from_gives = { λ step code. code ≡ codes_of step };
-
-    #[tactic(auto, unfolding(crate::specs::Thresholds::codes_of), using(std::proofs::lemmas::Int::ints))]
-    fn from(step: ThresholdStep) -> ResultCode {
-        ResultCode(i32::from(step.0) * 16)
-    }
-}
-
-// That conversion under a name of its own: the theorems of `story` name it.
+#[tactic(auto, unfolding(crate::specs::Thresholds::codes_of), using(std::proofs::lemmas::Int::ints))]
 pub fn codes_of(step: ThresholdStep) -> ResultCode
     ensures { result ≡ codes_of step }
 {
-    step.into()
+    ResultCode(i32::from(step.0) * 16)
+}
+
+// The same by its type. The conversion stands in `codes_of`, which the theorems of `story` name.
+impl From<ThresholdStep> for ResultCode {
+    ghost from_gives = { λ step code. code ≡ codes_of step };
+
+    fn from(step: ThresholdStep) -> ResultCode {
+        codes_of(step)
+    }
 }
 
 // The lower threshold of a part that begins with two: 12 bits, two's complement, of which the second byte has the high four in its low half.

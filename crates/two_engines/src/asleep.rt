@@ -54,16 +54,17 @@ const LIMITS: [Limit; 13] = [
 // Bytes 4 and 5 of status C with no diagnostic pending.
 const NO_DIAGNOSTIC: [u8; 2] = [0x0f, 0x2c];
 
-// The limit of a monitor: in a calm chain one that passes, else any, but mostly the first.
-fn limit_of(calm: bool, drawn: usize) -> Limit {
-    let place = if calm {
+// The place of a monitor's limit among them: in a calm chain of one that passes, else of any, but mostly of the first.
+fn limit_of(calm: bool, drawn: usize) -> usize
+    ensures { result < 13 }
+{
+    if calm {
         (2 * (drawn % 7)).saturating_sub(1)
     } else if drawn < LIMITS.len() {
         drawn
     } else {
         0
-    };
-    LIMITS[place]
+    }
 }
 
 // Its cells: one at a limit, the others 0.
@@ -117,7 +118,7 @@ fn put_settings(record: &mut Record, calm: bool, luck: &mut Luck) {
 
 // One monitor, neither manager nor timeout monitor.
 fn put_monitor(record: &mut Record, calm: bool, luck: &mut Luck) {
-    let limit = limit_of(calm, luck.draw(32));
+    let limit = LIMITS[limit_of(calm, luck.draw(32))];
     let cell = luck.draw(16);
     put_cells(record, limit, cell);
     put_settings(record, calm, luck);

@@ -7,7 +7,7 @@ use crate::frames::{flip, seal};
 use crate::luck::Luck;
 use crate::outcomes::{Head, Loan, Outcome, Table};
 use crate::world::{Monitors, World};
-use std::alloc::{AllocError, Global};
+use arrayvec::ArrayVec;
 
 #[derive(Clone, Copy)]
 enum Kind {
@@ -71,30 +71,24 @@ struct Operation {
     kind: Kind,
     position: usize,
     loan: Loan,
-    message: Vec<u8>,
+    message: ArrayVec<u8, 9>,
 }
 
 impl Operation {
     // At times of no monitor of the chain, and at times a byte of the table is not lent. The message is mostly right.
-    fn draw(
-        alloc: Global,
-        kind: Kind,
-        lent: Loan,
-        monitors: Monitors,
-        luck: &mut Luck,
-    ) -> Result<Operation, AllocError> {
+    fn draw(kind: Kind, lent: Loan, monitors: Monitors, luck: &mut Luck) -> Operation {
         let position = luck.draw(monitors.n + 2);
         let size = lent.size.saturating_sub(usize::from(luck.once_in(16)));
         let length = near_eight(luck);
         let room = near_eight(luck);
-        let mut message = message(luck).to_vec(alloc)?;
+        let mut message = ArrayVec::from(message(luck));
         message.truncate(length);
-        Ok(Operation {
+        Operation {
             kind,
             position,
             loan: Loan { size, room },
             message,
-        })
+        }
     }
 
     fn run(&self, table: &mut [u8], out: &mut [u8]) -> Head {
@@ -129,24 +123,18 @@ impl Operation {
 
 impl World {
     // Now and then an operation, at times after the chain was put to sleep.
-    pub(crate) fn now_and_then_operate(
-        &mut self,
-        lent: Loan,
-        one: Table,
-        other: Table,
-    ) -> Result<(), AllocError> {
+    pub(crate) fn now_and_then_operate(&mut self, lent: Loan, one: Table, other: Table) {
         let kind = Kind::draw(&mut self.luck);
         let sleep = self.luck.once_in(2);
         let Some(kind) = kind else {
-            return Ok(());
+            return;
         };
-        let operation = Operation::draw(self.alloc, kind, lent, self.monitors, &mut self.luck)?;
+        let operation = Operation::draw(kind, lent, self.monitors, &mut self.luck);
         if sleep {
             self.operate_asleep(operation, one, other);
         } else {
             self.operate(&operation, &one, &other, true);
         }
-        Ok(())
     }
 
     // After the chain was put to sleep; once in eight times it is kept.

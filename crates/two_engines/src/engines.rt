@@ -2,7 +2,6 @@
 use crate::commands::Command;
 use crate::outcomes::{Head, Loan, Outcome, Table};
 use crate::world::World;
-use std::alloc::AllocError;
 
 // A frame through the whole-frame engine.
 pub(crate) fn whole(loan: Loan, table: &Table, frame: &[u8]) -> Outcome {
@@ -22,14 +21,14 @@ fn clocked(loan: Loan, table: &Table, frame: &[u8]) -> Outcome {
 
 impl World {
     // What comes of both engines, and then the question and the operation, on what they left.
-    pub(crate) fn both(&mut self, command: Command, frame: &[u8]) -> Result<(), AllocError> {
+    pub(crate) fn both(&mut self, command: Command, frame: &[u8]) {
         let (loan, table) = self.spoil();
         let one = whole(loan, &table, frame);
         let other = clocked(loan, &table, frame);
         self.weigh(&one, &other);
         self.ask(loan, &one.table, &other.table);
         self.note(command, &table, &one);
-        self.now_and_then_operate(loan, one.table, other.table)
+        self.now_and_then_operate(loan, one.table, other.table);
     }
 
     // What became of a frame, from the table that was lent.

@@ -5,7 +5,7 @@ ghost use Rattle.std.specs.Prelude.{◌*◌, ◌<◌, ◌≤◌, length};
 use crate::commands::{Command, UNLISTED};
 use crate::luck::Luck;
 use crate::world::Monitors;
-use std::alloc::{AllocError, Global};
+use arrayvec::ArrayVec;
 
 // More bytes than any frame has, by more than 256.
 const LONGEST: usize = 600;
@@ -65,6 +65,7 @@ fn put_payloads(payloads: &mut [u8], monitors: Monitors, command: Command, luck:
 // or how long, where that is open.
 fn length_in(drawn: usize, size: usize, monitors: Monitors) -> usize
     requires { (drawn < 10880) × (size ≤ 256) }
+    ensures { result ≤ 600 }
 {
     match drawn % 32 {
         0 => drawn / 32 % 4,
@@ -87,23 +88,19 @@ fn length_in(drawn: usize, size: usize, monitors: Monitors) -> usize
 // A frame, and the command that it was made of.
 #[derive(Drop)]
 pub(crate) struct Frame {
-    pub bytes: Vec<u8>,
+    pub bytes: ArrayVec<u8, LONGEST>,
     pub command: Command,
 }
 
 impl Frame {
-    pub(crate) fn draw(
-        alloc: Global,
-        monitors: Monitors,
-        luck: &mut Luck,
-    ) -> Result<Frame, AllocError> {
+    pub(crate) fn draw(monitors: Monitors, luck: &mut Luck) -> Frame {
         let command = Command::draw(luck);
-        let mut bytes = vec![in alloc; 0; LONGEST]?;
+        let mut bytes = ArrayVec::from([0; LONGEST]);
         luck.fill(&mut bytes);
         begin(&mut bytes, command, luck);
         put_payloads(&mut bytes[4..], monitors, command, luck);
         let size = command.size(monitors);
         bytes.truncate(length_in(luck.draw(10880), size, monitors));
-        Ok(Frame { bytes, command })
+        Frame { bytes, command }
     }
 }

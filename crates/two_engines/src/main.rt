@@ -17,13 +17,14 @@ mod looks;
 mod luck;
 mod outcomes;
 mod questions;
+mod said;
 mod tables;
 mod world;
 
 use crate::commands::Command;
 use crate::frames::Frame;
+use crate::said::ToItsEnd;
 use crate::world::{Monitors, World};
-use std::alloc::AllocError;
 use std::io;
 
 // The frames for each chain.
@@ -34,37 +35,36 @@ const ENDLESS: usize = 65536;
 
 impl World {
     // One frame, now and then by hand, and through both engines; and what may come between two.
-    fn turn(&mut self) -> Result<(), AllocError> {
+    fn turn(&mut self) {
         self.now_and_then_stir(2);
-        let frame = Frame::draw(self.alloc, self.monitors, &mut self.luck)?;
+        let frame = Frame::draw(self.monitors, &mut self.luck);
         self.now_and_then_by_hand(&frame.bytes);
-        self.both(frame.command, &frame.bytes)?;
+        self.both(frame.command, &frame.bytes);
         self.now_and_then_load();
-        Ok(())
     }
 
     // The longest frame that is lent.
-    fn endless(&mut self) -> Result<(), AllocError> {
+    fn endless(&mut self) {
         let command = Command::draw_evenly(&mut self.luck);
-        let mut bytes = vec![in self.alloc; 0; ENDLESS]?;
+        let mut bytes = [0; ENDLESS];
         frames::begin(&mut bytes, command, &mut self.luck);
-        self.both(command, &bytes)
+        self.both(command, &bytes);
     }
 
     // All the frames for a chain.
-    fn play(&mut self, monitors: Monitors) -> Result<(), AllocError> {
+    fn play(&mut self, monitors: Monitors) {
         self.begin(monitors);
         for _ in 0..TURNS {
-            self.turn()?;
+            self.turn();
         }
-        self.endless()
+        self.endless();
     }
 }
 
-fn run(rt: &(impl Print + AllocGlobal)) -> io::Result<()> {
-    let mut world = World::new(rt.alloc());
+fn run(rt: &impl Print) -> io::Result<()> {
+    let mut world = World::new();
     for n in [1, 2, 3, 31, 32] {
-        world.play(Monitors { n })?;
+        world.play(Monitors { n });
         print!(rt; "{}", world.book)?;
     }
     println!(rt;
@@ -75,5 +75,5 @@ fn run(rt: &(impl Print + AllocGlobal)) -> io::Result<()> {
 
 // What cannot be printed is missing, and that shows.
 fn main(rt: HostRuntime) {
-    let _ = run(&rt);
+    let _ = run(&ToItsEnd { by: &rt });
 }

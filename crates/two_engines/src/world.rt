@@ -6,7 +6,6 @@ use crate::digest::{Digest, Digested};
 use crate::luck::Luck;
 use crate::outcomes::{TABLE_SIZE, Table};
 use clock_state::STATE_SIZE;
-use std::alloc::Global;
 
 // How many monitors the chain has.
 #[derive(Clone, Copy)]
@@ -17,7 +16,6 @@ pub(crate) struct Monitors {
 
 #[derive(Drop)]
 pub(crate) struct World {
-    pub alloc: Global,
     pub luck: Luck,
     // Of the whole-frame engine, of the clocked engine as it drives itself, and of the one clocked by hand.
     pub whole: Digest,
@@ -32,11 +30,10 @@ pub(crate) struct World {
 }
 
 impl World {
-    pub(crate) fn new(alloc: Global) -> World {
+    pub(crate) fn new() -> World {
         let mut state = [0; STATE_SIZE];
         clock_state::start(&mut state);
         World {
-            alloc,
             luck: Luck::new(),
             whole: Digest::new(),
             clocked: Digest::new(),

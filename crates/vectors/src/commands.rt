@@ -1,4 +1,6 @@
 // The checks of all the 65,536 command codes. The file has one digest of them.
+ghost use Rattle.std.specs.Prelude.{◌≡◌, ◌+◌, ◌*◌, ◌%◌, ◌<◌};
+
 use crate::count::count;
 use std::fmt;
 
@@ -18,7 +20,10 @@ pub(crate) struct Compared {
 }
 
 // The digest with one check more.
-fn digested(digest: u32, check: u16) -> u32 {
+fn digested(digest: u32, check: u16) -> u32
+    ensures value { result ≡ (digest * 31 + check) % 4294967291 }
+    ensures upper_bound { result < 4294967291 }
+{
     ((u64::from(digest) * 31 + u64::from(check)) % 4_294_967_291) as u32
 }
 

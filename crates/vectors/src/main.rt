@@ -7,29 +7,31 @@ mod count;
 mod data;
 mod file;
 mod payloads;
+mod said;
 mod strings;
 
 use crate::commands::{Commands, Compared};
 use crate::data::Kind;
 use crate::file::{File, MOST_BYTES, Stop};
 use crate::payloads::Payloads;
+use crate::said::ToItsEnd;
 use crate::strings::Strings;
-use std::alloc::Global;
+use arrayvec::ArrayVec;
 use std::io;
-use std::io::{BufReader, Read};
+use std::io::Read;
 
 // Each part starts where the one before it ended, so where the file ends early there is nothing more to go by.
-fn report(rt: &impl Print, alloc: Global, file: &mut File) -> Result<(), Stop> {
+fn report(rt: &impl Print, file: &mut File) -> Result<(), Stop> {
     let mut strings = Strings::default();
     let whole = strings.compare_all(file);
     println!(rt; "{strings}")?;
     whole?;
     let mut payloads = Payloads::default();
-    let whole = payloads.compare_all(alloc, Kind::Payload, file);
+    let whole = payloads.compare_all(Kind::Payload, file);
     println!(rt; "payloads: {payloads}")?;
     whole?;
     let mut pairs = Payloads::default();
-    let whole = pairs.compare_all(alloc, Kind::Pair, file);
+    let whole = pairs.compare_all(Kind::Pair, file);
     println!(rt; "pairs: {pairs}")?;
     whole?;
     let expected = file.u64()?;
@@ -43,31 +45,32 @@ fn report(rt: &impl Print, alloc: Global, file: &mut File) -> Result<(), Stop> {
     Ok(())
 }
 
-// The input up to its end, and not much more than is looked at. A read that fails is its end.
-fn read(rt: &(impl Input + AllocGlobal)) -> io::Result<Vec<u8>> {
-    let bytes = BufReader::new(rt.alloc(), rt.reader())?.bytes();
-    Ok(
-        bytes
-            .take(MOST_BYTES + 1)
-            .map_while(|byte| byte.ok())
-            .collect(rt.alloc())?,
-    )
+// One byte more than is looked at: where it comes too, the input is longer.
+const ROOM: usize = MOST_BYTES + 1;
+
+// The input up to its end, or as much of it as there is room for. A read that fails is its end.
+fn read(rt: &impl Input) -> ArrayVec<u8, ROOM> {
+    let mut bytes = ArrayVec::new();
+    let mut input = rt.reader().take(ROOM as u64);
+    let _ = io::copy(&mut input, &mut bytes);
+    bytes
 }
 
-fn run(rt: &(impl Print + Input + AllocGlobal)) -> Result<(), Stop> {
-    let bytes = read(rt)?;
+fn run(rt: &impl Print, input: &impl Input) -> Result<(), Stop> {
+    let bytes = read(input);
     if bytes.len() > MOST_BYTES {
         return Err(Stop::TooLong);
     }
-    report(rt, rt.alloc(), &mut File::new(&bytes))
+    report(rt, &mut File::new(&bytes))
 }
 
-// The status is 0 also where a line could not be written.
+// The status is 0 also where a write has failed.
 fn main(rt: HostRuntime) {
-    match run(&rt) {
+    let said = ToItsEnd { by: &rt };
+    match run(&said, &rt) {
         Ok(()) | Err(Stop::Output(_)) => {}
         Err(stop) => {
-            let _ = println!(rt; "file: {stop}");
+            let _ = println!(said; "file: {stop}");
         }
     }
 }

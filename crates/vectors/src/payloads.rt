@@ -2,8 +2,7 @@
 use crate::count::count;
 use crate::data::{Data, Kind};
 use crate::file::{File, Stop};
-use std::alloc::{AllocError, Global};
-use std::{fmt, io};
+use std::fmt;
 
 #[derive(Clone, Copy, Default)]
 pub(crate) struct Payloads {
@@ -13,13 +12,6 @@ pub(crate) struct Payloads {
     taken: u64,
     with_one_bit_wrong: u64,
     wrong_taken: u64,
-}
-
-// The bytes as they are sent.
-fn sent_of(alloc: Global, data: &Data, seal: [u8; 2]) -> Result<Vec<u8>, AllocError> {
-    let mut sent = data.bytes().to_vec(alloc)?;
-    sent.extend_from_slice(&seal)?;
-    Ok(sent)
 }
 
 impl Payloads {
@@ -51,27 +43,36 @@ impl Payloads {
         );
     }
 
+    // The bytes as they are sent, and then each bit of them wrong.
+    fn try_sent(&mut self, data: &Data, sent: &mut [u8]) {
+        count(&mut self.taken, data.is_right(sent));
+        self.try_each_bit_wrong(data, sent);
+    }
+
     // One record.
-    fn compare_next(&mut self, alloc: Global, kind: Kind, file: &mut File) -> Result<(), Stop> {
+    fn compare_next(&mut self, kind: Kind, file: &mut File) -> Result<(), Stop> {
         let data = kind.read(file)?;
         let counter = file.u8()?;
         let seal = file.array()?;
-        let mut sent = sent_of(alloc, &data, seal).map_err(io::Error::from)?;
         self.compare(&data, counter, seal);
-        count(&mut self.taken, data.is_right(&sent));
-        self.try_each_bit_wrong(&data, &mut sent);
+        let [first, second] = seal;
+        match data {
+            Data::Payload(six) => {
+                let [a, b, c, d, e, f] = six;
+                self.try_sent(&data, &mut [a, b, c, d, e, f, first, second]);
+            }
+            Data::Pair(two) => {
+                let [a, b] = two;
+                self.try_sent(&data, &mut [a, b, first, second]);
+            }
+        }
         Ok(())
     }
 
     // A part of the file. Where it ends early, the records that are whole are counted.
-    pub(crate) fn compare_all(
-        &mut self,
-        alloc: Global,
-        kind: Kind,
-        file: &mut File,
-    ) -> Result<(), Stop> {
+    pub(crate) fn compare_all(&mut self, kind: Kind, file: &mut File) -> Result<(), Stop> {
         for _ in 0..file.u16()? {
-            self.compare_next(alloc, kind, file)?;
+            self.compare_next(kind, file)?;
         }
         Ok(())
     }

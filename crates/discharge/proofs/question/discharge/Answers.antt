@@ -40,6 +40,6 @@ returns-in-Some c =
     let e = sym c.in_ok-k.ensures in
     let lies = c.in-Some.ensures in
     record {
-      value = so_many_on a.table.now a.position a.events a.phase a.out.now e c.if-phase-gt-LAST_PHASE.false c.if-out-lt-CELL_COUNT.false lies c.put_outputs.ensures.value;
-      out_after = outputs_put a.table.now a.position a.events a.phase a.out.now e c.if-phase-gt-LAST_PHASE.false c.if-out-lt-CELL_COUNT.false lies c.put_outputs.ensures.out_after;
+      value = so_many_on a.table.now a.position a.events a.phase a.out.now e c.if-phase-gt-LAST_PHASE.false c.if-out-lt-CELL_COUNT.false (lies.0, lies.1) c.put_outputs.ensures.value;
+      out_after = outputs_put a.table.now a.position a.events a.phase a.out.now e c.if-phase-gt-LAST_PHASE.false c.if-out-lt-CELL_COUNT.false (lies.0, lies.1) c.put_outputs.ensures.out_after;
     }
