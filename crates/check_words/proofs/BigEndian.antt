@@ -7,7 +7,7 @@ use Prim.Native.Nat.{ℕ, zero, suc, ◌+◌, ◌*◌, ◌/◌, ◌%◌, ◌^◌
 use native.Mathlib.Nat.{mod-lt}
 use native.Mathlib.Omega.{arith}
 use lib.Dec.{lit<}
-use lib.ListN.{length, length-append}
+use lib.ListN.{length, length-append, get_or}
 use Rattle.std.specs.Int.{w16, w32, w64, to_be_bytes, from_be_bytes}
 use Rattle.std.proofs.lemmas.Nat.{be_bytes_8}
 use Rattle.laws.specs.Bits.{bits_of, Bytes, number_from, number_of}
@@ -36,6 +36,12 @@ number_of-8 bytes e = omega arith ∙ ap number_of (rebuilt bytes 8 e)
 pub number_of-6 : (six : List ℕ) → length six ≡ 6 → from_be_bytes w64 (0 ∷ 0 ∷ six) ≡ number_of six
 unfolding number_of number_from
 number_of-6 six e = number_of-8 (0 ∷ 0 ∷ six) (omega (arith, e))
+
+-- and in two parts, of four and of two
+pub number_of-parts : (six : List ℕ) → length six ≡ 6
+    → (((get_or six 0 0 * 256 + get_or six 1 0) * 256 + get_or six 2 0) * 256 + get_or six 3 0) * 65536 + (get_or six 4 0 * 256 + get_or six 5 0) ≡ number_of six
+unfolding number_of number_from tabulate
+number_of-parts six e = omega arith ∙ ap number_of (rebuilt six 6 e)
 
 -- bytes behind the lead
 pub number_of_led : (own : List ℕ) → number_of (lead ++ own) ≡ 0x11A * 2 ^ (8 * length own) + number_of own

@@ -12,13 +12,11 @@ use std::ops::Range;
 pub fn record_at(table: &[u8], k: usize) -> Option<Range<usize>>
     ensures { MatchOption result (length table.now < k * record_size + record_size) (λ lies. (lies.start ≡ k * record_size) × (lies.end ≡ k * record_size + record_size) × (lies.end ≤ length table.now)) }
 {
-    // Not by a division, for which an operation on one monitor would wait.
-    let at = k.checked_mul(RECORD_SIZE)?;
-    let end = at.checked_add(RECORD_SIZE)?;
-    if table.len() < end {
+    if table.len() / RECORD_SIZE <= k {
         return None;
     }
-    Some(at..end)
+    let at = k * RECORD_SIZE;
+    Some(at..at + RECORD_SIZE)
 }
 
 // Does the table hold n whole records, and no more than a chain has?

@@ -2,12 +2,13 @@
 -- Assumes nothing.
 use mathlib.Core.Path.{◌≡◌, refl, ap, ◌∙◌}
 use mathlib.Core.List.{List, [], ◌∷◌, ◌++◌}
-use Prim.Native.Nat.{ℕ}
+use Prim.Native.Nat.{ℕ, ◌+◌, ◌*◌}
 use native.Mathlib.Omega.{arith}
 use lib.ListN.{length, get_or}
 use Rattle.std.specs.Int.{w64, to_be_bytes}
+use Rattle.laws.specs.Bits.{number_of}
 use Rattle.pec.specs.Words.{two_bytes, seal}
-use Rattle.check_words.proofs.BigEndian.{number_of-6, sealed_number, sealed_bytes}
+use Rattle.check_words.proofs.BigEndian.{number_of-parts, sealed_number, sealed_bytes}
 use Rattle.check_words.proofs.words.sealed.Goals as goal
 
 -- six bytes, and behind them the last two of eight
@@ -29,7 +30,9 @@ pub returns : goal.returns
 unfolding seal two_bytes
 returns c =
     let six = c.args.six.now in
-    let number = c.from_be_bytes-number.ensures ∙ number_of-6 six c.told-six in
+    let number : (((c.from.result * 256 + c.from-2.result) * 256 + c.from-3.result) * 256 + c.from-4.result) * 65536 + (c.from-5.result * 256 + c.from-6.result) ≡ number_of six =
+    omega (arith, c.from.ensures, c.from-2.ensures, c.from-3.ensures, c.from-4.ensures, c.from-5.ensures, c.from-6.ensures, number_of-parts six c.told-six)
+    in
     ap (with_last six)
     (c.to_be_bytes.ensures
     ∙ ap (to_be_bytes w64) (c.sealed_number.ensures ∙ ap (sealed_number c.args.counter) number)
