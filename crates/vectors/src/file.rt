@@ -2,7 +2,7 @@
 use std::io;
 use thiserror::Error;
 
-// Why nothing more is said: of the file, or because nothing more can be.
+// Why nothing more is said of the file. What `main` hands on for printing fails in no write, so the last is there for its type alone.
 #[derive(Debug, Drop, Error)]
 pub(crate) enum Stop {
     #[error("ends early")]

@@ -49,15 +49,14 @@ fn report(rt: &impl Print, file: &mut File) -> Result<(), Stop> {
 const ROOM: usize = MOST_BYTES + 1;
 
 // The input up to its end, or as much of it as there is room for. A read that fails is its end.
-fn read(rt: &impl Input) -> ArrayVec<u8, ROOM> {
-    let mut bytes = ArrayVec::new();
-    let mut input = rt.reader().take(ROOM as u64);
-    let _ = io::copy(&mut input, &mut bytes);
-    bytes
+fn read(input: &impl Input, bytes: &mut ArrayVec<u8, ROOM>) {
+    let mut reader = input.reader().take(ROOM as u64);
+    let _ = io::copy(&mut reader, bytes);
 }
 
 fn run(rt: &impl Print, input: &impl Input) -> Result<(), Stop> {
-    let bytes = read(input);
+    let mut bytes = ArrayVec::new();
+    read(input, &mut bytes);
     if bytes.len() > MOST_BYTES {
         return Err(Stop::TooLong);
     }
